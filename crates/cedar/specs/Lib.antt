@@ -1,0 +1,26 @@
+-- Document 01 as definitions. What stands here is believed; what is proved of it stands below Laws.
+pub mod Types
+pub mod Shape
+pub mod Bytes
+pub mod Table
+pub mod Limits
+pub mod TypeForm
+pub mod ValueForm
+pub mod ListForm
+pub mod SchemaForm
+pub mod Whole
+pub mod Result
+pub mod Disjoint
+pub mod Subtype
+pub mod Bound
+pub mod Fold
+pub mod Attribute
+pub mod Consistency
+pub mod Conversion
+pub mod Literal
+pub mod Conformance
+pub mod Outcome
+pub mod Calls
+pub mod JobForm
+pub mod Lines
+pub mod Laws

@@ -1,0 +1,28 @@
+-- The limits of forms. Levels and bytes of a type or value are a record, handed to every call; 01's figures are `standard`.
+use Prim.Native.Nat.{ℕ}
+
+-- How many levels a type or value may have, and how many bytes; an answer has no more bytes either.
+pub record Limits : Type 0 where
+  pub levels : ℕ
+  pub bytes : ℕ
+
+-- 16 levels, 4,096 bytes.
+abbrev pub standard : Limits
+standard = record { levels = 16; bytes = 4096 }
+
+-- The largest schema, list or job.
+abbrev pub blockBytes : ℕ
+blockBytes = 32768
+
+-- The most entity types, actions and functions of a schema, and types of a list.
+abbrev pub maxEntities : ℕ
+maxEntities = 256
+
+abbrev pub maxActions : ℕ
+maxActions = 256
+
+abbrev pub maxFunctions : ℕ
+maxFunctions = 64
+
+abbrev pub maxListed : ℕ
+maxListed = 64
