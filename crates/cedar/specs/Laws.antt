@@ -1,2 +1,25 @@
--- What is proved of the definitions.
+-- What is proved of the definitions, one module a concept.
+pub mod Tests
+pub mod Equality
+pub mod Bytes
+pub mod Table
+pub mod TypeForm
+pub mod ValueForm
+pub mod ListForm
+pub mod SchemaForm
+pub mod JobForm
+pub mod Whole
+pub mod Attributes
+pub mod Names
+pub mod Subtype
+pub mod Direct
+pub mod Result
+pub mod Join
+pub mod JoinBytes
+pub mod Lost
+pub mod Verdicts
+pub mod SubtypeSound
+pub mod BoundSound
+pub mod DisjointSound
+pub mod AttributeSound
 pub mod Starred

@@ -13,12 +13,14 @@ pub mod Result
 pub mod Disjoint
 pub mod Subtype
 pub mod Bound
+pub mod Direct
 pub mod Fold
 pub mod Attribute
 pub mod Consistency
 pub mod Conversion
 pub mod Literal
 pub mod Conformance
+pub mod Carried
 pub mod Outcome
 pub mod Calls
 pub mod JobForm
