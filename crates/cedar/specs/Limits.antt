@@ -14,15 +14,18 @@ standard = record { levels = 16; bytes = 4096 }
 abbrev pub blockBytes : ℕ
 blockBytes = 32768
 
--- The most entity types, actions and functions of a schema, and types of a list.
+-- The most entity types of a schema.
 abbrev pub maxEntities : ℕ
 maxEntities = 256
 
+-- The most actions of a schema.
 abbrev pub maxActions : ℕ
 maxActions = 256
 
+-- The most functions of a schema.
 abbrev pub maxFunctions : ℕ
 maxFunctions = 64
 
+-- The most types of a list.
 abbrev pub maxListed : ℕ
 maxListed = 64

@@ -11,10 +11,11 @@ use Rattle.cedar.specs.Outcome.{Outcome, refused, said, nothing, typed, 
 use Rattle.cedar.specs.Calls.{literalCall, disjointCall, subtypeCall, boundCall, foldCall, lookupCall, mayHaveCall, namesCall, consistentCall, convertCall, conformsCall}
 use Rattle.cedar.specs.JobForm.{Operation, subtypeOp, boundOp, disjointOp, lookupOp, mayHaveOp, namesOp, consistentOp, convertOp, conformsOp, foldOp, literalOp, Question, Job, wholeJob}
 
--- The workspace and the result buffer of a job's questions.
+-- The bytes of a job's workspace.
 abbrev pub jobWork : ℕ
 jobWork = 8192
 
+-- The bytes of a job's result buffer.
 abbrev pub jobRoom : ℕ
 jobRoom = 4096
 

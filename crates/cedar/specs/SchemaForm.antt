@@ -69,15 +69,17 @@ parseArgs (k ∷ a ∷ c ∷ b) = do
   xs ← parseArgs b
   some (x ∷ xs)
 
--- The entries of a section's table.
+-- The entity types of their section's table.
 abbrev pub entitiesOf : List ((ℕ × Bool) × (Bool × Attrs)) → List Entity
 entitiesOf [] = []
 entitiesOf (x ∷ xs) = record { name = x .0 .0; enumerated = x .0 .1; isOpen = x .1 .0; attrs = x .1 .1 } ∷ entitiesOf xs
 
+-- The actions of their section's table.
 abbrev pub actionsOf : List ((ℕ × ℕ) × (Bool × Attrs)) → List Action
 actionsOf [] = []
 actionsOf (x ∷ xs) = record { type = x .0 .0; id = x .0 .1; attrs = x .1 .1 } ∷ actionsOf xs
 
+-- The functions of their section's table.
 abbrev pub functionsOf : List ((ℕ × Option ℕ) × List Arg) → List Function
 functionsOf [] = []
 functionsOf (x ∷ xs) = record { name = x .0 .0; returns = x .0 .1; args = x .1 } ∷ functionsOf xs
@@ -94,37 +96,45 @@ parseSchema p b = do
   (zs, es₃, bs₃) ← rows readFunction ascendingFirst (λ h. parseArgs) k 0 es₂ bs₂
   finish (record { entities = entitiesOf xs; actions = actionsOf ys; functions = functionsOf zs }) bs₃
 
--- The entries and bodies of each section, as bytes.
+-- The table of the entity types' section.
 abbrev pub entityRows : List Entity → List ((ℕ × Bool) × (Bool × Attrs))
 entityRows [] = []
 entityRows (e ∷ es) = ((e .name, e .enumerated), (e .isOpen, e .attrs)) ∷ entityRows es
 
+-- The table of the actions' section; their bodies are closed.
 abbrev pub actionRows : List Action → List ((ℕ × ℕ) × (Bool × Attrs))
 actionRows [] = []
 actionRows (a ∷ xs) = ((a .type, a .id), (false, a .attrs)) ∷ actionRows xs
 
+-- The table of the functions' section.
 abbrev pub functionRows : List Function → List ((ℕ × Option ℕ) × List Arg)
 functionRows [] = []
 functionRows (f ∷ fs) = ((f .name, f .returns), f .args) ∷ functionRows fs
 
+-- An entity entry as bytes.
 abbrev pub writeEntity : ℕ × Bool → ℕ → List ℕ
 writeEntity h l = u16 (h .0) ++ (flag (h .1) ∷ u16 l)
 
+-- An action entry as bytes.
 abbrev pub writeAction : ℕ × ℕ → ℕ → List ℕ
 writeAction h l = u16 (h .0) ++ (u16 (h .1) ++ u16 l)
 
+-- A function entry as bytes.
 abbrev pub writeFunction : ℕ × Option ℕ → ℕ → List ℕ
 writeFunction h l = u16 (h .0) ++ (flag (present (h .1)) ∷ u16 (maybe 0 (λ e. e) (h .1)) ++ u16 l)
 
+-- A body, a record form.
 abbrev pub encBody : Bool × Attrs → List ℕ
 encBody x = enc (rec (x .0) (x .1))
 
+-- An argument as bytes.
 abbrev pub encArg : Arg → List ℕ
 encArg argBool = 1 ∷ 0 ∷ 0 ∷ []
 encArg argLong = 2 ∷ 0 ∷ 0 ∷ []
 encArg argString = 3 ∷ 0 ∷ 0 ∷ []
 encArg (argExt e) = 4 ∷ u16 e
 
+-- A function's body as bytes.
 abbrev pub encArgs : List Arg → List ℕ
 encArgs [] = []
 encArgs (a ∷ xs) = encArg a ++ encArgs xs
