@@ -1,0 +1,907 @@
+use mathlib.Core.Path.{refl, ap, sym, _∙_}
+use Prim.Native.Nat.{_+_, _*_}
+use native.Mathlib.Omega.{arith}
+use Rattle.forms.specs.Rows.{noneLeft}
+use Rattle.forms.specs.TypeBytes.{attrRow, whole}
+use Rattle.forms.specs.Laws.Parts.{length-part}
+use Rattle.forms.specs.Laws.Rows.{RowsLeft, rows-start, rows-end, rows-unfit, rows-short, rows-body, rows-again, table-short, table-over, table-open}
+use Rattle.forms.specs.Laws.Types.{whole-none, whole-empty, whole-by, record-short, record-flag, record-open, unknown-not, atom-open}
+use borrow.Author.Needs.{needs}
+use Prim.Native.Nat.{ℕ, _<_}
+use borrow.Fn.Kinds.{In}
+use borrow.Fn.PlainCycle.{Measures, is, falls, and}
+use Rattle.forms.proofs.types.attributes_within.Reads as attributes-within
+use Rattle.forms.proofs.types.attributes_within.Kinds as attributes-within-kinds
+use Rattle.forms.proofs.types.+attributes_within+type_within.Lts-attributes_within as attributes-within-lts
+use Rattle.forms.proofs.types.type_within.Reads as type-within
+use Rattle.forms.proofs.types.type_within.Kinds as type-within-kinds
+use Rattle.forms.proofs.types.+attributes_within+type_within.Lts-type_within as type-within-lts
+use Rattle.forms.proofs.numbers.u16_at.Reads as u16-at-reads
+use Rattle.forms.proofs.types.attribute_follows.Reads as attribute-follows-reads
+use Rattle.forms.proofs.types.entity_within.Reads as entity-within-reads
+use Rattle.forms.proofs.types.+attributes_within+type_within.{statement}
+use Rattle.forms.proofs.types.+attributes_within+type_within.Tie.{close}
+
+abbrev μ-attributes-within : Measures 1 attributes-within-kinds.ps ℕ
+μ-attributes-within κs a = 2 * a .1 .1 .0 + 1
+
+abbrev μ-type-within : Measures 1 type-within-kinds.ps ℕ
+μ-type-within κs a = 2 * a .1 .0
+
+abbrev attributes-within-at : ℕ → In 1 attributes-within-kinds.ps
+attributes-within-at t =
+    and
+    1
+    attributes-within-kinds.ps
+    (is 1 attributes-within-kinds.ps μ-attributes-within t)
+    attributes-within.Pre
+
+abbrev attributes-within-below : ℕ → In 1 attributes-within-kinds.ps
+attributes-within-below t =
+    and
+    1
+    attributes-within-kinds.ps
+    (falls 1 attributes-within-kinds.ps _<_ μ-attributes-within t)
+    attributes-within.Pre
+
+abbrev type-within-at : ℕ → In 1 type-within-kinds.ps
+type-within-at t =
+    and 1 type-within-kinds.ps (is 1 type-within-kinds.ps μ-type-within t) type-within.Pre
+
+abbrev type-within-below : ℕ → In 1 type-within-kinds.ps
+type-within-below t =
+    and 1 type-within-kinds.ps (falls 1 type-within-kinds.ps _<_ μ-type-within t) type-within.Pre
+
+abbrev attributes-within-Inv-loop : attributes-within-lts.InvT-loop
+attributes-within-Inv-loop t at levels start n end e₀ b₀ left₀ low₀ e b left low = RowsLeft attrRow (λ _. whole levels) noneLeft n 0 e₀ b₀ left low e b
+
+abbrev attributes-within-μ-loop : attributes-within-lts.MeasureT-loop
+attributes-within-μ-loop t at levels start n end e₀ b₀ left₀ low₀ e b left low = left
+
+-- src/types.rt:67:17
+attributes-within-add-start : (t : ℕ) → attributes-within-lts.Need-add-start (
+  u16-at-reads.Asked,
+  u16-at-reads.Learnt,
+  attribute-follows-reads.Asked,
+  attribute-follows-reads.Learnt,
+  type-within-below t,
+  type-within.Post,
+)
+    (attributes-within-at t)
+    attributes-within.Post
+    attributes-within-Inv-loop
+    attributes-within-μ-loop
+attributes-within-add-start t c = search needs
+
+-- src/types.rt:69:9
+attributes-within-returns : (t : ℕ) → attributes-within-lts.Need-returns (
+  u16-at-reads.Asked,
+  u16-at-reads.Learnt,
+  attribute-follows-reads.Asked,
+  attribute-follows-reads.Learnt,
+  type-within-below t,
+  type-within.Post,
+)
+    (attributes-within-at t)
+    attributes-within.Post
+    attributes-within-Inv-loop
+    attributes-within-μ-loop
+attributes-within-returns t c = table-short attrRow (λ _. whole ((c .before .before) .args .levels)) 0 ((c .before .before) .args .at) ((c .before .before) .args .t .now) (c .if1 .taken)
+
+-- src/types.rt:71:9
+attributes-within-u16-at-requires : (t : ℕ) → attributes-within-lts.Need-u16-at-requires (
+  u16-at-reads.Asked,
+  u16-at-reads.Learnt,
+  attribute-follows-reads.Asked,
+  attribute-follows-reads.Learnt,
+  type-within-below t,
+  type-within.Post,
+)
+    (attributes-within-at t)
+    attributes-within.Post
+    attributes-within-Inv-loop
+    attributes-within-μ-loop
+attributes-within-u16-at-requires t c κs = search needs
+
+-- src/types.rt:72:23
+attributes-within-mul-end : (t : ℕ) → attributes-within-lts.Need-mul-end (
+  u16-at-reads.Asked,
+  u16-at-reads.Learnt,
+  attribute-follows-reads.Asked,
+  attribute-follows-reads.Learnt,
+  type-within-below t,
+  type-within.Post,
+)
+    (attributes-within-at t)
+    attributes-within.Post
+    attributes-within-Inv-loop
+    attributes-within-μ-loop
+attributes-within-mul-end t c = search needs
+
+-- src/types.rt:72:15
+attributes-within-add-end : (t : ℕ) → attributes-within-lts.Need-add-end (
+  u16-at-reads.Asked,
+  u16-at-reads.Learnt,
+  attribute-follows-reads.Asked,
+  attribute-follows-reads.Learnt,
+  type-within-below t,
+  type-within.Post,
+)
+    (attributes-within-at t)
+    attributes-within.Post
+    attributes-within-Inv-loop
+    attributes-within-μ-loop
+attributes-within-add-end t c = search needs
+
+-- src/types.rt:74:9
+attributes-within-returns-2 : (t : ℕ) → attributes-within-lts.Need-returns-2 (
+  u16-at-reads.Asked,
+  u16-at-reads.Learnt,
+  attribute-follows-reads.Asked,
+  attribute-follows-reads.Learnt,
+  type-within-below t,
+  type-within.Post,
+)
+    (attributes-within-at t)
+    attributes-within.Post
+    attributes-within-Inv-loop
+    attributes-within-μ-loop
+attributes-within-returns-2 t c = table-over attrRow (λ _. whole ((c .before .before .before .before) .args .levels)) 0 ((c .before .before .before .before) .args .at) ((c .before .before .before .before) .args .t .now) ((c .before) .u16-at .result) ((c .before) .u16-at .ensures .0) (c .if2 .taken)
+
+-- src/types.rt:76:17
+attributes-within-sub-e : (t : ℕ) → attributes-within-lts.Need-sub-e (
+  u16-at-reads.Asked,
+  u16-at-reads.Learnt,
+  attribute-follows-reads.Asked,
+  attribute-follows-reads.Learnt,
+  type-within-below t,
+  type-within.Post,
+)
+    (attributes-within-at t)
+    attributes-within.Post
+    attributes-within-Inv-loop
+    attributes-within-μ-loop
+attributes-within-sub-e t c = search needs
+
+-- src/types.rt:76:17
+attributes-within-part-e-start : (t : ℕ) → attributes-within-lts.Need-part-e-start (
+  u16-at-reads.Asked,
+  u16-at-reads.Learnt,
+  attribute-follows-reads.Asked,
+  attribute-follows-reads.Learnt,
+  type-within-below t,
+  type-within.Post,
+)
+    (attributes-within-at t)
+    attributes-within.Post
+    attributes-within-Inv-loop
+    attributes-within-μ-loop
+attributes-within-part-e-start t c = search needs
+
+-- src/types.rt:76:17
+attributes-within-part-e-end : (t : ℕ) → attributes-within-lts.Need-part-e-end (
+  u16-at-reads.Asked,
+  u16-at-reads.Learnt,
+  attribute-follows-reads.Asked,
+  attribute-follows-reads.Learnt,
+  type-within-below t,
+  type-within.Post,
+)
+    (attributes-within-at t)
+    attributes-within.Post
+    attributes-within-Inv-loop
+    attributes-within-μ-loop
+attributes-within-part-e-end t c = search needs
+
+-- src/types.rt:77:17
+attributes-within-sub-b : (t : ℕ) → attributes-within-lts.Need-sub-b (
+  u16-at-reads.Asked,
+  u16-at-reads.Learnt,
+  attribute-follows-reads.Asked,
+  attribute-follows-reads.Learnt,
+  type-within-below t,
+  type-within.Post,
+)
+    (attributes-within-at t)
+    attributes-within.Post
+    attributes-within-Inv-loop
+    attributes-within-μ-loop
+attributes-within-sub-b t c = search needs
+
+-- src/types.rt:77:17
+attributes-within-part-b-start : (t : ℕ) → attributes-within-lts.Need-part-b-start (
+  u16-at-reads.Asked,
+  u16-at-reads.Learnt,
+  attribute-follows-reads.Asked,
+  attribute-follows-reads.Learnt,
+  type-within-below t,
+  type-within.Post,
+)
+    (attributes-within-at t)
+    attributes-within.Post
+    attributes-within-Inv-loop
+    attributes-within-μ-loop
+attributes-within-part-b-start t c = search needs
+
+-- src/types.rt:77:17
+attributes-within-part-b-end : (t : ℕ) → attributes-within-lts.Need-part-b-end (
+  u16-at-reads.Asked,
+  u16-at-reads.Learnt,
+  attribute-follows-reads.Asked,
+  attribute-follows-reads.Learnt,
+  type-within-below t,
+  type-within.Post,
+)
+    (attributes-within-at t)
+    attributes-within.Post
+    attributes-within-Inv-loop
+    attributes-within-μ-loop
+attributes-within-part-b-end t c = search needs
+
+-- src/types.rt:80:5
+attributes-within-loop-holds : (t : ℕ) → attributes-within-lts.Need-loop-holds (
+  u16-at-reads.Asked,
+  u16-at-reads.Learnt,
+  attribute-follows-reads.Asked,
+  attribute-follows-reads.Learnt,
+  type-within-below t,
+  type-within.Post,
+)
+    (attributes-within-at t)
+    attributes-within.Post
+    attributes-within-Inv-loop
+    attributes-within-μ-loop
+attributes-within-loop-holds t c = rows-start (omega (arith, length-part ((c .before .before .before .before .before .before) .args .at + 2) ((c .before .before .before .before .before .before) .args .at + 2 + 5 * (c .before .before .before) .u16-at .result) ((c .before .before .before .before .before .before) .args .t .now) ((c .before .before) .if2 .left)))
+
+-- src/types.rt:81:13
+attributes-within-attribute-follows-requires :
+    (t : ℕ) → attributes-within-lts.Need-attribute-follows-requires (
+      u16-at-reads.Asked,
+      u16-at-reads.Learnt,
+      attribute-follows-reads.Asked,
+      attribute-follows-reads.Learnt,
+      type-within-below t,
+      type-within.Post,
+    )
+    (attributes-within-at t)
+    attributes-within.Post
+    attributes-within-Inv-loop
+    attributes-within-μ-loop
+attributes-within-attribute-follows-requires t c κs = search needs
+
+-- src/types.rt:82:13
+attributes-within-returns-3 : (t : ℕ) → attributes-within-lts.Need-returns-3 (
+  u16-at-reads.Asked,
+  u16-at-reads.Learnt,
+  attribute-follows-reads.Asked,
+  attribute-follows-reads.Learnt,
+  type-within-below t,
+  type-within.Post,
+)
+    (attributes-within-at t)
+    attributes-within.Post
+    attributes-within-Inv-loop
+    attributes-within-μ-loop
+attributes-within-returns-3 t c = rows-unfit ((c .before .before .before) .loop .inv) ((c .before .before) .loop-test .taken) ((c .before) .attribute-follows .result) ((c .before) .attribute-follows .ensures) (c .if3 .taken) ∙ sym (table-open attrRow (λ _. whole ((c .before .before .before .before .before .before .before .before .before .before) .args .levels)) 0 ((c .before .before .before .before .before .before .before .before .before .before) .args .at) ((c .before .before .before .before .before .before .before .before .before .before) .args .t .now) ((c .before .before .before .before .before .before .before) .u16-at .result) ((c .before .before .before .before .before .before .before) .u16-at .ensures .0) ((c .before .before .before .before .before .before .before .before) .if1 .left) ((c .before .before .before .before .before .before) .if2 .left))
+
+-- src/types.rt:84:13
+attributes-within-u16-at-requires-2 : (t : ℕ) → attributes-within-lts.Need-u16-at-requires-2 (
+  u16-at-reads.Asked,
+  u16-at-reads.Learnt,
+  attribute-follows-reads.Asked,
+  attribute-follows-reads.Learnt,
+  type-within-below t,
+  type-within.Post,
+)
+    (attributes-within-at t)
+    attributes-within.Post
+    attributes-within-Inv-loop
+    attributes-within-μ-loop
+attributes-within-u16-at-requires-2 t c κs = search needs
+
+-- src/types.rt:86:13
+attributes-within-returns-4 : (t : ℕ) → attributes-within-lts.Need-returns-4 (
+  u16-at-reads.Asked,
+  u16-at-reads.Learnt,
+  attribute-follows-reads.Asked,
+  attribute-follows-reads.Learnt,
+  type-within-below t,
+  type-within.Post,
+)
+    (attributes-within-at t)
+    attributes-within.Post
+    attributes-within-Inv-loop
+    attributes-within-μ-loop
+attributes-within-returns-4 t c = rows-short ((c .before .before .before .before .before) .loop .inv) ((c .before .before .before .before) .loop-test .taken) ((c .before) .u16-at2 .result) ((c .before) .u16-at2 .ensures .0) (c .if4 .taken) ∙ sym (table-open attrRow (λ _. whole ((c .before .before .before .before .before .before .before .before .before .before .before .before) .args .levels)) 0 ((c .before .before .before .before .before .before .before .before .before .before .before .before) .args .at) ((c .before .before .before .before .before .before .before .before .before .before .before .before) .args .t .now) ((c .before .before .before .before .before .before .before .before .before) .u16-at .result) ((c .before .before .before .before .before .before .before .before .before) .u16-at .ensures .0) ((c .before .before .before .before .before .before .before .before .before .before) .if1 .left) ((c .before .before .before .before .before .before .before .before) .if2 .left))
+
+-- src/types.rt:88:25
+attributes-within-sub-type-within : (t : ℕ) → attributes-within-lts.Need-sub-type-within (
+  u16-at-reads.Asked,
+  u16-at-reads.Learnt,
+  attribute-follows-reads.Asked,
+  attribute-follows-reads.Learnt,
+  type-within-below t,
+  type-within.Post,
+)
+    (attributes-within-at t)
+    attributes-within.Post
+    attributes-within-Inv-loop
+    attributes-within-μ-loop
+attributes-within-sub-type-within t c = search needs
+
+-- src/types.rt:88:25
+attributes-within-part-type-within-start :
+    (t : ℕ) → attributes-within-lts.Need-part-type-within-start (
+      u16-at-reads.Asked,
+      u16-at-reads.Learnt,
+      attribute-follows-reads.Asked,
+      attribute-follows-reads.Learnt,
+      type-within-below t,
+      type-within.Post,
+    )
+    (attributes-within-at t)
+    attributes-within.Post
+    attributes-within-Inv-loop
+    attributes-within-μ-loop
+attributes-within-part-type-within-start t c = search needs
+
+-- src/types.rt:88:25
+attributes-within-part-type-within-end : (t : ℕ) → attributes-within-lts.Need-part-type-within-end (
+  u16-at-reads.Asked,
+  u16-at-reads.Learnt,
+  attribute-follows-reads.Asked,
+  attribute-follows-reads.Learnt,
+  type-within-below t,
+  type-within.Post,
+)
+    (attributes-within-at t)
+    attributes-within.Post
+    attributes-within-Inv-loop
+    attributes-within-μ-loop
+attributes-within-part-type-within-end t c = search needs
+
+-- src/types.rt:88:13
+attributes-within-type-within-requires : (t : ℕ) → attributes-within-lts.Need-type-within-requires (
+  u16-at-reads.Asked,
+  u16-at-reads.Learnt,
+  attribute-follows-reads.Asked,
+  attribute-follows-reads.Learnt,
+  type-within-below t,
+  type-within.Post,
+)
+    (attributes-within-at t)
+    attributes-within.Post
+    attributes-within-Inv-loop
+    attributes-within-μ-loop
+attributes-within-type-within-requires t c κs = search needs
+
+-- src/types.rt:89:13
+attributes-within-returns-5 : (t : ℕ) → attributes-within-lts.Need-returns-5 (
+  u16-at-reads.Asked,
+  u16-at-reads.Learnt,
+  attribute-follows-reads.Asked,
+  attribute-follows-reads.Learnt,
+  type-within-below t,
+  type-within.Post,
+)
+    (attributes-within-at t)
+    attributes-within.Post
+    attributes-within-Inv-loop
+    attributes-within-μ-loop
+attributes-within-returns-5 t c = rows-body ((c .before .before .before .before .before .before .before .before) .loop .inv) ((c .before .before .before .before .before .before .before) .loop-test .taken) ((c .before .before .before .before) .u16-at2 .result) ((c .before .before .before .before) .u16-at2 .ensures .0) ((c .before) .type-within .result) ((c .before) .type-within .ensures) (c .if5 .taken) ∙ sym (table-open attrRow (λ _. whole ((c .before .before .before .before .before .before .before .before .before .before .before .before .before .before .before) .args .levels)) 0 ((c .before .before .before .before .before .before .before .before .before .before .before .before .before .before .before) .args .at) ((c .before .before .before .before .before .before .before .before .before .before .before .before .before .before .before) .args .t .now) ((c .before .before .before .before .before .before .before .before .before .before .before .before) .u16-at .result) ((c .before .before .before .before .before .before .before .before .before .before .before .before) .u16-at .ensures .0) ((c .before .before .before .before .before .before .before .before .before .before .before .before .before) .if1 .left) ((c .before .before .before .before .before .before .before .before .before .before .before) .if2 .left))
+
+-- src/types.rt:91:15
+attributes-within-u16-at-requires-3 : (t : ℕ) → attributes-within-lts.Need-u16-at-requires-3 (
+  u16-at-reads.Asked,
+  u16-at-reads.Learnt,
+  attribute-follows-reads.Asked,
+  attribute-follows-reads.Learnt,
+  type-within-below t,
+  type-within.Post,
+)
+    (attributes-within-at t)
+    attributes-within.Post
+    attributes-within-Inv-loop
+    attributes-within-μ-loop
+attributes-within-u16-at-requires-3 t c κs = search needs
+
+-- src/types.rt:91:15
+attributes-within-add-low : (t : ℕ) → attributes-within-lts.Need-add-low (
+  u16-at-reads.Asked,
+  u16-at-reads.Learnt,
+  attribute-follows-reads.Asked,
+  attribute-follows-reads.Learnt,
+  type-within-below t,
+  type-within.Post,
+)
+    (attributes-within-at t)
+    attributes-within.Post
+    attributes-within-Inv-loop
+    attributes-within-μ-loop
+attributes-within-add-low t c = search needs
+
+-- src/types.rt:92:13
+attributes-within-sub-e-2 : (t : ℕ) → attributes-within-lts.Need-sub-e-2 (
+  u16-at-reads.Asked,
+  u16-at-reads.Learnt,
+  attribute-follows-reads.Asked,
+  attribute-follows-reads.Learnt,
+  type-within-below t,
+  type-within.Post,
+)
+    (attributes-within-at t)
+    attributes-within.Post
+    attributes-within-Inv-loop
+    attributes-within-μ-loop
+attributes-within-sub-e-2 t c = search needs
+
+-- src/types.rt:92:13
+attributes-within-part-e-start-2 : (t : ℕ) → attributes-within-lts.Need-part-e-start-2 (
+  u16-at-reads.Asked,
+  u16-at-reads.Learnt,
+  attribute-follows-reads.Asked,
+  attribute-follows-reads.Learnt,
+  type-within-below t,
+  type-within.Post,
+)
+    (attributes-within-at t)
+    attributes-within.Post
+    attributes-within-Inv-loop
+    attributes-within-μ-loop
+attributes-within-part-e-start-2 t c = search needs
+
+-- src/types.rt:92:13
+attributes-within-part-e-end-2 : (t : ℕ) → attributes-within-lts.Need-part-e-end-2 (
+  u16-at-reads.Asked,
+  u16-at-reads.Learnt,
+  attribute-follows-reads.Asked,
+  attribute-follows-reads.Learnt,
+  type-within-below t,
+  type-within.Post,
+)
+    (attributes-within-at t)
+    attributes-within.Post
+    attributes-within-Inv-loop
+    attributes-within-μ-loop
+attributes-within-part-e-end-2 t c = search needs
+
+-- src/types.rt:93:13
+attributes-within-sub-b-2 : (t : ℕ) → attributes-within-lts.Need-sub-b-2 (
+  u16-at-reads.Asked,
+  u16-at-reads.Learnt,
+  attribute-follows-reads.Asked,
+  attribute-follows-reads.Learnt,
+  type-within-below t,
+  type-within.Post,
+)
+    (attributes-within-at t)
+    attributes-within.Post
+    attributes-within-Inv-loop
+    attributes-within-μ-loop
+attributes-within-sub-b-2 t c = search needs
+
+-- src/types.rt:93:13
+attributes-within-part-b-start-2 : (t : ℕ) → attributes-within-lts.Need-part-b-start-2 (
+  u16-at-reads.Asked,
+  u16-at-reads.Learnt,
+  attribute-follows-reads.Asked,
+  attribute-follows-reads.Learnt,
+  type-within-below t,
+  type-within.Post,
+)
+    (attributes-within-at t)
+    attributes-within.Post
+    attributes-within-Inv-loop
+    attributes-within-μ-loop
+attributes-within-part-b-start-2 t c = search needs
+
+-- src/types.rt:93:13
+attributes-within-part-b-end-2 : (t : ℕ) → attributes-within-lts.Need-part-b-end-2 (
+  u16-at-reads.Asked,
+  u16-at-reads.Learnt,
+  attribute-follows-reads.Asked,
+  attribute-follows-reads.Learnt,
+  type-within-below t,
+  type-within.Post,
+)
+    (attributes-within-at t)
+    attributes-within.Post
+    attributes-within-Inv-loop
+    attributes-within-μ-loop
+attributes-within-part-b-end-2 t c = search needs
+
+-- src/types.rt:94:9
+attributes-within-sub-left : (t : ℕ) → attributes-within-lts.Need-sub-left (
+  u16-at-reads.Asked,
+  u16-at-reads.Learnt,
+  attribute-follows-reads.Asked,
+  attribute-follows-reads.Learnt,
+  type-within-below t,
+  type-within.Post,
+)
+    (attributes-within-at t)
+    attributes-within.Post
+    attributes-within-Inv-loop
+    attributes-within-μ-loop
+attributes-within-sub-left t c = search needs
+
+-- src/types.rt:80:5
+attributes-within-loop-less : (t : ℕ) → attributes-within-lts.Need-loop-less (
+  u16-at-reads.Asked,
+  u16-at-reads.Learnt,
+  attribute-follows-reads.Asked,
+  attribute-follows-reads.Learnt,
+  type-within-below t,
+  type-within.Post,
+)
+    (attributes-within-at t)
+    attributes-within.Post
+    attributes-within-Inv-loop
+    attributes-within-μ-loop
+attributes-within-loop-less t c = search needs
+
+-- src/types.rt:80:5
+attributes-within-loop-again : (t : ℕ) → attributes-within-lts.Need-loop-again (
+  u16-at-reads.Asked,
+  u16-at-reads.Learnt,
+  attribute-follows-reads.Asked,
+  attribute-follows-reads.Learnt,
+  type-within-below t,
+  type-within.Post,
+)
+    (attributes-within-at t)
+    attributes-within.Post
+    attributes-within-Inv-loop
+    attributes-within-μ-loop
+attributes-within-loop-again t c = rows-again ((c .before .before .before .before .before .before .before .before .before .before .before) .loop .inv) ((c .before .before .before .before .before .before .before .before .before .before) .loop-test .taken) ((c .before .before .before .before .before .before .before) .u16-at2 .result) ((c .before .before .before .before .before .before .before) .u16-at2 .ensures .0) ((c .before .before .before .before .before .before .before .before .before) .attribute-follows .result) ((c .before .before .before .before .before .before .before .before .before) .attribute-follows .ensures) ((c .before .before .before .before .before .before .before .before) .if3 .left) ((c .before .before .before .before .before .before) .if4 .left) ((c .before .before .before .before) .type-within .result) ((c .before .before .before .before) .type-within .ensures) ((c .before .before .before) .if5 .left) _ (ap (λ (j : ℕ). j + 1) ((c .before .before) .u16-at3 .ensures .0))
+
+-- src/types.rt:63:1
+attributes-within-returns-6 : (t : ℕ) → attributes-within-lts.Need-returns-6 (
+  u16-at-reads.Asked,
+  u16-at-reads.Learnt,
+  attribute-follows-reads.Asked,
+  attribute-follows-reads.Learnt,
+  type-within-below t,
+  type-within.Post,
+)
+    (attributes-within-at t)
+    attributes-within.Post
+    attributes-within-Inv-loop
+    attributes-within-μ-loop
+attributes-within-returns-6 t c = rows-end ((c .before) .loop .inv) (c .loop-test .left) _ refl ∙ sym (table-open attrRow (λ _. whole ((c .before .before .before .before .before .before .before .before) .args .levels)) 0 ((c .before .before .before .before .before .before .before .before) .args .at) ((c .before .before .before .before .before .before .before .before) .args .t .now) ((c .before .before .before .before .before) .u16-at .result) ((c .before .before .before .before .before) .u16-at .ensures .0) ((c .before .before .before .before .before .before) .if1 .left) ((c .before .before .before .before) .if2 .left))
+
+-- src/types.rt:104:9
+type-within-returns : (t : ℕ) → type-within-lts.Need-returns (
+  type-within-below t,
+  type-within.Post,
+  attributes-within-below t,
+  attributes-within.Post,
+  entity-within-reads.Asked,
+  entity-within-reads.Learnt,
+) (type-within-at t) type-within.Post
+type-within-returns t c = whole-none ((c .before .before) .args .levels) ((c .before .before) .args .t .now) (c .if1 .taken)
+
+-- src/types.rt:107:9
+type-within-returns-2 : (t : ℕ) → type-within-lts.Need-returns-2 (
+  type-within-below t,
+  type-within.Post,
+  attributes-within-below t,
+  attributes-within.Post,
+  entity-within-reads.Asked,
+  entity-within-reads.Learnt,
+) (type-within-at t) type-within.Post
+type-within-returns-2 t c = whole-empty ((c .before .before .before) .args .levels) ((c .before .before .before) .args .t .now) ((c .before) .if1 .left) (c .if2 .taken)
+
+-- src/types.rt:109:13
+type-within-shared-slice-read-k : (t : ℕ) → type-within-lts.Need-shared-slice-read-k (
+  type-within-below t,
+  type-within.Post,
+  attributes-within-below t,
+  attributes-within.Post,
+  entity-within-reads.Asked,
+  entity-within-reads.Learnt,
+) (type-within-at t) type-within.Post
+type-within-shared-slice-read-k t c = search needs
+
+-- src/types.rt:111:34
+type-within-sub-type-within : (t : ℕ) → type-within-lts.Need-sub-type-within (
+  type-within-below t,
+  type-within.Post,
+  attributes-within-below t,
+  attributes-within.Post,
+  entity-within-reads.Asked,
+  entity-within-reads.Learnt,
+) (type-within-at t) type-within.Post
+type-within-sub-type-within t c = search needs
+
+-- src/types.rt:111:34
+type-within-part-type-within-start : (t : ℕ) → type-within-lts.Need-part-type-within-start (
+  type-within-below t,
+  type-within.Post,
+  attributes-within-below t,
+  attributes-within.Post,
+  entity-within-reads.Asked,
+  entity-within-reads.Learnt,
+) (type-within-at t) type-within.Post
+type-within-part-type-within-start t c = search needs
+
+-- src/types.rt:111:34
+type-within-part-type-within-end : (t : ℕ) → type-within-lts.Need-part-type-within-end (
+  type-within-below t,
+  type-within.Post,
+  attributes-within-below t,
+  attributes-within.Post,
+  entity-within-reads.Asked,
+  entity-within-reads.Learnt,
+) (type-within-at t) type-within.Post
+type-within-part-type-within-end t c = search needs
+
+-- src/types.rt:111:43
+type-within-sub-type-within-2 : (t : ℕ) → type-within-lts.Need-sub-type-within-2 (
+  type-within-below t,
+  type-within.Post,
+  attributes-within-below t,
+  attributes-within.Post,
+  entity-within-reads.Asked,
+  entity-within-reads.Learnt,
+) (type-within-at t) type-within.Post
+type-within-sub-type-within-2 t c = search needs
+
+-- src/types.rt:111:22
+type-within-type-within-requires : (t : ℕ) → type-within-lts.Need-type-within-requires (
+  type-within-below t,
+  type-within.Post,
+  attributes-within-below t,
+  attributes-within.Post,
+  entity-within-reads.Asked,
+  entity-within-reads.Learnt,
+) (type-within-at t) type-within.Post
+type-within-type-within-requires t c κs = search needs
+
+-- src/types.rt:114:17
+type-within-returns-3 : (t : ℕ) → type-within-lts.Need-returns-3 (
+  type-within-below t,
+  type-within.Post,
+  attributes-within-below t,
+  attributes-within.Post,
+  entity-within-reads.Asked,
+  entity-within-reads.Learnt,
+) (type-within-at t) type-within.Post
+type-within-returns-3 t c = record-short ((c .before .before .before .before .before .before) .args .levels) ((c .before .before .before .before .before .before) .args .t .now) ((c .before .before .before .before) .if1 .left) ((c .before .before .before) .if2 .left) ((c .before) .match .keys2) (c .if3 .taken)
+
+-- src/types.rt:116:33
+type-within-shared-slice-read-if4 : (t : ℕ) → type-within-lts.Need-shared-slice-read-if4 (
+  type-within-below t,
+  type-within.Post,
+  attributes-within-below t,
+  attributes-within.Post,
+  entity-within-reads.Asked,
+  entity-within-reads.Learnt,
+) (type-within-at t) type-within.Post
+type-within-shared-slice-read-if4 t c = search needs
+
+-- src/types.rt:117:17
+type-within-returns-4 : (t : ℕ) → type-within-lts.Need-returns-4 (
+  type-within-below t,
+  type-within.Post,
+  attributes-within-below t,
+  attributes-within.Post,
+  entity-within-reads.Asked,
+  entity-within-reads.Learnt,
+) (type-within-at t) type-within.Post
+type-within-returns-4 t c = record-flag ((c .before .before .before .before .before .before .before .before) .args .levels) ((c .before .before .before .before .before .before .before .before) .args .t .now) ((c .before .before .before .before .before .before) .if1 .left) ((c .before .before .before .before .before) .if2 .left) ((c .before .before .before) .match .keys2) (c .if4 .taken)
+
+-- src/types.rt:119:37
+type-within-sub-attributes-within : (t : ℕ) → type-within-lts.Need-sub-attributes-within (
+  type-within-below t,
+  type-within.Post,
+  attributes-within-below t,
+  attributes-within.Post,
+  entity-within-reads.Asked,
+  entity-within-reads.Learnt,
+) (type-within-at t) type-within.Post
+type-within-sub-attributes-within t c = search needs
+
+-- src/types.rt:119:13
+type-within-attributes-within-requires : (t : ℕ) → type-within-lts.Need-attributes-within-requires (
+  type-within-below t,
+  type-within.Post,
+  attributes-within-below t,
+  attributes-within.Post,
+  entity-within-reads.Asked,
+  entity-within-reads.Learnt,
+) (type-within-at t) type-within.Post
+type-within-attributes-within-requires t c κs = search needs
+
+-- src/types.rt:121:25
+type-within-entity-within-requires : (t : ℕ) → type-within-lts.Need-entity-within-requires (
+  type-within-below t,
+  type-within.Post,
+  attributes-within-below t,
+  attributes-within.Post,
+  entity-within-reads.Asked,
+  entity-within-reads.Learnt,
+) (type-within-at t) type-within.Post
+type-within-entity-within-requires t c κs = search needs
+
+-- src/types.rt:122:49
+type-within-sub-attributes-within-2 : (t : ℕ) → type-within-lts.Need-sub-attributes-within-2 (
+  type-within-below t,
+  type-within.Post,
+  attributes-within-below t,
+  attributes-within.Post,
+  entity-within-reads.Asked,
+  entity-within-reads.Learnt,
+) (type-within-at t) type-within.Post
+type-within-sub-attributes-within-2 t c = search needs
+
+-- src/types.rt:122:25
+type-within-attributes-within-requires-2 :
+    (t : ℕ) → type-within-lts.Need-attributes-within-requires-2 (
+      type-within-below t,
+      type-within.Post,
+      attributes-within-below t,
+      attributes-within.Post,
+      entity-within-reads.Asked,
+      entity-within-reads.Learnt,
+    ) (type-within-at t) type-within.Post
+type-within-attributes-within-requires-2 t c κs = search needs
+
+-- src/types.rt:126:17
+type-within-returns-5 : (t : ℕ) → type-within-lts.Need-returns-5 (
+  type-within-below t,
+  type-within.Post,
+  attributes-within-below t,
+  attributes-within.Post,
+  entity-within-reads.Asked,
+  entity-within-reads.Learnt,
+) (type-within-at t) type-within.Post
+type-within-returns-5 t c = unknown-not ((c .before .before .before .before .before .before) .args .levels) ((c .before .before .before .before .before .before) .args .t .now) ((c .before .before .before .before) .if1 .left) ((c .before .before .before) .if2 .left) (c .if5 .taken)
+
+-- src/types.rt:100:1
+type-within-returns-6 : (t : ℕ) → type-within-lts.Need-returns-6 (
+  type-within-below t,
+  type-within.Post,
+  attributes-within-below t,
+  attributes-within.Post,
+  entity-within-reads.Asked,
+  entity-within-reads.Learnt,
+) (type-within-at t) type-within.Post
+type-within-returns-6 t c = c .type-within .ensures ∙ sym (whole-by ((c .before .before .before .before .before .before .before) .args .levels) ((c .before .before .before .before .before .before .before) .args .t .now) ((c .before .before .before .before .before) .if1 .left) ((c .before .before .before .before) .if2 .left) 7 ((c .before .before) .match .keys1))
+
+-- src/types.rt:100:1
+type-within-returns-7 : (t : ℕ) → type-within-lts.Need-returns-7 (
+  type-within-below t,
+  type-within.Post,
+  attributes-within-below t,
+  attributes-within.Post,
+  entity-within-reads.Asked,
+  entity-within-reads.Learnt,
+) (type-within-at t) type-within.Post
+type-within-returns-7 t c = c .attributes-within .ensures ∙ sym (record-open ((c .before .before .before .before .before .before .before .before .before) .args .levels) ((c .before .before .before .before .before .before .before .before .before) .args .t .now) ((c .before .before .before .before .before .before .before) .if1 .left) ((c .before .before .before .before .before .before) .if2 .left) ((c .before .before .before .before) .match .keys2) ((c .before .before .before) .if3 .left) ((c .before) .if4 .left))
+
+-- src/types.rt:100:1
+type-within-returns-8 : (t : ℕ) → type-within-lts.Need-returns-8 (
+  type-within-below t,
+  type-within.Post,
+  attributes-within-below t,
+  attributes-within.Post,
+  entity-within-reads.Asked,
+  entity-within-reads.Learnt,
+) (type-within-at t) type-within.Post
+type-within-returns-8 t c = c .entity-within .ensures ∙ sym (whole-by ((c .before .before .before .before .before .before) .args .levels) ((c .before .before .before .before .before .before) .args .t .now) ((c .before .before .before .before) .if1 .left) ((c .before .before .before) .if2 .left) 10 ((c .before) .match .keys3))
+
+-- src/types.rt:100:1
+type-within-returns-9 : (t : ℕ) → type-within-lts.Need-returns-9 (
+  type-within-below t,
+  type-within.Post,
+  attributes-within-below t,
+  attributes-within.Post,
+  entity-within-reads.Asked,
+  entity-within-reads.Learnt,
+) (type-within-at t) type-within.Post
+type-within-returns-9 t c = c .attributes-within2 .ensures ∙ sym (whole-by ((c .before .before .before .before .before .before) .args .levels) ((c .before .before .before .before .before .before) .args .t .now) ((c .before .before .before .before) .if1 .left) ((c .before .before .before) .if2 .left) 11 ((c .before) .match .keys4))
+
+-- src/types.rt:100:1
+type-within-returns-10 : (t : ℕ) → type-within-lts.Need-returns-10 (
+  type-within-below t,
+  type-within.Post,
+  attributes-within-below t,
+  attributes-within.Post,
+  entity-within-reads.Asked,
+  entity-within-reads.Learnt,
+) (type-within-at t) type-within.Post
+type-within-returns-10 t c = sym (whole-by ((c .before .before .before .before .before) .args .levels) ((c .before .before .before .before .before) .args .t .now) ((c .before .before .before) .if1 .left) ((c .before .before) .if2 .left) 12 (c .match .keys5))
+
+-- src/types.rt:100:1
+type-within-returns-11 : (t : ℕ) → type-within-lts.Need-returns-11 (
+  type-within-below t,
+  type-within.Post,
+  attributes-within-below t,
+  attributes-within.Post,
+  entity-within-reads.Asked,
+  entity-within-reads.Learnt,
+) (type-within-at t) type-within.Post
+type-within-returns-11 t c = let m = (c .before) .match .rest in atom-open ((c .before .before .before .before .before .before) .args .levels) ((c .before .before .before .before .before .before) .args .t .now) ((c .before .before .before .before) .if1 .left) ((c .before .before .before) .if2 .left) (m .0 .0 .0 .0 .1) (m .0 .0 .0 .1) (m .0 .0 .1) (m .0 .1) (m .1) (c .if5 .left)
+
+pub +attributes-within+type-within-spec : {M : Type 1} → statement M
++attributes-within+type-within-spec =
+    close μ-attributes-within μ-type-within (λ t. attributes-within-lts.spec (
+      u16-at-reads.Asked,
+      u16-at-reads.Learnt,
+      attribute-follows-reads.Asked,
+      attribute-follows-reads.Learnt,
+      type-within-below t,
+      type-within.Post,
+    )
+    (attributes-within-at t)
+    attributes-within.Post
+    attributes-within-Inv-loop
+    attributes-within-μ-loop
+    (attributes-within-add-start t)
+    (attributes-within-returns t)
+    (attributes-within-u16-at-requires t)
+    (attributes-within-mul-end t)
+    (attributes-within-add-end t)
+    (attributes-within-returns-2 t)
+    (attributes-within-sub-e t)
+    (attributes-within-part-e-start t)
+    (attributes-within-part-e-end t)
+    (attributes-within-sub-b t)
+    (attributes-within-part-b-start t)
+    (attributes-within-part-b-end t)
+    (attributes-within-loop-holds t)
+    (attributes-within-attribute-follows-requires t)
+    (attributes-within-returns-3 t)
+    (attributes-within-u16-at-requires-2 t)
+    (attributes-within-returns-4 t)
+    (attributes-within-sub-type-within t)
+    (attributes-within-part-type-within-start t)
+    (attributes-within-part-type-within-end t)
+    (attributes-within-type-within-requires t)
+    (attributes-within-returns-5 t)
+    (attributes-within-u16-at-requires-3 t)
+    (attributes-within-add-low t)
+    (attributes-within-sub-e-2 t)
+    (attributes-within-part-e-start-2 t)
+    (attributes-within-part-e-end-2 t)
+    (attributes-within-sub-b-2 t)
+    (attributes-within-part-b-start-2 t)
+    (attributes-within-part-b-end-2 t)
+    (attributes-within-sub-left t)
+    (attributes-within-loop-less t)
+    (attributes-within-loop-again t)
+    (attributes-within-returns-6 t))
+    λ t. type-within-lts.spec (
+      type-within-below t,
+      type-within.Post,
+      attributes-within-below t,
+      attributes-within.Post,
+      entity-within-reads.Asked,
+      entity-within-reads.Learnt,
+    )
+    (type-within-at t)
+    type-within.Post
+    (type-within-returns t)
+    (type-within-returns-2 t)
+    (type-within-shared-slice-read-k t)
+    (type-within-sub-type-within t)
+    (type-within-part-type-within-start t)
+    (type-within-part-type-within-end t)
+    (type-within-sub-type-within-2 t)
+    (type-within-type-within-requires t)
+    (type-within-returns-3 t)
+    (type-within-shared-slice-read-if4 t)
+    (type-within-returns-4 t)
+    (type-within-sub-attributes-within t)
+    (type-within-attributes-within-requires t)
+    (type-within-entity-within-requires t)
+    (type-within-sub-attributes-within-2 t)
+    (type-within-attributes-within-requires-2 t)
+    (type-within-returns-5 t)
+    (type-within-returns-6 t)
+    (type-within-returns-7 t)
+    (type-within-returns-8 t)
+    (type-within-returns-9 t)
+    (type-within-returns-10 t)
+    (type-within-returns-11 t)

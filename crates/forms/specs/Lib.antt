@@ -1,0 +1,5 @@
+pub mod Parts
+pub mod Rows
+pub mod TypeBytes
+pub mod Search
+pub mod Laws

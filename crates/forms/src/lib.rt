@@ -1,0 +1,9 @@
+// The byte forms of Cedar's types, values and schemas: whether one is whole, and where its parts lie.
+pub mod kinds;
+pub mod limits;
+pub mod modes;
+pub mod numbers;
+pub mod refusals;
+pub mod search;
+pub mod types;
+pub mod widths;

@@ -1,0 +1,143 @@
+// Whether bytes are a whole type form.
+use crate::kinds::Kind;
+use crate::kinds::Openness;
+use crate::limits::Limits;
+use crate::numbers::u16_at;
+use crate::widths::Width;
+ghost use mathlib.Core.Path.{_≡_};
+ghost use Prim.Native.Nat.{_*_, _<_, _≤_};
+ghost use lib.ListN.{length};
+ghost use Rattle.cedar.specs.Types.{present};
+ghost use Rattle.cedar.specs.Limits.{standard};
+ghost use Rattle.cedar.specs.Whole.{wholeType};
+ghost use Rattle.forms.specs.Rows.{tableFits};
+ghost use Rattle.forms.specs.TypeBytes.{namesUp, namesFit, attrRow, whole};
+
+// Whether n names ascend strictly.
+pub fn names_ascend(names: &[u8], n: usize) -> bool
+    requires { ⌜ 2 * n ≤ length (now names) ⌝ }
+    ensures { λ r. ⌜ r ≡ namesUp n 0 (now (names .entry)) ⌝ }
+{
+    let mut b = names;
+    let mut left = n;
+    let mut low = 0;
+    while 0 < left {
+        let name = u16_at(b, 0);
+        if name < low {
+            return false;
+        }
+        low = name + 1;
+        b = &b[Width::NAME..];
+        left -= 1;
+    }
+    true
+}
+
+// Whether an entity form has a name, as many as it says, and they ascend.
+fn entity_within(t: &[u8]) -> bool
+    ensures { λ r. ⌜ r ≡ namesFit (now (t .entry)) ⌝ }
+{
+    if t.len() < 3 {
+        return false;
+    }
+    let n = u16_at(t, 1);
+    if n < 1 {
+        return false;
+    }
+    if t.len() != 3 + Width::NAME * n {
+        return false;
+    }
+    names_ascend(&t[3..], n)
+}
+
+// Whether an attribute's entry has a flag and a name of at least low.
+fn attribute_follows(e: &[u8], low: usize) -> bool
+    requires { ⌜ 5 ≤ length (now e) ⌝ }
+    ensures { λ r. ⌜ r ≡ attrRow .ok low (now (e .entry)) ⌝ }
+{
+    if 1 < e[2] {
+        return false;
+    }
+    low <= u16_at(e, 0)
+}
+
+// Whether the attributes whose count stands at `at` are whole, each within so many levels, with no byte over.
+fn attributes_within(t: &[u8], at: usize, levels: usize) -> bool
+    requires { ⌜ at < 4 ⌝ }
+    ensures { λ r. ⌜ r ≡ tableFits attrRow (λ _. whole levels) 0 at (now (t .entry)) ⌝ }
+{
+    let start = at + 2;
+    if t.len() < start {
+        return false;
+    }
+    let n = u16_at(t, at);
+    let end = start + Width::ATTRIBUTE * n;
+    if t.len() < end {
+        return false;
+    }
+    let mut e = &t[start..end];
+    let mut b = &t[end..];
+    let mut left = n;
+    let mut low = 0;
+    while 0 < left {
+        if !attribute_follows(e, low) {
+            return false;
+        }
+        let len = u16_at(e, 3);
+        if b.len() < len {
+            return false;
+        }
+        if !type_within(&b[0..len], levels) {
+            return false;
+        }
+        low = u16_at(e, 0) + 1;
+        e = &e[Width::ATTRIBUTE..];
+        b = &b[len..];
+        left -= 1;
+    }
+    b.len() == 0
+}
+
+// Whether t is a whole type form of at most so many levels.
+pub fn type_within(t: &[u8], levels: usize) -> bool
+    ensures { λ r. ⌜ r ≡ whole levels (now (t .entry)) ⌝ }
+{
+    if levels == 0 {
+        return false;
+    }
+    if t.len() == 0 {
+        return false;
+    }
+    let k = t[0];
+    match k {
+        Kind::SET => type_within(&t[1..], levels - 1),
+        Kind::RECORD => {
+            if t.len() < 2 {
+                return false;
+            }
+            if Openness::OPEN < t[1] {
+                return false;
+            }
+            attributes_within(t, 2, levels - 1)
+        }
+        Kind::ENTITY => entity_within(t),
+        Kind::ACTION => attributes_within(t, 3, levels - 1),
+        Kind::EXTENSION => t.len() == 3,
+        _ => {
+            if Kind::EXTENSION < k {
+                return false;
+            }
+            t.len() == 1
+        }
+    }
+}
+
+// Whether t is a whole type form within the limits.
+pub fn whole_type(t: &[u8]) -> bool
+    ensures { λ r. ⌜ r ≡ present (wholeType standard (now (t .entry))) ⌝ }
+{
+    if Limits::BYTES < t.len() {
+        return false;
+    }
+    type_within(t, Limits::LEVELS)
+}
