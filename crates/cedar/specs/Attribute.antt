@@ -4,7 +4,7 @@ use mathlib.Core.List.{List, [], _∷_}
 use mathlib.Core.Bool.{Bool, true, false, _&&_, _||_, cond}
 use mathlib.Core.Option.{Option, none, some}
 use lib.Dec.{eqb}
-use Rattle.cedar.specs.Types.{permissive, never, anyent, Ty, atom, set, rec, act, ent, ext, Attrs, Entity, Schema, maybe, present, is, mem, names, find}
+use Rattle.cedar.specs.Types.{permissive, never, anyent, Ty, atom, set, rec, act, ent, ext, Entity, Schema, maybe, present, is, names, find}
 use Rattle.cedar.specs.Result.{Result, ok, err, bind, stepTooLong}
 use Rattle.cedar.specs.Bound.{bound}
 

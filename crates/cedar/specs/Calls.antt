@@ -1,6 +1,6 @@
 -- The calls: any bytes, any mode number, any room, to an outcome. Each asks its questions in 01's order; the first no refuses.
 use Prim.Native.Nat.{ℕ, zero, suc, _/_, min}
-use mathlib.Core.List.{List, []}
+use mathlib.Core.List.{List}
 use mathlib.Core.Bool.{Bool, true, false, cond}
 use mathlib.Core.Option.{Option, none, some}
 use lib.Dec.{leb}
@@ -20,7 +20,8 @@ use Rattle.cedar.specs.Attribute.{ownAttr, lookup, mayHave, allNames}
 use Rattle.cedar.specs.Consistency.{plain, consistent}
 use Rattle.cedar.specs.Conversion.{convert}
 use Rattle.cedar.specs.Literal.{literal}
-use Rattle.cedar.specs.Conformance.{Verdict, holds, fails, failsInside, unknown, Counts, shorter, asUid, conforms}
+use Rattle.cedar.specs.Conformance.{Verdict, holds, fails, failsInside, unknown, shorter, asUid}
+use Rattle.cedar.specs.Conforms.{walked}
 
 -- One question: its number where nothing answers it, else the call goes on with the answer.
 abbrev pub ask : {A : Type 0} → ℕ → Option A → (A → Outcome) → Outcome
@@ -66,6 +67,11 @@ ofVerdict holds = said true
 ofVerdict fails = said false
 ofVerdict failsInside = said false
 ofVerdict unknown = refused unknownFunction
+
+-- What the walk comes to: its verdict, or the refusal before it.
+abbrev pub ofWalk : Result Verdict → Outcome
+ofWalk (ok d) = ofVerdict d
+ofWalk (err n) = refused n
 
 -- Part 2, `euid_literal`.
 abbrev pub literalCall : Limits → List ℕ → List ℕ → ℕ → Outcome
@@ -115,8 +121,9 @@ lookupCall lim schema a t room work =
     writeAttribute lim room (lookup (stepFits lim work) s a u)
 
 -- Part 7, the second entry: a record's or action's attribute, handed back as the part of the caller's own form.
-abbrev pub ownAttributeCall : Limits → ℕ → List ℕ → Outcome
-ownAttributeCall lim a t =
+abbrev pub ownAttributeCall : Limits → List ℕ → ℕ → List ℕ → Outcome
+ownAttributeCall lim schema a t =
+    ask badSchema (wholeSchema lim schema) λ s.
     ask badFirst (wholeType lim t) λ u.
     maybe nothing (λ y. attribute (y .0) (y .1)) (ownAttr a u)
 
@@ -149,10 +156,6 @@ convertCall lim t room =
     ask notConvertible (convert a) λ c.
     writeType lim room (ok c)
 
--- Part 9, `typecheck_restricted_expr`.
+-- Part 9, `typecheck_restricted_expr`: the walk that conforming is defined by.
 abbrev pub conformsCall : Limits → List ℕ → List ℕ → List ℕ → Outcome
-conformsCall lim schema t v =
-    ask badSchema (wholeSchema lim schema) λ s.
-    ask badFirst (wholeType lim t) λ a.
-    ask badValue (wholeValue lim v) λ x.
-    ofVerdict (conforms shorter s a x)
+conformsCall lim schema t v = ofWalk (walked lim shorter schema t v)

@@ -1,11 +1,11 @@
 -- The job form: `encJob` writes a job, `parseJob` reads one back.
-use Prim.Native.Nat.{ℕ, zero, suc, _+_, _*_, _-_}
+use Prim.Native.Nat.{ℕ, _+_, _*_, _-_}
 use mathlib.Core.List.{List, [], _∷_, _++_}
 use mathlib.Core.Bool.{Bool, true, false, _&&_, _||_}
 use mathlib.Core.Option.{Option, none, some}
 use lib.Dec.{eqb, leb}
 use lib.ListN.{length, take, drop, getD}
-use Rattle.cedar.specs.Bytes.{u16, _>>=_, guard, byte, word, finish}
+use Rattle.cedar.specs.Bytes.{u16, guard, byte, word, finish, _>>=_}
 use Rattle.cedar.specs.Table.{heads, tails, rows}
 use Rattle.cedar.specs.Limits.{blockBytes}
 use Rattle.cedar.specs.Whole.{within}

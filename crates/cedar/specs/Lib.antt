@@ -20,9 +20,10 @@ pub mod Consistency
 pub mod Conversion
 pub mod Literal
 pub mod Conformance
-pub mod Carried
+pub mod Conforms
 pub mod Outcome
 pub mod Calls
+pub mod Sequence
 pub mod JobForm
 pub mod Lines
 pub mod Laws

@@ -1,15 +1,14 @@
 -- What the program prints: the lines of a job, byte for byte.
 use Prim.Native.Nat.{ℕ, zero, suc, _+_, _/_, _%_}
 use mathlib.Core.List.{List, [], _∷_, _++_}
-use mathlib.Core.Bool.{Bool, true, false, cond}
+use mathlib.Core.Bool.{true, false, cond}
 use lib.Dec.{ltb}
-use lib.ListN.{length}
 use Rattle.cedar.specs.Types.{maybe}
 use Rattle.cedar.specs.Limits.{Limits, standard}
 use Rattle.cedar.specs.Result.{badJob}
 use Rattle.cedar.specs.Outcome.{Outcome, refused, said, nothing, typed, attribute, named, bytesOf}
 use Rattle.cedar.specs.Calls.{literalCall, disjointCall, subtypeCall, boundCall, foldCall, lookupCall, mayHaveCall, namesCall, consistentCall, convertCall, conformsCall}
-use Rattle.cedar.specs.JobForm.{Operation, subtypeOp, boundOp, disjointOp, lookupOp, mayHaveOp, namesOp, consistentOp, convertOp, conformsOp, foldOp, literalOp, Question, Job, wholeJob}
+use Rattle.cedar.specs.JobForm.{Operation, subtypeOp, boundOp, disjointOp, lookupOp, mayHaveOp, namesOp, consistentOp, convertOp, conformsOp, foldOp, literalOp, Question, wholeJob}
 
 -- The bytes of a job's workspace.
 abbrev pub jobWork : ℕ

@@ -5,7 +5,7 @@ use mathlib.Core.Option.{Option, some}
 use lib.Dec.{leb}
 use lib.ListN.{length}
 use Rattle.cedar.specs.Types.{Ty}
-use Rattle.cedar.specs.Bytes.{u16, _>>=_, guard}
+use Rattle.cedar.specs.Bytes.{u16, guard, _>>=_}
 use Rattle.cedar.specs.Table.{parseCounted, anyOrder, readLength, seconds}
 use Rattle.cedar.specs.TypeForm.{enc}
 use Rattle.cedar.specs.Limits.{maxListed}

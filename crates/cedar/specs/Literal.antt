@@ -1,7 +1,7 @@
 -- Part 2, `Type::euid_literal`: the type of a uid.
 use Prim.Native.Nat.{ℕ}
 use mathlib.Core.List.{List, [], _∷_}
-use mathlib.Core.Bool.{Bool, _&&_, cond}
+use mathlib.Core.Bool.{_&&_, cond}
 use mathlib.Core.Option.{Option, none, some}
 use lib.Dec.{eqb}
 use Rattle.cedar.specs.Types.{Ty, act, ent, Action, Schema, isAction, maybe}

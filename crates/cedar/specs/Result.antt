@@ -1,5 +1,6 @@
 -- An answer, or the number of a refusal; the numbers of 01, named once.
 use Prim.Native.Nat.{ℕ}
+use mathlib.Core.Option.{Option, none, some}
 
 -- `Result`, with a refusal's number for the error.
 pub data Result (A : Type 0) : Type 0 where
@@ -10,6 +11,11 @@ pub data Result (A : Type 0) : Type 0 where
 abbrev pub bind : {A B : Type 0} → Result A → (A → Result B) → Result B
 bind (ok a) f = f a
 bind (err e) f = err e
+
+-- What a question asks for, or its number where there is none.
+abbrev pub need : {A : Type 0} → ℕ → Option A → Result A
+need n none = err n
+need n (some a) = ok a
 
 -- The mode is 0 or 1?
 abbrev pub badMode : ℕ

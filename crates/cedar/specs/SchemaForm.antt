@@ -1,12 +1,12 @@
 -- The schema form: `encSchema` writes a schema, `parseSchema` reads one back.
-use Prim.Native.Nat.{ℕ, zero, suc, _+_, _*_}
+use Prim.Native.Nat.{ℕ, suc, _+_, _*_}
 use mathlib.Core.List.{List, [], _∷_, _++_}
 use mathlib.Core.Bool.{Bool, true, false, not, _||_, _&&_, cond}
 use mathlib.Core.Option.{Option, none, some}
 use lib.Dec.{eqb, leb, ltb}
 use lib.ListN.{length, drop, getD}
 use Rattle.cedar.specs.Types.{Ty, rec, Attrs, Arg, argBool, argLong, argString, argExt, Entity, Action, Function, Schema, isAction, maybe, present, asRec}
-use Rattle.cedar.specs.Bytes.{u16, flag, _>>=_, guard, word, bit, finish}
+use Rattle.cedar.specs.Bytes.{u16, flag, guard, word, bit, finish, _>>=_}
 use Rattle.cedar.specs.Table.{heads, tails, rows, ascending}
 use Rattle.cedar.specs.TypeForm.{enc}
 use Rattle.cedar.specs.Limits.{maxEntities, maxActions, maxFunctions}

@@ -3,10 +3,10 @@
 use Prim.Native.Nat.{ℕ, zero, suc, _*_}
 use mathlib.Core.List.{List, [], _∷_, _++_}
 use mathlib.Core.Option.{Option, none, some}
-use mathlib.Core.Bool.{Bool, cond}
+use mathlib.Core.Bool.{cond}
 use lib.Dec.{leb}
 use lib.ListN.{length, take, drop}
-use Rattle.cedar.specs.Bytes.{word, _>>=_, guard, finish}
+use Rattle.cedar.specs.Bytes.{word, guard, finish, _>>=_}
 
 module _ {H A : Type 0} where
   -- The entries of a table.

@@ -5,7 +5,7 @@ use mathlib.Core.Bool.{Bool}
 use mathlib.Core.Option.{Option, none, some}
 use lib.Dec.{leb}
 use lib.ListN.{length, getD}
-use Rattle.cedar.specs.Bytes.{u16, flag, _>>=_, guard, word, bit, finish, encNames, parseNames}
+use Rattle.cedar.specs.Bytes.{u16, flag, guard, word, bit, finish, encNames, parseNames, _>>=_}
 use Rattle.cedar.specs.Table.{parseCounted, ascending}
 use Rattle.cedar.specs.Types.{Atom, never, true′, false′, bool, long, string, anyset, anyent, Ty, atom, set, rec, act, ent, ext, Attrs, nil, attr}
 

@@ -5,7 +5,7 @@ use mathlib.Core.Bool.{Bool, true, false}
 use mathlib.Core.Option.{Option, none, some}
 use lib.Dec.{eqb}
 use lib.ListN.{length, getD}
-use Rattle.cedar.specs.Bytes.{u16, flag, _>>=_, guard, word, finish}
+use Rattle.cedar.specs.Bytes.{u16, flag, guard, word, finish, _>>=_}
 use Rattle.cedar.specs.Table.{parseCounted, ascending, anyOrder, readLength}
 use Rattle.cedar.specs.Types.{Value, boolean, number, text, uid, setOf, recordOf, call, Values, end, value, Pairs, empty, pair}
 

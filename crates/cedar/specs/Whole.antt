@@ -1,7 +1,7 @@
 -- The wholeness questions: any bytes to the tree of a whole form within its limits, or nothing.
 use Prim.Native.Nat.{ℕ}
 use mathlib.Core.List.{List}
-use mathlib.Core.Bool.{Bool, cond}
+use mathlib.Core.Bool.{cond}
 use mathlib.Core.Option.{Option, none}
 use lib.Dec.{leb}
 use lib.ListN.{length}

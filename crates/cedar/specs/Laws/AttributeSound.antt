@@ -1,29 +1,48 @@
 -- What lookup and may-have promise of the values of a type that is no action, under either rule on the count of arguments and for
 -- any test of a step's bound.
 use Prim.Native.Nat.{ℕ}
-use native.Mathlib.Omega.{arith}
 use mathlib.Core.List.{List, [], _∷_}
 use mathlib.Core.Bool.{Bool, true, false, _&&_, _||_}
-use mathlib.Core.Path.{_≡_, refl, sym, ap, _∙_, subst}
+use mathlib.Core.Path.{_≡_, sym, ap, _∙_, subst}
 use mathlib.Core.Option.{Option, none, some, Option·some-injective}
 use mathlib.Core.Logic.{inl, inr}
 use lib.Dec.{T, eqb, eqb→eq}
 use Rattle.cedar.specs.Types.{permissive, Atom, never, true′, false′, bool, long, string, anyset, anyent, Ty, atom, set, rec, act, ent, ext, Attrs, nil, Entity, Schema, maybe, present, is, mem, find, asAct}
 use Rattle.cedar.specs.Types.{Value, boolean, number, text, uid, setOf, recordOf, call, Pairs, empty, pair}
 use Rattle.cedar.specs.Shape.{Ordered, OrderedFrom}
-use Rattle.cedar.specs.Result.{Result, ok, err}
+use Rattle.cedar.specs.Result.{ok}
 use Rattle.cedar.specs.Bound.{bound}
-use Rattle.cedar.specs.Conformance.{Verdict, holds, verdict, Counts, shorter, uidType, eachPair, hasName, hasRequired, conforms, conformsAt}
-use Rattle.cedar.specs.Attribute.{entityOf, attrOf, stepped, foldAttr, lookupNames, ownAttr, lookup, mayHaveType, mayHaveNames, mayHave}
-use Rattle.cedar.specs.Carried.{InPairs, here, there, CarriesEntry, Carries}
-use Rattle.cedar.specs.Laws.Tests.{T-and, T-or, or-inl, or-inr, not-T→false, cond-case, maybe-case, none-some, none-of}
-use Rattle.cedar.specs.Laws.Result.{ok-inj, err-ok}
+use Rattle.cedar.specs.Conformance.{Verdict, verdict, Counts, shorter, uidType, eachPair, hasName, hasRequired, conforms, conformsAt}
+use Rattle.cedar.specs.Attribute.{entityOf, attrOf, foldAttr, lookupNames, ownAttr, lookup, mayHaveType, mayHaveNames, mayHave}
+use Rattle.cedar.specs.Laws.Tests.{T-and, T-or, or-inl, or-inr, not-T→false, maybe-case, none-some, none-of}
+use Rattle.cedar.specs.Laws.Result.{ok-inj}
 use Rattle.cedar.specs.Laws.Attributes.{find-ordered}
+use Rattle.cedar.specs.Laws.Lookup.{none-ok, stepped-case}
 use Rattle.cedar.specs.Laws.Names.{In}
 use Rattle.cedar.specs.Laws.Join.{join-ordered, bound-join}
-use Rattle.cedar.specs.Laws.Verdicts.{Holds, yes→Holds, verdict→T, andThen→}
+use Rattle.cedar.specs.Laws.Verdicts.{Holds, verdict→T, andThen→}
 use Rattle.cedar.specs.Laws.SubtypeSound.{required-found, conformsAt-find}
 use Rattle.cedar.specs.Laws.BoundSound.{at-found, bound-sound}
+
+-- The pair of the name a and the value x stands in ps.
+pub data InPairs (a : ℕ) (x : Value) : Pairs → Type 0 where
+  here : {ps : Pairs} → InPairs a x (pair a x ps)
+  there : {n : ℕ} {y : Value} {ps : Pairs} → InPairs a x ps → InPairs a x (pair n y ps)
+
+-- Pairs of a uid whose type has this entity entry: those of a record that conforms to its body.
+abbrev pub CarriesEntry : Counts → Schema → Option Entity → Pairs → Type 0
+CarriesEntry c s none ps = Unit {0}
+CarriesEntry c s (some e) ps = Holds (conforms c s (rec (e .isOpen) (e .attrs)) (recordOf ps))
+
+-- The value v carries the pairs ps: a record its own; a uid those of any record of its entity type, or any where there is no such type.
+abbrev pub CarriesPairs : Counts → Schema → Value → Pairs → Type 0
+CarriesPairs c s (boolean b) ps = ⊥
+CarriesPairs c s (number l) ps = ⊥
+CarriesPairs c s (text l) ps = ⊥
+CarriesPairs c s (uid k i) ps = CarriesEntry c s (entityOf s k) ps
+CarriesPairs c s (setOf vs) ps = ⊥
+CarriesPairs c s (recordOf qs) ps = qs ≡ ps
+CarriesPairs c s (call f vs) ps = ⊥
 
 eachPair-at : {a : ℕ} {x : Value} {ps : Pairs} (f : ℕ → Value → Verdict) → InPairs a x ps → Holds (eachPair f ps) → Holds (f a x)
 eachPair-at {a} {x} f (here {ps = ps}) h = andThen→ (f a x) (eachPair f ps) h .0
@@ -39,9 +58,6 @@ name-pair a (pair n y ps) h k = elim (T-or (eqb a n) (hasName a ps) h) [
 -- An action is no type that is none.
 not-action : {C : Type 0} (n : ℕ) (xs : Attrs) → asAct (act n xs) ≡ none → C
 not-action n xs e = none-some (sym e)
-
-none-ok : {A C : Type 0} {y : A} → _≡_ {A = Result (Option A)} (ok none) (ok (some y)) → C
-none-ok e = absurd (let z : _≡_ {A = ℕ} 0 1 = cc in omega arith)
 
 -- Each entity entry's attributes are in order.
 abbrev pub EntriesOrdered : Schema → Type 0
@@ -84,10 +100,6 @@ module _ (rule : Counts) (schema : Schema) where
       (record { lifts = λ v h. bound-sound rule schema permissive (x .1) (y .1) c ox oy p v (inr h); flags = λ r. T-and (x .0) (y .0) r .1 })
       (join-ordered (bound-join (x .1) permissive (y .1) c p) ox oy)
 
-  stepped-case : {C : Type 0} (fits : Ty → Bool) (k : Ty → Result (Option (Bool × Ty))) (b : Result Ty) {y : Bool × Ty} → stepped fits k b ≡ ok (some y) → ((c : Ty) → b ≡ ok c → k c ≡ ok (some y) → C) → C
-  stepped-case fits k (ok c) e f = cond-case (fits c) e (λ t p. f c refl p) (λ t p. err-ok p)
-  stepped-case fits k (err n) e f = none-ok e
-
   attrOf-ordered : EntriesOrdered schema → (a n : ℕ) (x : Bool × Ty) → attrOf schema a n ≡ some x → Ordered (x .1)
   attrOf-ordered o a n x e = maybe-case (entityOf schema n) e (λ i p. none-some p) (λ d i p. find-ordered (d .attrs) a 0 x (o n d i) p)
 
@@ -121,10 +133,10 @@ module _ (rule : Counts) (schema : Schema) where
     where
       go : (d : Option Entity) → maybe none (λ i. find a (i .attrs)) d ≡ some z → CarriesEntry rule schema d ps → Has a z ps
       go none p q = none-some p
-      go (some d) p q = record-has a (d .isOpen) (d .attrs) z ps p (yes→Holds (conforms rule schema (rec (d .isOpen) (d .attrs)) (recordOf ps)) q)
+      go (some d) p q = record-has a (d .isOpen) (d .attrs) z ps p q
 
   -- The pairs of a record's value.
-  record-lookup : (a : ℕ) (o : Bool) (xs : Attrs) (y : Bool × Ty) (v : Value) (ps : Pairs) → find a xs ≡ some y → Holds (conforms rule schema (rec o xs) v) → Carries rule schema v ps → Has a y ps
+  record-lookup : (a : ℕ) (o : Bool) (xs : Attrs) (y : Bool × Ty) (v : Value) (ps : Pairs) → find a xs ≡ some y → Holds (conforms rule schema (rec o xs) v) → CarriesPairs rule schema v ps → Has a y ps
   unfolding conforms
   record-lookup a p xs y (boolean b) ps e c g = absurd g
   record-lookup a p xs y (number l) ps e c g = absurd g
@@ -135,7 +147,7 @@ module _ (rule : Counts) (schema : Schema) where
   record-lookup a p xs y (call f vs) ps e c g = absurd g
 
   -- Lookup's type holds of the pairs that a value of the type carries, and what it calls required is there.
-  pub lookup-sound : (fits : Ty → Bool) → EntriesOrdered schema → (a : ℕ) (t : Ty) (y : Bool × Ty) (v : Value) (ps : Pairs) → asAct t ≡ none → lookup fits schema a t ≡ ok (some y) → Holds (conforms rule schema t v) → Carries rule schema v ps → Has a y ps
+  pub lookup-sound : (fits : Ty → Bool) → EntriesOrdered schema → (a : ℕ) (t : Ty) (y : Bool × Ty) (v : Value) (ps : Pairs) → asAct t ≡ none → lookup fits schema a t ≡ ok (some y) → Holds (conforms rule schema t v) → CarriesPairs rule schema v ps → Has a y ps
   unfolding conforms
   lookup-sound fits o a (atom k) y v ps i e c g = none-ok e
   lookup-sound fits o a (set t) y v ps i e c g = none-ok e
@@ -143,7 +155,7 @@ module _ (rule : Counts) (schema : Schema) where
   lookup-sound fits o a (act n xs) y v ps i e c g = not-action n xs i
   lookup-sound fits o a (ent ns) y v ps i e c g = uid-lookup v (verdict→T (maybe false (λ k. mem k ns) (uidType v)) c) g
     where
-      uid-lookup : (v : Value) → T (maybe false (λ k. mem k ns) (uidType v)) → Carries rule schema v ps → Has a y ps
+      uid-lookup : (v : Value) → T (maybe false (λ k. mem k ns) (uidType v)) → CarriesPairs rule schema v ps → Has a y ps
       uid-lookup (boolean b) c g = absurd g
       uid-lookup (number l) c g = absurd g
       uid-lookup (text l) c g = absurd g
@@ -154,7 +166,7 @@ module _ (rule : Counts) (schema : Schema) where
   lookup-sound fits o a (ext n) y v ps i e c g = none-ok e
 
   -- So does what a record's own attribute says.
-  pub ownAttr-sound : (a : ℕ) (t : Ty) (y : Bool × Ty) (v : Value) (ps : Pairs) → asAct t ≡ none → ownAttr a t ≡ some y → Holds (conforms rule schema t v) → Carries rule schema v ps → Has a y ps
+  pub ownAttr-sound : (a : ℕ) (t : Ty) (y : Bool × Ty) (v : Value) (ps : Pairs) → asAct t ≡ none → ownAttr a t ≡ some y → Holds (conforms rule schema t v) → CarriesPairs rule schema v ps → Has a y ps
   ownAttr-sound a (atom k) y v ps i e c g = none-some e
   ownAttr-sound a (set t) y v ps i e c g = none-some e
   ownAttr-sound a (rec p xs) y v ps i e c g = record-lookup a p xs y v ps e c g
@@ -173,7 +185,7 @@ module _ (rule : Counts) (schema : Schema) where
 
   type-lacks : (a k : ℕ) (ps : Pairs) (d : Option Entity) → (T (maybe true (λ e. e .isOpen || present (find a (e .attrs))) d) → ⊥) → CarriesEntry rule schema d ps → T (hasName a ps) → ⊥
   type-lacks a k ps none n c h = n tt
-  type-lacks a k ps (some e) n c h = closed-lacks a (e .isOpen) (e .attrs) ps n (yes→Holds (conforms rule schema (rec (e .isOpen) (e .attrs)) (recordOf ps)) c) h
+  type-lacks a k ps (some e) n c h = closed-lacks a (e .isOpen) (e .attrs) ps n c h
 
   mayHave-names : (a k : ℕ) (ns : List ℕ) → In k ns → T (mayHaveType schema a k) → T (mayHaveNames schema a ns)
   mayHave-names a k [] i h = i
@@ -183,7 +195,7 @@ module _ (rule : Counts) (schema : Schema) where
   ]
 
   -- An atom whose uids may not have an attribute has none, and no record is an atom's.
-  atom-lacks : (k : Atom) (v : Value) (ps : Pairs) (a : ℕ) → (T (is k never || is k anyent) → ⊥) → Holds (conforms rule schema (atom k) v) → Carries rule schema v ps → ⊥
+  atom-lacks : (k : Atom) (v : Value) (ps : Pairs) (a : ℕ) → (T (is k never || is k anyent) → ⊥) → Holds (conforms rule schema (atom k) v) → CarriesPairs rule schema v ps → ⊥
   unfolding conforms
   atom-lacks k (boolean b) ps a n c g = g
   atom-lacks k (number l) ps a n c g = g
@@ -208,12 +220,12 @@ module _ (rule : Counts) (schema : Schema) where
   atom-lacks k (call f vs) ps a n c g = g
 
   -- Where may-have says no, no value of the type carries the name.
-  pub mayHave-sound : (a : ℕ) (t : Ty) (v : Value) (ps : Pairs) → asAct t ≡ none → (T (mayHave schema a t) → ⊥) → Holds (conforms rule schema t v) → Carries rule schema v ps → T (hasName a ps) → ⊥
+  pub mayHave-sound : (a : ℕ) (t : Ty) (v : Value) (ps : Pairs) → asAct t ≡ none → (T (mayHave schema a t) → ⊥) → Holds (conforms rule schema t v) → CarriesPairs rule schema v ps → T (hasName a ps) → ⊥
   unfolding conforms
   mayHave-sound a (atom k) v ps i n c g h = atom-lacks k v ps a n c g
   mayHave-sound a (set t) v ps i n c g h = set-lacks v c g
     where
-      set-lacks : (v : Value) → Holds (conforms rule schema (set t) v) → Carries rule schema v ps → ⊥
+      set-lacks : (v : Value) → Holds (conforms rule schema (set t) v) → CarriesPairs rule schema v ps → ⊥
       set-lacks (boolean b) c g = g
       set-lacks (number l) c g = g
       set-lacks (text l) c g = g
@@ -223,7 +235,7 @@ module _ (rule : Counts) (schema : Schema) where
       set-lacks (call f vs) c g = g
   mayHave-sound a (rec o xs) v ps i n c g h = record-lacks v c g
     where
-      record-lacks : (v : Value) → Holds (conforms rule schema (rec o xs) v) → Carries rule schema v ps → ⊥
+      record-lacks : (v : Value) → Holds (conforms rule schema (rec o xs) v) → CarriesPairs rule schema v ps → ⊥
       record-lacks (boolean b) c g = g
       record-lacks (number l) c g = g
       record-lacks (text l) c g = g
@@ -234,7 +246,7 @@ module _ (rule : Counts) (schema : Schema) where
   mayHave-sound a (act k xs) v ps i n c g h = not-action k xs i
   mayHave-sound a (ent ns) v ps i n c g h = uid-lacks v (verdict→T (maybe false (λ k. mem k ns) (uidType v)) c) g
     where
-      uid-lacks : (v : Value) → T (maybe false (λ k. mem k ns) (uidType v)) → Carries rule schema v ps → ⊥
+      uid-lacks : (v : Value) → T (maybe false (λ k. mem k ns) (uidType v)) → CarriesPairs rule schema v ps → ⊥
       uid-lacks (boolean b) c g = g
       uid-lacks (number l) c g = g
       uid-lacks (text l) c g = g
@@ -244,7 +256,7 @@ module _ (rule : Counts) (schema : Schema) where
       uid-lacks (call f vs) c g = g
   mayHave-sound a (ext k) v ps i n c g h = ext-lacks v c g
     where
-      ext-lacks : (v : Value) → Holds (conforms rule schema (ext k) v) → Carries rule schema v ps → ⊥
+      ext-lacks : (v : Value) → Holds (conforms rule schema (ext k) v) → CarriesPairs rule schema v ps → ⊥
       ext-lacks (boolean b) c g = g
       ext-lacks (number l) c g = g
       ext-lacks (text l) c g = g
@@ -255,6 +267,6 @@ module _ (rule : Counts) (schema : Schema) where
 
 -- An action's uid carries any pairs, since no entity entry has an odd name: of kind 11 neither promise holds. Type 0b 01 00 00 00
 -- has may-have 0 answered no, and the uid 04 01 00 00 00 conforms and carries (0: false).
-pub action-refutes : ((s : Schema) (a : ℕ) (t : Ty) (v : Value) (ps : Pairs) → (T (mayHave s a t) → ⊥) → conforms shorter s t v ≡ holds → Carries shorter s v ps → T (hasName a ps) → ⊥) → ⊥
+pub action-refutes : ((s : Schema) (a : ℕ) (t : Ty) (v : Value) (ps : Pairs) → (T (mayHave s a t) → ⊥) → Holds (conforms shorter s t v) → CarriesPairs shorter s v ps → T (hasName a ps) → ⊥) → ⊥
 unfolding conforms
-action-refutes f = f (record { entities = []; actions = []; functions = [] }) 0 (act 1 nil) (uid 1 0) (pair 0 (boolean false) empty) (λ z. z) refl tt tt
+action-refutes f = f (record { entities = []; actions = []; functions = [] }) 0 (act 1 nil) (uid 1 0) (pair 0 (boolean false) empty) (λ z. z) tt tt tt

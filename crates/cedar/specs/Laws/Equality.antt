@@ -108,7 +108,8 @@ no-first : (ys : Attrs) → T (not (present (first ys))) → nil ≡ ys
 no-first nil h = refl
 no-first (attr n r t xs) h = absurd h
 
-attr-equal : {n k : ℕ} {r s : Bool} {t u : Ty} {xs ys : Attrs} → n ≡ k → r ≡ s → t ≡ u → xs ≡ ys → attr n r t xs ≡ attr k s u ys
+-- Equal parts make equal lists.
+pub attr-equal : {n k : ℕ} {r s : Bool} {t u : Ty} {xs ys : Attrs} → n ≡ k → r ≡ s → t ≡ u → xs ≡ ys → attr n r t xs ≡ attr k s u ys
 attr-equal a b c d = cc
 
 mutual

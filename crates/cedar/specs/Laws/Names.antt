@@ -2,7 +2,7 @@
 use Prim.Native.Nat.{ℕ, suc, _≤_, _<_, suc-le-suc, zero-le}
 use native.Mathlib.Nat.{le-trans, le-refl}
 use native.Mathlib.Omega.{arith}
-use mathlib.Core.List.{List, [], _∷_}
+use mathlib.Core.List.{List, [], _∷_, _++_}
 use mathlib.Core.Bool.{not}
 use mathlib.Core.Path.{_≡_, refl, sym, ap₂, subst}
 use mathlib.Core.Logic.{_⊎_, inl, inr}
@@ -29,6 +29,14 @@ In-there x n ns h = or-inr (eqb x n) (mem x ns) h
 -- A member is the first or one of the rest.
 pub In-cases : (x n : ℕ) (ns : List ℕ) → In x (n ∷ ns) → (x ≡ n) ⊎ In x ns
 In-cases x n ns h = elim (T-or (eqb x n) (mem x ns) h) [ inl e ↦ inl (eqb→eq x n e) | inr i ↦ inr i ]
+
+-- A member of two lists one after the other is a member of one of them.
+pub In-append : (x : ℕ) (ns ks : List ℕ) → In x (ns ++ ks) → In x ns ⊎ In x ks
+In-append x [] ks h = inr h
+In-append x (n ∷ ns) ks h = elim (T-or (eqb x n) (mem x (ns ++ ks)) h) [
+  | inl e ↦ inl (or-inl (eqb x n) (mem x ns) e)
+  | inr i ↦ elim (In-append x ns ks i) [ inl j ↦ inl (In-there x n ns j) | inr j ↦ inr j ]
+]
 
 -- No member is below the first.
 pub In-least : (x low : ℕ) (ns : List ℕ) → Ascend low ns → In x ns → low ≤ x

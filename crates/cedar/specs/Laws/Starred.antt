@@ -1,7 +1,7 @@
 -- The starred examples of 01, from bytes through the calls, as one theorem.
 use Prim.Native.Nat.{ℕ}
 use mathlib.Core.List.{List, [], _∷_}
-use mathlib.Core.Bool.{Bool, true, false}
+use mathlib.Core.Bool.{true, false}
 use mathlib.Core.Path.{_≡_, refl}
 use Rattle.cedar.specs.Limits.{standard}
 use Rattle.cedar.specs.TypeForm.{enc, parse}
