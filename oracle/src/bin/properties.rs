@@ -1,0 +1,25 @@
+//! `properties --seed N --rounds K` tries claims about the published functions
+//! and prints for each how often it was tried and failed, with the smallest
+//! failure in hexadecimal.
+
+use oracle::arguments::Arguments;
+use oracle::generate::Gen;
+use oracle::properties::{try_claims, Tallies};
+
+fn main() {
+    let args = Arguments::read();
+    let mut gen = Gen::new(args.number("--seed", 1));
+    let mut tallies = Tallies::default();
+    for _ in 0..args.number("--rounds", 100_000) {
+        try_claims(&mut gen, &mut tallies);
+    }
+    for (name, tally) in &tallies.0 {
+        println!(
+            "{:>9} tried {:>7} failed: {name}",
+            tally.tried, tally.failed
+        );
+        if let Some(forms) = &tally.smallest {
+            println!("{:>9} {forms}", "");
+        }
+    }
+}

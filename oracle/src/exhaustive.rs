@@ -1,0 +1,257 @@
+//! Every question of certain small kinds, as jobs.
+
+use crate::questions::operation::*;
+use crate::trees::{
+    job_form, list_form, ActionEntry, Ask, Attr, EntityEntry, FunctionEntry, Sch, Ty, Val,
+};
+
+fn attr(name: u16, required: bool, ty: &Ty) -> Attr {
+    Attr {
+        name,
+        required,
+        ty: ty.clone(),
+    }
+}
+
+/// Types of one level.
+fn leaves() -> Vec<Ty> {
+    let mut leaves: Vec<Ty> = [0, 1, 2, 3, 4, 5, 6, 9].map(Ty::Atom).to_vec();
+    leaves.extend([vec![2], vec![4], vec![2, 4], vec![3]].map(Ty::Ent));
+    leaves.extend([3, 4, 5].map(|n| Ty::Act(n, Vec::new())));
+    leaves.extend([7, 8].map(Ty::Ext));
+    leaves
+}
+
+/// All leaves, their sets, and records and actions of up to two attributes.
+fn types() -> Vec<Ty> {
+    let leaves = leaves();
+    let mut types = leaves.clone();
+    types.extend(leaves.iter().map(|t| Ty::Set(Box::new(t.clone()))));
+    for required in [false, true] {
+        types.push(Ty::Rec(required, Vec::new()));
+        for t in &leaves {
+            let one = vec![attr(1, required, t)];
+            types.push(Ty::Rec(false, one.clone()));
+            types.push(Ty::Rec(true, one.clone()));
+            types.push(Ty::Act(3, one));
+        }
+        types.push(Ty::Rec(false, vec![attr(2, required, &Ty::Atom(4))]));
+    }
+    let few = [Ty::Atom(1), Ty::Atom(3), Ty::Atom(4), Ty::Ent(vec![2])];
+    for flags in 0..8 {
+        for x in &few {
+            for y in &few[1..] {
+                let attrs = vec![attr(1, flags & 1 == 1, x), attr(2, flags & 2 == 2, y)];
+                types.push(Ty::Rec(flags & 4 == 4, attrs));
+            }
+        }
+    }
+    types
+}
+
+fn values() -> Vec<Val> {
+    let call = |f, args| Val::Call(f, args);
+    let mut values = vec![
+        Val::Bool(false),
+        Val::Bool(true),
+        Val::Long([255; 8]),
+        Val::Str(vec![255]),
+        Val::Uid(2, 0),
+        Val::Uid(3, 0),
+        Val::Uid(4, 9),
+        call(0, Vec::new()),
+        call(5, Vec::new()),
+        call(5, vec![Val::Bool(true)]),
+        call(6, vec![call(5, Vec::new())]),
+        call(6, vec![call(0, Vec::new())]),
+        call(6, vec![call(6, vec![Val::Long([0; 8])])]),
+        call(9, Vec::new()),
+    ];
+    let simple = values.clone();
+    values.push(Val::Set(Vec::new()));
+    values.push(Val::Rec(Vec::new()));
+    for v in &simple {
+        values.push(Val::Set(vec![v.clone()]));
+        values.push(Val::Rec(vec![(1, v.clone())]));
+        values.push(Val::Rec(vec![(1, v.clone()), (2, Val::Long([1; 8]))]));
+        values.push(Val::Rec(vec![(1, Val::Bool(true)), (2, v.clone())]));
+    }
+    values
+}
+
+/// Present, open, enumerated and missing entity types.
+fn entities() -> Vec<EntityEntry> {
+    let entity = |name, enumerated, open, attrs| EntityEntry {
+        name,
+        enumerated,
+        open,
+        attrs,
+    };
+    let two = |r1, t1: u8, r2, t2: u8| {
+        let (t1, t2) = (Ty::Atom(t1), Ty::Atom(t2));
+        vec![attr(1, r1, &t1), attr(2, r2, &t2)]
+    };
+    vec![
+        entity(0, false, false, two(true, 4, false, 1)),
+        entity(2, true, false, two(false, 4, true, 2)),
+        entity(4, false, true, two(true, 5, true, 3)),
+        entity(6, false, false, vec![attr(3, true, &Ty::Atom(4))]),
+    ]
+}
+
+/// Two actions of one type; functions that return an extension, and one that
+/// does not.
+fn schema() -> Sch {
+    let action = |id, attrs| ActionEntry { ty: 3, id, attrs };
+    let function = |name, returns, args| FunctionEntry {
+        name,
+        returns,
+        args,
+    };
+    Sch {
+        entities: entities(),
+        actions: vec![
+            action(0, vec![attr(1, false, &Ty::Atom(4))]),
+            action(9, Vec::new()),
+        ],
+        functions: vec![
+            function(5, Some(7), vec![(1, 0)]),
+            function(6, Some(7), vec![(4, 7), (2, 0)]),
+            function(9, None, Vec::new()),
+        ],
+    }
+}
+
+/// Questions gathered into jobs of at most this many bytes.
+const JOB: usize = 30_000;
+
+struct Jobs {
+    schema: Vec<u8>,
+    asks: Vec<Ask>,
+    bytes: usize,
+    jobs: Vec<Vec<u8>>,
+}
+
+impl Jobs {
+    fn ask(&mut self, op: u8, mode: u8, attr: u16, t0: &[u8], t1: &[u8]) {
+        self.asks.push(Ask {
+            op,
+            mode,
+            attr,
+            t0: t0.to_vec(),
+            t1: t1.to_vec(),
+        });
+        self.bytes += 8 + t0.len() + t1.len();
+        if self.bytes > JOB {
+            self.close();
+        }
+    }
+
+    fn close(&mut self) {
+        self.jobs.push(job_form(&self.schema, &self.asks));
+        self.asks.clear();
+        self.bytes = 0;
+    }
+}
+
+/// All jobs.
+pub fn jobs() -> Vec<Vec<u8>> {
+    let mut jobs = Jobs {
+        schema: schema().form(),
+        asks: Vec::new(),
+        bytes: 0,
+        jobs: Vec::new(),
+    };
+    let types: Vec<Vec<u8>> = types().iter().map(Ty::form).collect();
+    pairs(&mut jobs, &types);
+    singles(&mut jobs, &types);
+    folds(&mut jobs, &types);
+    short_bytes(&mut jobs);
+    jobs.close();
+    jobs.jobs
+}
+
+/// Every pair of types by every operation that takes two.
+fn pairs(jobs: &mut Jobs, types: &[Vec<u8>]) {
+    for a in types {
+        for b in types {
+            for mode in [0, 1] {
+                jobs.ask(SUBTYPE, mode, 0, a, b);
+                jobs.ask(BOUND, mode, 0, a, b);
+            }
+            jobs.ask(DISJOINT, 0, 0, a, b);
+            jobs.ask(CONSISTENT, 0, 0, a, b);
+        }
+    }
+}
+
+/// Every type with each value and each name; unions of all entity types; uids.
+fn singles(jobs: &mut Jobs, types: &[Vec<u8>]) {
+    let values: Vec<Vec<u8>> = values().iter().map(Val::form).collect();
+    let union = |set: usize| {
+        let names = (0..5)
+            .filter(|at| set >> at & 1 == 1)
+            .map(|at| 2 * at as u16);
+        Ty::Ent(names.collect()).form()
+    };
+    let unions: Vec<Vec<u8>> = (0..32).map(union).collect();
+    for t in types.iter().chain(&unions) {
+        jobs.ask(CONVERT, 0, 0, t, &[]);
+        jobs.ask(NAMES, 0, 0, t, &[]);
+        for name in 0..4 {
+            jobs.ask(LOOKUP, 0, name, t, &[]);
+            jobs.ask(MAY_HAVE, 0, name, t, &[]);
+        }
+        values.iter().for_each(|v| jobs.ask(CONFORMS, 0, 0, t, v));
+    }
+    values.iter().for_each(|v| jobs.ask(LITERAL, 0, 0, v, &[]));
+    for ty in 0..9 {
+        for id in [0, 1, 9] {
+            jobs.ask(LITERAL, 0, 0, &Val::Uid(ty, id).form(), &[]);
+        }
+    }
+}
+
+/// Every list of up to three of the first types and of some records.
+fn folds(jobs: &mut Jobs, types: &[Vec<u8>]) {
+    let some: Vec<&Vec<u8>> = types.iter().take(17).chain(types[36..46].iter()).collect();
+    for mode in [0, 1] {
+        jobs.ask(FOLD, mode, 0, &list_form(&[]), &[]);
+        for a in &some {
+            jobs.ask(FOLD, mode, 0, &list_form(&[a.to_vec()]), &[]);
+            for b in &some {
+                jobs.ask(FOLD, mode, 0, &list_form(&[a.to_vec(), b.to_vec()]), &[]);
+                for c in &some {
+                    let list = [a.to_vec(), b.to_vec(), c.to_vec()];
+                    jobs.ask(FOLD, mode, 0, &list_form(&list), &[]);
+                }
+            }
+        }
+    }
+}
+
+/// Every run of up to two bytes as a type, a value, a list; runs of three to
+/// five bytes of small numbers as a type and a value.
+fn short_bytes(jobs: &mut Jobs) {
+    let mut runs = vec![Vec::new()];
+    runs.extend((0..=255).map(|a| vec![a]));
+    for a in 0..=255 {
+        runs.extend((0..=255).map(|b| vec![a, b]));
+    }
+    for run in &runs {
+        jobs.ask(CONVERT, 0, 0, run, &[]);
+        jobs.ask(CONFORMS, 0, 0, &[3], run);
+        jobs.ask(FOLD, 0, 0, run, &[]);
+    }
+    for length in 3..=5 {
+        for number in 0..6usize.pow(length - 1) {
+            let digits = (0..length - 1).map(|at| (number / 6usize.pow(at) % 6) as u8);
+            for kind in [5, 6, 7, 8, 10, 11, 12, 3] {
+                let mut run = vec![kind];
+                run.extend(digits.clone());
+                jobs.ask(CONVERT, 0, 0, &run, &[]);
+                jobs.ask(CONFORMS, 0, 0, &[6], &run);
+            }
+        }
+    }
+}

@@ -1,0 +1,315 @@
+//! Forms around every size and count.
+
+use super::asks::uid_form;
+use super::{Gen, ATTRS};
+use crate::questions::operation::*;
+use crate::trees::{
+    job_form, list_form, ActionEntry, Ask, Attr, EntityEntry, FunctionEntry, Sch, Ty, Val,
+};
+
+fn ask(op: u8, mode: u8, attr: u16, t0: Vec<u8>, t1: Vec<u8>) -> Ask {
+    Ask {
+        op,
+        mode,
+        attr,
+        t0,
+        t1,
+    }
+}
+
+/// So many even names, ascending from a place.
+fn names(start: usize, count: usize) -> Vec<u16> {
+    (start..start + count).map(|n| 2 * n as u16).collect()
+}
+
+fn attr(name: u16, required: bool, ty: Ty) -> Attr {
+    Attr { name, required, ty }
+}
+
+impl Gen {
+    /// A whole type form of exactly that length; from 5 on it is sets, records
+    /// or unions.
+    pub fn type_of_length(&mut self, length: usize) -> Vec<u8> {
+        self.tree_of_length(length).form()
+    }
+
+    pub fn tree_of_length(&mut self, length: usize) -> Ty {
+        match length {
+            0 | 1 => Ty::Atom(4),
+            2 => Ty::Set(Box::new(Ty::Atom(4))),
+            3 => Ty::Ext(7),
+            _ if length >= 14 && self.rng.percent(30) => Ty::Rec(
+                self.rng.percent(30),
+                vec![attr(
+                    1,
+                    self.rng.percent(60),
+                    union_of_length(length - 9, 0),
+                )],
+            ),
+            _ => union_of_length(length, 0),
+        }
+    }
+
+    /// A length around the largest of a form.
+    fn edge(&mut self) -> usize {
+        self.rng.from(4093, 4099)
+    }
+
+    /// Few large questions.
+    pub fn job_of_sizes(&mut self) -> Vec<u8> {
+        let mut schema = Sch::default();
+        let mut asks = Vec::new();
+        match self.rng.below(8) {
+            0 => self.sized_forms(&mut asks),
+            1 => self.sized_values(&mut asks),
+            2 => self.sized_bounds(&mut asks),
+            3 => self.sized_folds(&mut asks),
+            4 | 5 => self.sized_attributes(&mut schema, &mut asks),
+            6 => self.sized_literals(&mut schema, &mut asks),
+            _ => self.sized_list(&mut asks),
+        }
+        job_form(&schema.form(), &asks)
+    }
+
+    fn sized_forms(&mut self, asks: &mut Vec<Ask>) {
+        let length = self.edge();
+        let small = vec![4];
+        let form = self.type_of_length(length);
+        let mode = self.rng.below(2) as u8;
+        asks.push(ask(SUBTYPE, mode, 0, form.clone(), form.clone()));
+        asks.push(ask(BOUND, mode, 0, vec![0], form.clone()));
+        asks.push(ask(DISJOINT, 0, 0, small.clone(), form.clone()));
+        asks.push(ask(CONVERT, 0, 0, form, Vec::new()));
+    }
+
+    fn sized_values(&mut self, asks: &mut Vec<Ask>) {
+        let length = self.edge();
+        let string = Val::Str(vec![200; length - 3]).form();
+        asks.push(ask(CONFORMS, 0, 0, vec![5], string));
+        let set = Val::Set(vec![Val::Str(vec![65; length - 8])]).form();
+        asks.push(ask(CONFORMS, 0, 0, vec![7, 5], set.clone()));
+        asks.push(ask(LITERAL, 0, 0, set, Vec::new()));
+    }
+
+    /// Two unions whose union has so many names, below so many sets.
+    fn unions(&mut self) -> (Ty, Ty) {
+        let total = self.rng.from(2044, 2049);
+        let left = self.rng.from(5, 2040);
+        let overlap = self.rng.below(left.min(total - left)).min(3);
+        let a = Ty::Ent(names(0, left));
+        let b = Ty::Ent(names(left - overlap, total - left + overlap));
+        let (mut a, mut b) = match self.rng.percent(50) {
+            true => (a, b),
+            false => (b, a),
+        };
+        for _ in 0..self.rng.below(4) {
+            a = Ty::Set(Box::new(a));
+            b = Ty::Set(Box::new(b));
+        }
+        (a, b)
+    }
+
+    /// Two records whose strict bound is longer than each.
+    fn crossed(&mut self) -> (Ty, Ty) {
+        let total = self.edge();
+        let left = self.rng.from(600, 3500);
+        let big = union_of_length(left, 0);
+        let other = union_of_length(total - 14 - left, 0);
+        let required = self.rng.percent(50);
+        let record = |x: Ty, y: Ty| Ty::Rec(false, vec![attr(1, required, x), attr(2, true, y)]);
+        (record(Ty::Atom(0), big.clone()), record(other, Ty::Atom(0)))
+    }
+
+    fn sized_bounds(&mut self, asks: &mut Vec<Ask>) {
+        let (a, b) = self.unions();
+        asks.push(ask(BOUND, 1, 0, a.form(), b.form()));
+        asks.push(ask(BOUND, 0, 0, a.form(), b.form()));
+        let (a, b) = self.crossed();
+        let mode = self.rng.below(2) as u8;
+        asks.push(ask(BOUND, mode, 0, a.form(), b.form()));
+    }
+
+    fn sized_folds(&mut self, asks: &mut Vec<Ask>) {
+        for _ in 0..2 {
+            let (a, b) = self.unions();
+            let mut list = vec![a.form(), b.form()];
+            let other = self.ty(2).form();
+            let at = self.rng.below(3);
+            list.insert(at, other);
+            if self.rng.percent(50) {
+                list.remove(at);
+            }
+            asks.push(ask(FOLD, 1, 0, list_form(&list), Vec::new()));
+        }
+        let (a, b) = self.crossed();
+        let list = list_form(&[a.form(), b.form()]);
+        asks.push(ask(FOLD, self.rng.below(2) as u8, 0, list, Vec::new()));
+    }
+
+    /// Entity types whose shared attribute has a bound around the size.
+    fn sized_attributes(&mut self, schema: &mut Sch, asks: &mut Vec<Ask>) {
+        let (a, b) = self.unions();
+        let third = match self.rng.below(3) {
+            0 => None,
+            1 => Some(b.clone()),
+            _ => Some(Ty::Atom(4)),
+        };
+        let bodies = [Some(a), Some(b), third];
+        for (at, body) in bodies.into_iter().enumerate() {
+            let mut attrs = vec![attr(1, self.rng.percent(50), Ty::Atom(4))];
+            if let Some(ty) = body {
+                attrs.push(attr(3, self.rng.percent(50), ty));
+            }
+            schema.entities.push(EntityEntry {
+                name: 2 * at as u16,
+                enumerated: self.rng.percent(20),
+                open: false,
+                attrs,
+            });
+        }
+        if self.rng.percent(30) {
+            schema.entities.remove(2);
+        }
+        let union = |n: usize| Ty::Ent(names(0, n)).form();
+        for n in 1..=3 {
+            asks.push(ask(LOOKUP, 0, 3, union(n), Vec::new()));
+            asks.push(ask(LOOKUP, 0, *self.rng.pick(ATTRS), union(n), Vec::new()));
+            asks.push(ask(NAMES, 0, 0, union(n), Vec::new()));
+            asks.push(ask(MAY_HAVE, 0, 3, union(n), Vec::new()));
+        }
+    }
+
+    /// Action bodies around the largest: the literal is one byte longer.
+    fn sized_literals(&mut self, schema: &mut Sch, asks: &mut Vec<Ask>) {
+        for id in 0..3 {
+            let length = self.rng.from(4093, 4096 + self.rng.clone().below(20) / 19);
+            schema.actions.push(ActionEntry {
+                ty: 1,
+                id,
+                attrs: vec![attr(2, true, union_of_length(length - 9, 0))],
+            });
+            asks.push(ask(LITERAL, 0, 0, uid_form(1, id), Vec::new()));
+        }
+    }
+
+    /// A list of many bytes.
+    fn sized_list(&mut self, asks: &mut Vec<Ask>) {
+        let n = self.rng.from(2, 7);
+        let types: Vec<Vec<u8>> = (0..n)
+            .map(|at| {
+                let count = self.rng.from(20, 300);
+                Ty::Ent(names(at * 280, count)).form()
+            })
+            .collect();
+        let mode = self.rng.below(2) as u8;
+        asks.push(ask(FOLD, mode, 0, list_form(&types), Vec::new()));
+    }
+
+    /// Entries and types as many as allowed, and one more.
+    pub fn job_of_counts(&mut self) -> Vec<u8> {
+        let mut schema = Sch::default();
+        let mut asks = Vec::new();
+        match self.rng.below(4) {
+            0 => {
+                let n = self.rng.from(255, 257);
+                schema.entities = (0..n).map(|at| self.counted_entity(at)).collect();
+            }
+            1 => {
+                let n = self.rng.from(255, 257);
+                schema.actions = (0..n).map(counted_action).collect();
+            }
+            2 => {
+                let n = self.rng.from(63, 65);
+                schema.functions = (0..n).map(counted_function).collect();
+            }
+            _ => {
+                let n = self.rng.from(63, 65);
+                let list = list_form(&vec![vec![4]; n]);
+                asks.push(ask(FOLD, 0, 0, list, Vec::new()));
+            }
+        }
+        let at = self.rng.below(260) as u16;
+        asks.push(ask(LITERAL, 0, 0, uid_form(2 * at, 0), Vec::new()));
+        asks.push(ask(LITERAL, 0, 0, uid_form(1, at), Vec::new()));
+        asks.push(ask(LOOKUP, 0, 1, Ty::Ent(names(0, 256)).form(), Vec::new()));
+        asks.push(ask(NAMES, 0, 0, Ty::Ent(names(3, 200)).form(), Vec::new()));
+        let call = Val::Call(at / 4, Vec::new()).form();
+        asks.push(ask(CONFORMS, 0, 0, vec![12, 7, 0], call));
+        job_form(&schema.form(), &asks)
+    }
+
+    fn counted_entity(&mut self, at: usize) -> EntityEntry {
+        EntityEntry {
+            name: 2 * at as u16,
+            enumerated: at % 2 == 0,
+            open: false,
+            attrs: vec![attr(1, true, Ty::Atom(4))],
+        }
+    }
+
+    /// A schema and a list of 32,766 to 32,770 bytes, for calls outside jobs.
+    pub fn large_blocks(&mut self) -> (Vec<u8>, Vec<u8>) {
+        let target = self.rng.from(32_766, 32_770);
+        let mut schema = Sch::default();
+        let mut left = target - 6;
+        let mut at = 0;
+        while left > 0 {
+            let length = chunk(left);
+            let body = union_of_length(length - 14, 0);
+            schema.entities.push(EntityEntry {
+                name: 2 * at,
+                enumerated: false,
+                open: false,
+                attrs: vec![attr(1, true, body)],
+            });
+            left -= length;
+            at += 1;
+        }
+        let mut types = Vec::new();
+        let mut left = target - 2;
+        while left > 0 {
+            let length = chunk(left);
+            types.push(union_of_length(length - 2, 0).form());
+            left -= length;
+        }
+        (schema.form(), list_form(&types))
+    }
+}
+
+/// How much of what is left one entry takes: never so much that less than 100
+/// bytes stay.
+fn chunk(left: usize) -> usize {
+    match left {
+        0..=4000 => left,
+        4001..=4100 => left - 2000,
+        _ => 4000,
+    }
+}
+
+/// A union of exactly that length, below a set if the length is even.
+fn union_of_length(length: usize, start: usize) -> Ty {
+    match length {
+        0 | 1 => Ty::Atom(4),
+        2 => Ty::Set(Box::new(Ty::Atom(4))),
+        3 => Ty::Ext(7),
+        4 => Ty::Set(Box::new(Ty::Ext(7))),
+        n if n & 1 == 1 => Ty::Ent(names(start, (n - 3) / 2)),
+        n => Ty::Set(Box::new(Ty::Ent(names(start, (n - 4) / 2)))),
+    }
+}
+
+fn counted_action(at: usize) -> ActionEntry {
+    ActionEntry {
+        ty: 1,
+        id: at as u16,
+        attrs: Vec::new(),
+    }
+}
+
+fn counted_function(at: usize) -> FunctionEntry {
+    FunctionEntry {
+        name: at as u16,
+        returns: Some(7),
+        args: Vec::new(),
+    }
+}

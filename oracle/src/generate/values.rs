@@ -1,0 +1,210 @@
+//! Values that conform to a type, and values changed from them.
+
+use super::{Gen, ACTION_TYPES, ATTRS, ENTITIES, FUNCTIONS};
+use crate::trees::{FunctionEntry, Sch, Ty, Val};
+
+impl Gen {
+    /// Any value of at most `levels` levels.
+    pub fn value(&mut self, levels: usize) -> Val {
+        let kinds = if levels > 1 { 8 } else { 5 };
+        match self.rng.below(kinds) {
+            0 => Val::Bool(self.rng.percent(50)),
+            1 => self.long(),
+            2 => self.string(),
+            3 | 4 => self.uid(),
+            5 => Val::Set(
+                (0..self.rng.below(3))
+                    .map(|_| self.value(levels - 1))
+                    .collect(),
+            ),
+            6 => {
+                let mut pairs = Vec::new();
+                for name in ATTRS {
+                    if self.rng.percent(20) {
+                        pairs.push((*name, self.value(levels - 1)));
+                    }
+                }
+                Val::Rec(pairs)
+            }
+            _ => Val::Call(
+                *self.rng.pick(FUNCTIONS),
+                (0..self.rng.below(3))
+                    .map(|_| self.value(levels - 1))
+                    .collect(),
+            ),
+        }
+    }
+
+    fn long(&mut self) -> Val {
+        Val::Long(self.rng.next().to_le_bytes())
+    }
+
+    fn string(&mut self) -> Val {
+        let n = match self.rng.percent(1) {
+            true => self.rng.from(254, 300),
+            false => self.rng.below(5),
+        };
+        Val::Str((0..n).map(|_| self.rng.below(256) as u8).collect())
+    }
+
+    pub fn uid(&mut self) -> Val {
+        let ty = match self.rng.percent(50) {
+            true => *self.rng.pick(ENTITIES),
+            false => *self.rng.pick(ACTION_TYPES),
+        };
+        Val::Uid(ty, *self.rng.pick(&[0, 1, 65535]))
+    }
+
+    /// A value that conforms where one is found.
+    pub fn value_for(&mut self, ty: &Ty, schema: &Sch) -> Val {
+        match ty {
+            Ty::Atom(kind) => self.value_for_atom(*kind),
+            Ty::Set(element) => {
+                let n = *self.rng.pick(&[1, 1, 1, 0, 2]);
+                Val::Set((0..n).map(|_| self.value_for(element, schema)).collect())
+            }
+            Ty::Rec(open, attrs) => {
+                let mut pairs = Vec::new();
+                for a in attrs {
+                    if a.required || self.rng.percent(60) {
+                        pairs.push((a.name, self.value_for(&a.ty, schema)));
+                    }
+                }
+                if *open && self.rng.percent(30) {
+                    self.extra_pair(&mut pairs);
+                }
+                Val::Rec(pairs)
+            }
+            Ty::Ent(names) => Val::Uid(*self.rng.pick(names), self.rng.below(3) as u16),
+            Ty::Act(name, _) => Val::Uid(*name, self.rng.below(3) as u16),
+            Ty::Ext(name) => self.call_for(*name, schema, 3),
+        }
+    }
+
+    fn value_for_atom(&mut self, kind: u8) -> Val {
+        match kind {
+            1 => Val::Bool(true),
+            2 => Val::Bool(false),
+            3 => Val::Bool(self.rng.percent(50)),
+            4 => self.long(),
+            5 => self.string(),
+            6 => Val::Set((0..self.rng.below(3)).map(|_| self.value(2)).collect()),
+            9 => self.uid(),
+            _ => self.value(2),
+        }
+    }
+
+    fn extra_pair(&mut self, pairs: &mut Vec<(u16, Val)>) {
+        let name = *self.rng.pick(ATTRS);
+        if pairs.iter().all(|p| p.0 != name) {
+            pairs.push((name, self.value(2)));
+            pairs.sort_by_key(|p| p.0);
+        }
+    }
+
+    /// A call of a function that returns the extension.
+    fn call_for(&mut self, extension: u16, schema: &Sch, depth: usize) -> Val {
+        let able = |f: &&FunctionEntry| f.returns == Some(extension);
+        let known: Vec<&FunctionEntry> = schema.functions.iter().filter(able).collect();
+        if known.is_empty() {
+            return Val::Call(*self.rng.pick(FUNCTIONS), Vec::new());
+        }
+        let function = *self.rng.pick(&known);
+        let mut args = Vec::new();
+        for (kind, extension) in &function.args {
+            args.push(match kind {
+                1 => Val::Bool(true),
+                2 => self.long(),
+                3 => self.string(),
+                _ if depth > 0 => self.call_for(*extension, schema, depth - 1),
+                _ => Val::Call(function.name, Vec::new()),
+            });
+        }
+        match self.rng.below(10) {
+            0 => args.push(self.value(1)),
+            1 => {
+                args.pop();
+            }
+            _ => (),
+        }
+        Val::Call(function.name, args)
+    }
+
+    /// The value with one place changed.
+    pub fn mutate_value(&mut self, value: &mut Val) {
+        if self.rng.percent(10) {
+            *value = self.value(2);
+            return;
+        }
+        match value {
+            Val::Bool(b) => *b = !*b,
+            Val::Uid(ty, _) => {
+                let Val::Uid(other, _) = self.uid() else {
+                    return;
+                };
+                *ty = other;
+            }
+            Val::Set(values) if !values.is_empty() => {
+                let at = self.rng.below(values.len());
+                self.mutate_value(&mut values[at]);
+            }
+            Val::Rec(pairs) => self.mutate_pairs(pairs),
+            Val::Call(function, args) => match self.rng.below(6) {
+                0 => *function = *self.rng.pick(FUNCTIONS),
+                1 => {
+                    args.pop();
+                }
+                2 => args.push(self.value(2)),
+                _ if args.is_empty() => *function = *self.rng.pick(FUNCTIONS),
+                _ => {
+                    let at = self.rng.below(args.len());
+                    self.mutate_value(&mut args[at]);
+                }
+            },
+            _ => *value = self.value(1),
+        }
+    }
+
+    fn mutate_pairs(&mut self, pairs: &mut Vec<(u16, Val)>) {
+        if pairs.is_empty() || self.rng.percent(15) {
+            self.extra_pair(pairs);
+            return;
+        }
+        let at = self.rng.below(pairs.len());
+        match self.rng.below(5) {
+            0 => {
+                pairs.remove(at);
+            }
+            _ => self.mutate_value(&mut pairs[at].1),
+        }
+    }
+
+    /// A nest of 13 to 18 levels around a value.
+    pub fn deep_value(&mut self) -> Val {
+        let mut value = self.value(1);
+        for _ in 0..self.rng.from(12, 17) {
+            value = match self.rng.below(4) {
+                0 => Val::Rec(vec![(*self.rng.pick(ATTRS), value)]),
+                1 => Val::Call(*self.rng.pick(FUNCTIONS), vec![value]),
+                _ => Val::Set(vec![value]),
+            };
+        }
+        value
+    }
+
+    /// A call nested to so many levels, each a function that takes what it
+    /// returns, and the type of it.
+    pub fn deep_call(&mut self, schema: &Sch) -> Option<(Ty, Val)> {
+        let loops = |f: &&FunctionEntry| match (f.returns, f.args.first()) {
+            (Some(e), Some((4, a))) => e == *a,
+            _ => false,
+        };
+        let found: Vec<&FunctionEntry> = schema.functions.iter().filter(loops).collect();
+        let f = found.first()?;
+        let mut value = Val::Call(f.name, Vec::new());
+        for _ in 0..self.rng.from(1, 17) {
+            value = Val::Call(f.name, vec![value]);
+        }
+        Some((Ty::Ext(f.returns?), value))
+    }
+}

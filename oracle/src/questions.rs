@@ -1,0 +1,366 @@
+//! One call: 01's questions in 01's order, put to the published functions.
+
+use crate::cedar_policy_core::ast::{EntityUID, RestrictedExpr};
+use crate::cedar_policy_core::entities::SchemaType;
+use crate::forms::{
+    plain, read_list, read_schema, read_type, read_value, write_core, write_type, Schema,
+    FORM_BYTES,
+};
+use crate::smol_str::SmolStr;
+use crate::types::{AttributeType, EntityLUB, EntityRecordKind, Type};
+use crate::validation_errors::LubHelp;
+use crate::ValidationMode;
+
+/// The operations of a job.
+pub mod operation {
+    pub const SUBTYPE: u8 = 0;
+    pub const BOUND: u8 = 1;
+    pub const DISJOINT: u8 = 2;
+    pub const LOOKUP: u8 = 3;
+    pub const MAY_HAVE: u8 = 4;
+    pub const NAMES: u8 = 5;
+    pub const CONSISTENT: u8 = 6;
+    pub const CONVERT: u8 = 7;
+    pub const CONFORMS: u8 = 8;
+    pub const FOLD: u8 = 9;
+    pub const LITERAL: u8 = 10;
+    pub const COUNT: usize = 11;
+}
+use operation::*;
+
+/// What a call is asked with.
+#[derive(Clone, Copy, Debug)]
+pub struct Call<'a> {
+    pub op: u8,
+    pub mode: u8,
+    pub attr: u16,
+    pub schema: &'a [u8],
+    /// The first type, the list, or a literal's uid.
+    pub t0: &'a [u8],
+    /// The second type, or conformance's value.
+    pub t1: &'a [u8],
+    /// Length of the result buffer.
+    pub room: usize,
+    /// Length of the workspace.
+    pub work: usize,
+}
+
+/// What a call gives.
+#[derive(Clone, Debug, PartialEq, Eq)]
+pub enum Outcome {
+    Refused(u8),
+    Yes,
+    No,
+    Nothing,
+    Wrote(Vec<u8>),
+    /// A lookup's answer: required, and the type's form.
+    Attribute(bool, Vec<u8>),
+}
+
+/// What the second entry of lookup gives: where in the caller's form the
+/// attribute's body stands.
+#[derive(Clone, Debug, PartialEq, Eq)]
+pub enum Part {
+    Refused(u8),
+    Nothing,
+    Attribute(bool, std::ops::Range<usize>),
+}
+
+type Refusable<T> = Result<T, u8>;
+
+/// Answer one call from its bytes.
+pub fn answer(call: &Call<'_>) -> Outcome {
+    answer_with(call, &mut SchemaCache::of(call.schema))
+}
+
+/// The schema of a job, read when a call first asks for it.
+pub struct SchemaCache<'a> {
+    form: &'a [u8],
+    read: Option<Option<Schema>>,
+}
+
+impl<'a> SchemaCache<'a> {
+    pub fn of(form: &'a [u8]) -> SchemaCache<'a> {
+        SchemaCache { form, read: None }
+    }
+
+    fn whole(&mut self) -> Refusable<&Schema> {
+        let form = self.form;
+        let read = self.read.get_or_insert_with(|| read_schema(form));
+        read.as_ref().ok_or(2)
+    }
+}
+
+/// Answer one call whose schema may have been read before.
+pub fn answer_with(call: &Call<'_>, schema: &mut SchemaCache<'_>) -> Outcome {
+    let outcome = match call.op {
+        SUBTYPE => subtype(call, schema),
+        BOUND => bound(call, schema),
+        DISJOINT => disjoint(call),
+        LOOKUP => lookup(call, schema),
+        MAY_HAVE => may_have(call, schema),
+        NAMES => names(call, schema),
+        CONSISTENT => consistent(call),
+        CONVERT => convert(call),
+        CONFORMS => conforms(call, schema),
+        FOLD => fold(call, schema),
+        LITERAL => literal(call, schema),
+        _ => panic!("no operation {}", call.op),
+    };
+    outcome.unwrap_or_else(Outcome::Refused)
+}
+
+fn mode(call: &Call<'_>) -> Refusable<ValidationMode> {
+    match call.mode {
+        0 => Ok(ValidationMode::Strict),
+        1 => Ok(ValidationMode::Permissive),
+        _ => Err(1),
+    }
+}
+
+fn first(call: &Call<'_>) -> Refusable<Type> {
+    read_type(call.t0).ok_or(3)
+}
+
+fn second(call: &Call<'_>) -> Refusable<Type> {
+    read_type(call.t1).ok_or(4)
+}
+
+fn yes(answer: bool) -> Outcome {
+    match answer {
+        true => Outcome::Yes,
+        false => Outcome::No,
+    }
+}
+
+fn reason(help: LubHelp) -> u8 {
+    match help {
+        LubHelp::AttributeQualifier => 11,
+        LubHelp::RecordWidth => 12,
+        LubHelp::EntityType => 13,
+        LubHelp::EntityRecord => 14,
+        LubHelp::None => 15,
+    }
+}
+
+/// The last question of every call that writes.
+fn fits(call: &Call<'_>, form: Vec<u8>) -> Refusable<Vec<u8>> {
+    if form.len() > call.room.min(FORM_BYTES) {
+        return Err(10);
+    }
+    Ok(form)
+}
+
+/// The question about the size of one step.
+fn step_fits(call: &Call<'_>, bound: &Type) -> Refusable<()> {
+    if write_type(bound).len() > (call.work / 2).min(FORM_BYTES) {
+        return Err(9);
+    }
+    Ok(())
+}
+
+fn subtype(call: &Call<'_>, schema: &mut SchemaCache<'_>) -> Refusable<Outcome> {
+    let mode = mode(call)?;
+    let schema = schema.whole()?;
+    let (t0, t1) = (first(call)?, second(call)?);
+    Ok(yes(Type::is_subtype(&schema.types, &t0, &t1, mode)))
+}
+
+fn bound(call: &Call<'_>, schema: &mut SchemaCache<'_>) -> Refusable<Outcome> {
+    let mode = mode(call)?;
+    let schema = schema.whole()?;
+    let (t0, t1) = (first(call)?, second(call)?);
+    let bound = Type::least_upper_bound(&schema.types, &t0, &t1, mode).map_err(reason)?;
+    Ok(Outcome::Wrote(fits(call, write_type(&bound))?))
+}
+
+fn disjoint(call: &Call<'_>) -> Refusable<Outcome> {
+    let (t0, t1) = (first(call)?, second(call)?);
+    Ok(yes(Type::are_types_disjoint(&t0, &t1)))
+}
+
+/// The steps of the fold one by one, then the published fold over all.
+fn fold(call: &Call<'_>, schema: &mut SchemaCache<'_>) -> Refusable<Outcome> {
+    let mode = mode(call)?;
+    let schema = &schema.whole()?.types;
+    let types = read_list(call.t0).ok_or(3)?;
+    let mut last = Type::Never;
+    for ty in &types {
+        last = Type::least_upper_bound(schema, &last, ty, mode).map_err(reason)?;
+        step_fits(call, &last)?;
+    }
+    let all = Type::reduce_to_least_upper_bound(schema, &types, mode).map_err(reason)?;
+    assert_eq!(all, last, "the fold differs from its steps");
+    Ok(Outcome::Wrote(fits(call, write_type(&all))?))
+}
+
+/// The names of an entity type, ascending; none for other types.
+fn entity_names(ty: &Type) -> Option<&EntityLUB> {
+    match ty {
+        Type::EntityOrRecord(EntityRecordKind::Entity(lub)) => Some(lub),
+        _ => None,
+    }
+}
+
+/// One attribute over the types of an entity: each step's size is asked until
+/// the attribute is absent or has no bound.
+fn attribute_steps(call: &Call<'_>, schema: &Schema, lub: &EntityLUB, attr: &str) -> Refusable<()> {
+    let mut last: Option<Type> = None;
+    for name in lub.iter() {
+        let entry = schema.types.get_entity_type(name);
+        let Some(found) = entry.and_then(|e| e.attr(attr)) else {
+            return Ok(());
+        };
+        let Some(before) = last else {
+            last = Some(found.attr_type.clone());
+            continue;
+        };
+        let step = Type::least_upper_bound(
+            &schema.types,
+            &before,
+            &found.attr_type,
+            ValidationMode::Permissive,
+        );
+        let Ok(step) = step else { return Ok(()) };
+        step_fits(call, &step)?;
+        last = Some(step);
+    }
+    Ok(())
+}
+
+fn lookup(call: &Call<'_>, schema: &mut SchemaCache<'_>) -> Refusable<Outcome> {
+    let schema = schema.whole()?;
+    let ty = first(call)?;
+    let attr = SmolStr::from_number(call.attr);
+    if let Some(lub) = entity_names(&ty) {
+        attribute_steps(call, schema, lub, &attr)?;
+    }
+    match Type::lookup_attribute_type(&schema.types, &ty, &attr) {
+        None => Ok(Outcome::Nothing),
+        Some(AttributeType {
+            attr_type,
+            is_required,
+        }) => Ok(Outcome::Attribute(
+            is_required,
+            fits(call, write_type(&attr_type))?,
+        )),
+    }
+}
+
+fn may_have(call: &Call<'_>, schema: &mut SchemaCache<'_>) -> Refusable<Outcome> {
+    let schema = schema.whole()?;
+    let ty = first(call)?;
+    let attr = SmolStr::from_number(call.attr);
+    Ok(yes(Type::may_have_attr(&schema.types, &ty, &attr)))
+}
+
+fn names(call: &Call<'_>, schema: &mut SchemaCache<'_>) -> Refusable<Outcome> {
+    let schema = schema.whole()?;
+    let ty = first(call)?;
+    if let Some(lub) = entity_names(&ty) {
+        let entry = lub
+            .iter()
+            .next()
+            .and_then(|n| schema.types.get_entity_type(n));
+        for attr in entry.iter().flat_map(|e| e.attributes().keys()) {
+            attribute_steps(call, schema, lub, attr)?;
+        }
+    }
+    let names = ty.all_attributes(&schema.types);
+    let form = names.iter().flat_map(|n| n.number().to_le_bytes());
+    Ok(Outcome::Wrote(fits(call, form.collect())?))
+}
+
+fn consistent(call: &Call<'_>) -> Refusable<Outcome> {
+    let (t0, t1) = (first(call)?, second(call)?);
+    let core = plain(&t1).ok_or(6)?;
+    Ok(yes(t0.is_consistent_with(&core)))
+}
+
+fn convert(call: &Call<'_>) -> Refusable<Outcome> {
+    let core = SchemaType::try_from(first(call)?).map_err(|_| 8)?;
+    Ok(Outcome::Wrote(fits(call, write_core(&core))?))
+}
+
+fn conforms(call: &Call<'_>, schema: &mut SchemaCache<'_>) -> Refusable<Outcome> {
+    let schema = schema.whole()?;
+    let ty = first(call)?;
+    let value = read_value(call.t1).ok_or(5)?;
+    let answer = ty.typecheck_restricted_expr(value.as_borrowed(), &schema.extensions);
+    Ok(yes(answer.map_err(|_| 7)?))
+}
+
+fn uid(form: &[u8]) -> Option<EntityUID> {
+    match read_value(form)? {
+        RestrictedExpr::Euid(uid) => Some(uid),
+        _ => None,
+    }
+}
+
+fn literal(call: &Call<'_>, schema: &mut SchemaCache<'_>) -> Refusable<Outcome> {
+    let schema = schema.whole()?;
+    let uid = uid(call.t0).ok_or(5)?;
+    match Type::euid_literal(&uid, &schema.types) {
+        None => Ok(Outcome::Nothing),
+        Some(ty) => Ok(Outcome::Wrote(fits(call, write_type(&ty))?)),
+    }
+}
+
+/// The second entry of lookup.
+pub fn lookup_part(form: &[u8], attr: u16) -> Part {
+    let Some(ty) = read_type(form) else {
+        return Part::Refused(3);
+    };
+    let (attrs, header) = match &ty {
+        Type::EntityOrRecord(EntityRecordKind::Record { attrs, .. }) => (attrs, 4),
+        Type::EntityOrRecord(EntityRecordKind::ActionEntity { attrs, .. }) => (attrs, 5),
+        _ => return Part::Nothing,
+    };
+    let name = SmolStr::from_number(attr);
+    let mut at = header + 5 * attrs.iter().count();
+    for (other, found) in attrs.iter() {
+        let end = at + write_type(&found.attr_type).len();
+        if *other == name {
+            return Part::Attribute(found.is_required, at..end);
+        }
+        at = end;
+    }
+    Part::Nothing
+}
+
+/// What the published function gives where 01 asks about sizes: no step and no
+/// answer is measured. None for other operations and for forms not whole.
+pub fn unmeasured(call: &Call<'_>) -> Option<Outcome> {
+    let schema = &read_schema(call.schema)?.types;
+    let wrote = |bound: Result<Type, LubHelp>| match bound {
+        Ok(ty) => Outcome::Wrote(write_type(&ty)),
+        Err(help) => Outcome::Refused(reason(help)),
+    };
+    let attr = SmolStr::from_number(call.attr);
+    Some(match call.op {
+        BOUND => {
+            let (t0, t1) = (read_type(call.t0)?, read_type(call.t1)?);
+            let mode = mode(call).ok()?;
+            wrote(Type::least_upper_bound(schema, &t0, &t1, mode))
+        }
+        FOLD => {
+            let types = read_list(call.t0)?;
+            let mode = mode(call).ok()?;
+            wrote(Type::reduce_to_least_upper_bound(schema, &types, mode))
+        }
+        LOOKUP => match Type::lookup_attribute_type(schema, &read_type(call.t0)?, &attr) {
+            None => Outcome::Nothing,
+            Some(found) => Outcome::Attribute(found.is_required, write_type(&found.attr_type)),
+        },
+        NAMES => {
+            let names = read_type(call.t0)?.all_attributes(schema);
+            Outcome::Wrote(
+                names
+                    .iter()
+                    .flat_map(|n| n.number().to_le_bytes())
+                    .collect(),
+            )
+        }
+        _ => return None,
+    })
+}

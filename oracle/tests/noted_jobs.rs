@@ -1,0 +1,21 @@
+//! The noted jobs print what DIFFERENCES-notes.md says.
+
+use oracle::jobs::lines;
+use oracle::noted::{bytes, NOTED};
+
+#[test]
+fn noted_jobs_print_their_lines() {
+    for (job, line) in NOTED {
+        let printed = lines(&bytes(job));
+        assert_eq!(String::from_utf8_lossy(&printed), *line, "{job}");
+    }
+}
+
+#[test]
+fn the_notes_hold_the_jobs() {
+    let notes = include_str!("../DIFFERENCES-notes.md");
+    for (job, line) in &NOTED[1..] {
+        assert!(notes.contains(job), "{job}");
+        assert!(notes.contains(line.trim_end()), "{line}");
+    }
+}
