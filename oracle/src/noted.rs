@@ -1,4 +1,4 @@
-//! The jobs of DIFFERENCES-notes.md and of 01's example, with their lines.
+//! The jobs of docs/DIFFERENCES.md and of 01's example, with their lines.
 
 /// Job in hexadecimal, and what it prints.
 #[rustfmt::skip]

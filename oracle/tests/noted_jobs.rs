@@ -1,4 +1,4 @@
-//! The noted jobs print what DIFFERENCES-notes.md says.
+//! The noted jobs print what docs/DIFFERENCES.md says.
 
 use oracle::jobs::lines;
 use oracle::noted::{bytes, NOTED};
@@ -13,7 +13,7 @@ fn noted_jobs_print_their_lines() {
 
 #[test]
 fn the_notes_hold_the_jobs() {
-    let notes = include_str!("../DIFFERENCES-notes.md");
+    let notes = include_str!("../../docs/DIFFERENCES.md");
     for (job, line) in &NOTED[1..] {
         assert!(notes.contains(job), "{job}");
         assert!(notes.contains(line.trim_end()), "{line}");
