@@ -9,3 +9,6 @@ pub mod Search
 pub mod Skips
 pub mod Attributes
 pub mod Views
+pub mod Values
+pub mod ValueTwin
+pub mod Lists

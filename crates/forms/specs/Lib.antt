@@ -1,5 +1,7 @@
 pub mod Parts
 pub mod Rows
 pub mod TypeBytes
+pub mod ValueBytes
+pub mod ListBytes
 pub mod Search
 pub mod Laws

@@ -1,9 +1,11 @@
 // The byte forms of Cedar's types, values and schemas: whether one is whole, and where its parts lie.
 pub mod kinds;
 pub mod limits;
+pub mod lists;
 pub mod modes;
 pub mod numbers;
 pub mod refusals;
 pub mod search;
 pub mod types;
+pub mod values;
 pub mod widths;

@@ -1,6 +1,5 @@
 use native.Mathlib.Omega.{arith}
 use Rattle.forms.specs.Laws.Search.{at-room, find-yes, find-other, find-past}
-use borrow.Author.Needs.{needs}
 use Rattle.forms.proofs.search.find.Statement.{statement}
 use Rattle.forms.proofs.search.find.Tie as tie
 use Rattle.forms.proofs.search.find.Reads as reads
@@ -10,7 +9,7 @@ use Rattle.forms.proofs.search.skip_below.Reads as skip-below-reads
 
 -- src/search.rt:49:9
 skip-below-requires : tie.Need-skip-below-requires
-skip-below-requires c κs = search needs
+skip-below-requires c κs = omega arith
 
 -- src/search.rt:52:18
 mul-at : tie.Need-mul-at

@@ -1,6 +1,5 @@
 use native.Mathlib.Omega.{arith}
 use Rattle.forms.specs.Laws.Search.{SkipLeft, skip-start, skip-end, skip-room, skip-here, skip-fit, skip-again}
-use borrow.Author.Needs.{needs}
 use Rattle.forms.proofs.search.skip_below.Statement.{statement}
 use Rattle.forms.proofs.search.skip_below.Tie as tie
 use Rattle.forms.proofs.search.skip_below.Reads as reads
@@ -67,11 +66,11 @@ part-b-end c = omega (arith, skip-fit ((c .before .before .before .before .befor
 
 -- src/search.rt:36:9
 sub-left : tie.Need-sub-left Inv-loop μ-loop
-sub-left c = search needs
+sub-left c = omega arith
 
 -- src/search.rt:26:5
 loop-less : tie.Need-loop-less Inv-loop μ-loop
-loop-less c = search needs
+loop-less c = omega arith
 
 -- src/search.rt:26:5
 loop-again : tie.Need-loop-again Inv-loop μ-loop

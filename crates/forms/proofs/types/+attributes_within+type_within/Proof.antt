@@ -6,7 +6,6 @@ use Rattle.forms.specs.TypeBytes.{attrRow, whole}
 use Rattle.forms.specs.Laws.Parts.{length-part}
 use Rattle.forms.specs.Laws.Rows.{RowsLeft, rows-start, rows-end, rows-unfit, rows-short, rows-body, rows-again, table-short, table-over, table-open}
 use Rattle.forms.specs.Laws.Types.{whole-none, whole-empty, whole-by, record-short, record-flag, record-open, unknown-not, atom-open}
-use borrow.Author.Needs.{needs}
 use Prim.Native.Nat.{ℕ, _<_}
 use borrow.Fn.Kinds.{In}
 use borrow.Fn.PlainCycle.{Measures, is, falls, and}
@@ -71,7 +70,7 @@ attributes-within-add-start : (t : ℕ) → attributes-within-lts.Need-add-start
     attributes-within.Post
     attributes-within-Inv-loop
     attributes-within-μ-loop
-attributes-within-add-start t c = search needs
+attributes-within-add-start t c = omega arith
 
 -- src/types.rt:69:9
 attributes-within-returns : (t : ℕ) → attributes-within-lts.Need-returns (
@@ -101,7 +100,7 @@ attributes-within-u16-at-requires : (t : ℕ) → attributes-within-lts.Need-u16
     attributes-within.Post
     attributes-within-Inv-loop
     attributes-within-μ-loop
-attributes-within-u16-at-requires t c κs = search needs
+attributes-within-u16-at-requires t c κs = omega arith
 
 -- src/types.rt:72:23
 attributes-within-mul-end : (t : ℕ) → attributes-within-lts.Need-mul-end (
@@ -116,7 +115,7 @@ attributes-within-mul-end : (t : ℕ) → attributes-within-lts.Need-mul-end (
     attributes-within.Post
     attributes-within-Inv-loop
     attributes-within-μ-loop
-attributes-within-mul-end t c = search needs
+attributes-within-mul-end t c = omega arith
 
 -- src/types.rt:72:15
 attributes-within-add-end : (t : ℕ) → attributes-within-lts.Need-add-end (
@@ -131,7 +130,7 @@ attributes-within-add-end : (t : ℕ) → attributes-within-lts.Need-add-end (
     attributes-within.Post
     attributes-within-Inv-loop
     attributes-within-μ-loop
-attributes-within-add-end t c = search needs
+attributes-within-add-end t c = omega arith
 
 -- src/types.rt:74:9
 attributes-within-returns-2 : (t : ℕ) → attributes-within-lts.Need-returns-2 (
@@ -161,7 +160,7 @@ attributes-within-sub-e : (t : ℕ) → attributes-within-lts.Need-sub-e (
     attributes-within.Post
     attributes-within-Inv-loop
     attributes-within-μ-loop
-attributes-within-sub-e t c = search needs
+attributes-within-sub-e t c = omega arith
 
 -- src/types.rt:76:17
 attributes-within-part-e-start : (t : ℕ) → attributes-within-lts.Need-part-e-start (
@@ -176,7 +175,7 @@ attributes-within-part-e-start : (t : ℕ) → attributes-within-lts.Need-part-e
     attributes-within.Post
     attributes-within-Inv-loop
     attributes-within-μ-loop
-attributes-within-part-e-start t c = search needs
+attributes-within-part-e-start t c = omega arith
 
 -- src/types.rt:76:17
 attributes-within-part-e-end : (t : ℕ) → attributes-within-lts.Need-part-e-end (
@@ -191,7 +190,7 @@ attributes-within-part-e-end : (t : ℕ) → attributes-within-lts.Need-part-e-e
     attributes-within.Post
     attributes-within-Inv-loop
     attributes-within-μ-loop
-attributes-within-part-e-end t c = search needs
+attributes-within-part-e-end t c = omega arith
 
 -- src/types.rt:77:17
 attributes-within-sub-b : (t : ℕ) → attributes-within-lts.Need-sub-b (
@@ -206,7 +205,7 @@ attributes-within-sub-b : (t : ℕ) → attributes-within-lts.Need-sub-b (
     attributes-within.Post
     attributes-within-Inv-loop
     attributes-within-μ-loop
-attributes-within-sub-b t c = search needs
+attributes-within-sub-b t c = omega arith
 
 -- src/types.rt:77:17
 attributes-within-part-b-start : (t : ℕ) → attributes-within-lts.Need-part-b-start (
@@ -221,7 +220,7 @@ attributes-within-part-b-start : (t : ℕ) → attributes-within-lts.Need-part-b
     attributes-within.Post
     attributes-within-Inv-loop
     attributes-within-μ-loop
-attributes-within-part-b-start t c = search needs
+attributes-within-part-b-start t c = omega arith
 
 -- src/types.rt:77:17
 attributes-within-part-b-end : (t : ℕ) → attributes-within-lts.Need-part-b-end (
@@ -236,7 +235,7 @@ attributes-within-part-b-end : (t : ℕ) → attributes-within-lts.Need-part-b-e
     attributes-within.Post
     attributes-within-Inv-loop
     attributes-within-μ-loop
-attributes-within-part-b-end t c = search needs
+attributes-within-part-b-end t c = omega arith
 
 -- src/types.rt:80:5
 attributes-within-loop-holds : (t : ℕ) → attributes-within-lts.Need-loop-holds (
@@ -267,7 +266,7 @@ attributes-within-attribute-follows-requires :
     attributes-within.Post
     attributes-within-Inv-loop
     attributes-within-μ-loop
-attributes-within-attribute-follows-requires t c κs = search needs
+attributes-within-attribute-follows-requires t c κs = omega arith
 
 -- src/types.rt:82:13
 attributes-within-returns-3 : (t : ℕ) → attributes-within-lts.Need-returns-3 (
@@ -297,7 +296,7 @@ attributes-within-u16-at-requires-2 : (t : ℕ) → attributes-within-lts.Need-u
     attributes-within.Post
     attributes-within-Inv-loop
     attributes-within-μ-loop
-attributes-within-u16-at-requires-2 t c κs = search needs
+attributes-within-u16-at-requires-2 t c κs = omega arith
 
 -- src/types.rt:86:13
 attributes-within-returns-4 : (t : ℕ) → attributes-within-lts.Need-returns-4 (
@@ -327,7 +326,7 @@ attributes-within-sub-type-within : (t : ℕ) → attributes-within-lts.Need-sub
     attributes-within.Post
     attributes-within-Inv-loop
     attributes-within-μ-loop
-attributes-within-sub-type-within t c = search needs
+attributes-within-sub-type-within t c = omega arith
 
 -- src/types.rt:88:25
 attributes-within-part-type-within-start :
@@ -343,7 +342,7 @@ attributes-within-part-type-within-start :
     attributes-within.Post
     attributes-within-Inv-loop
     attributes-within-μ-loop
-attributes-within-part-type-within-start t c = search needs
+attributes-within-part-type-within-start t c = omega arith
 
 -- src/types.rt:88:25
 attributes-within-part-type-within-end : (t : ℕ) → attributes-within-lts.Need-part-type-within-end (
@@ -358,7 +357,7 @@ attributes-within-part-type-within-end : (t : ℕ) → attributes-within-lts.Nee
     attributes-within.Post
     attributes-within-Inv-loop
     attributes-within-μ-loop
-attributes-within-part-type-within-end t c = search needs
+attributes-within-part-type-within-end t c = omega arith
 
 -- src/types.rt:88:13
 attributes-within-type-within-requires : (t : ℕ) → attributes-within-lts.Need-type-within-requires (
@@ -373,7 +372,7 @@ attributes-within-type-within-requires : (t : ℕ) → attributes-within-lts.Nee
     attributes-within.Post
     attributes-within-Inv-loop
     attributes-within-μ-loop
-attributes-within-type-within-requires t c κs = search needs
+attributes-within-type-within-requires t c κs = omega arith
 
 -- src/types.rt:89:13
 attributes-within-returns-5 : (t : ℕ) → attributes-within-lts.Need-returns-5 (
@@ -403,7 +402,7 @@ attributes-within-u16-at-requires-3 : (t : ℕ) → attributes-within-lts.Need-u
     attributes-within.Post
     attributes-within-Inv-loop
     attributes-within-μ-loop
-attributes-within-u16-at-requires-3 t c κs = search needs
+attributes-within-u16-at-requires-3 t c κs = omega arith
 
 -- src/types.rt:91:15
 attributes-within-add-low : (t : ℕ) → attributes-within-lts.Need-add-low (
@@ -418,7 +417,7 @@ attributes-within-add-low : (t : ℕ) → attributes-within-lts.Need-add-low (
     attributes-within.Post
     attributes-within-Inv-loop
     attributes-within-μ-loop
-attributes-within-add-low t c = search needs
+attributes-within-add-low t c = omega arith
 
 -- src/types.rt:92:13
 attributes-within-sub-e-2 : (t : ℕ) → attributes-within-lts.Need-sub-e-2 (
@@ -433,7 +432,7 @@ attributes-within-sub-e-2 : (t : ℕ) → attributes-within-lts.Need-sub-e-2 (
     attributes-within.Post
     attributes-within-Inv-loop
     attributes-within-μ-loop
-attributes-within-sub-e-2 t c = search needs
+attributes-within-sub-e-2 t c = omega arith
 
 -- src/types.rt:92:13
 attributes-within-part-e-start-2 : (t : ℕ) → attributes-within-lts.Need-part-e-start-2 (
@@ -448,7 +447,7 @@ attributes-within-part-e-start-2 : (t : ℕ) → attributes-within-lts.Need-part
     attributes-within.Post
     attributes-within-Inv-loop
     attributes-within-μ-loop
-attributes-within-part-e-start-2 t c = search needs
+attributes-within-part-e-start-2 t c = omega arith
 
 -- src/types.rt:92:13
 attributes-within-part-e-end-2 : (t : ℕ) → attributes-within-lts.Need-part-e-end-2 (
@@ -463,7 +462,7 @@ attributes-within-part-e-end-2 : (t : ℕ) → attributes-within-lts.Need-part-e
     attributes-within.Post
     attributes-within-Inv-loop
     attributes-within-μ-loop
-attributes-within-part-e-end-2 t c = search needs
+attributes-within-part-e-end-2 t c = omega arith
 
 -- src/types.rt:93:13
 attributes-within-sub-b-2 : (t : ℕ) → attributes-within-lts.Need-sub-b-2 (
@@ -478,7 +477,7 @@ attributes-within-sub-b-2 : (t : ℕ) → attributes-within-lts.Need-sub-b-2 (
     attributes-within.Post
     attributes-within-Inv-loop
     attributes-within-μ-loop
-attributes-within-sub-b-2 t c = search needs
+attributes-within-sub-b-2 t c = omega arith
 
 -- src/types.rt:93:13
 attributes-within-part-b-start-2 : (t : ℕ) → attributes-within-lts.Need-part-b-start-2 (
@@ -493,7 +492,7 @@ attributes-within-part-b-start-2 : (t : ℕ) → attributes-within-lts.Need-part
     attributes-within.Post
     attributes-within-Inv-loop
     attributes-within-μ-loop
-attributes-within-part-b-start-2 t c = search needs
+attributes-within-part-b-start-2 t c = omega arith
 
 -- src/types.rt:93:13
 attributes-within-part-b-end-2 : (t : ℕ) → attributes-within-lts.Need-part-b-end-2 (
@@ -508,7 +507,7 @@ attributes-within-part-b-end-2 : (t : ℕ) → attributes-within-lts.Need-part-b
     attributes-within.Post
     attributes-within-Inv-loop
     attributes-within-μ-loop
-attributes-within-part-b-end-2 t c = search needs
+attributes-within-part-b-end-2 t c = omega arith
 
 -- src/types.rt:94:9
 attributes-within-sub-left : (t : ℕ) → attributes-within-lts.Need-sub-left (
@@ -523,7 +522,7 @@ attributes-within-sub-left : (t : ℕ) → attributes-within-lts.Need-sub-left (
     attributes-within.Post
     attributes-within-Inv-loop
     attributes-within-μ-loop
-attributes-within-sub-left t c = search needs
+attributes-within-sub-left t c = omega arith
 
 -- src/types.rt:80:5
 attributes-within-loop-less : (t : ℕ) → attributes-within-lts.Need-loop-less (
@@ -538,7 +537,7 @@ attributes-within-loop-less : (t : ℕ) → attributes-within-lts.Need-loop-less
     attributes-within.Post
     attributes-within-Inv-loop
     attributes-within-μ-loop
-attributes-within-loop-less t c = search needs
+attributes-within-loop-less t c = omega arith
 
 -- src/types.rt:80:5
 attributes-within-loop-again : (t : ℕ) → attributes-within-lts.Need-loop-again (
@@ -601,7 +600,7 @@ type-within-shared-slice-read-k : (t : ℕ) → type-within-lts.Need-shared-slic
   entity-within-reads.Asked,
   entity-within-reads.Learnt,
 ) (type-within-at t) type-within.Post
-type-within-shared-slice-read-k t c = search needs
+type-within-shared-slice-read-k t c = omega arith
 
 -- src/types.rt:111:34
 type-within-sub-type-within : (t : ℕ) → type-within-lts.Need-sub-type-within (
@@ -612,7 +611,7 @@ type-within-sub-type-within : (t : ℕ) → type-within-lts.Need-sub-type-within
   entity-within-reads.Asked,
   entity-within-reads.Learnt,
 ) (type-within-at t) type-within.Post
-type-within-sub-type-within t c = search needs
+type-within-sub-type-within t c = omega arith
 
 -- src/types.rt:111:34
 type-within-part-type-within-start : (t : ℕ) → type-within-lts.Need-part-type-within-start (
@@ -623,7 +622,7 @@ type-within-part-type-within-start : (t : ℕ) → type-within-lts.Need-part-typ
   entity-within-reads.Asked,
   entity-within-reads.Learnt,
 ) (type-within-at t) type-within.Post
-type-within-part-type-within-start t c = search needs
+type-within-part-type-within-start t c = omega arith
 
 -- src/types.rt:111:34
 type-within-part-type-within-end : (t : ℕ) → type-within-lts.Need-part-type-within-end (
@@ -634,7 +633,7 @@ type-within-part-type-within-end : (t : ℕ) → type-within-lts.Need-part-type-
   entity-within-reads.Asked,
   entity-within-reads.Learnt,
 ) (type-within-at t) type-within.Post
-type-within-part-type-within-end t c = search needs
+type-within-part-type-within-end t c = omega arith
 
 -- src/types.rt:111:43
 type-within-sub-type-within-2 : (t : ℕ) → type-within-lts.Need-sub-type-within-2 (
@@ -645,7 +644,7 @@ type-within-sub-type-within-2 : (t : ℕ) → type-within-lts.Need-sub-type-with
   entity-within-reads.Asked,
   entity-within-reads.Learnt,
 ) (type-within-at t) type-within.Post
-type-within-sub-type-within-2 t c = search needs
+type-within-sub-type-within-2 t c = omega arith
 
 -- src/types.rt:111:22
 type-within-type-within-requires : (t : ℕ) → type-within-lts.Need-type-within-requires (
@@ -656,7 +655,7 @@ type-within-type-within-requires : (t : ℕ) → type-within-lts.Need-type-withi
   entity-within-reads.Asked,
   entity-within-reads.Learnt,
 ) (type-within-at t) type-within.Post
-type-within-type-within-requires t c κs = search needs
+type-within-type-within-requires t c κs = omega arith
 
 -- src/types.rt:114:17
 type-within-returns-3 : (t : ℕ) → type-within-lts.Need-returns-3 (
@@ -678,7 +677,7 @@ type-within-shared-slice-read-if4 : (t : ℕ) → type-within-lts.Need-shared-sl
   entity-within-reads.Asked,
   entity-within-reads.Learnt,
 ) (type-within-at t) type-within.Post
-type-within-shared-slice-read-if4 t c = search needs
+type-within-shared-slice-read-if4 t c = omega arith
 
 -- src/types.rt:117:17
 type-within-returns-4 : (t : ℕ) → type-within-lts.Need-returns-4 (
@@ -700,7 +699,7 @@ type-within-sub-attributes-within : (t : ℕ) → type-within-lts.Need-sub-attri
   entity-within-reads.Asked,
   entity-within-reads.Learnt,
 ) (type-within-at t) type-within.Post
-type-within-sub-attributes-within t c = search needs
+type-within-sub-attributes-within t c = omega arith
 
 -- src/types.rt:119:13
 type-within-attributes-within-requires : (t : ℕ) → type-within-lts.Need-attributes-within-requires (
@@ -711,7 +710,7 @@ type-within-attributes-within-requires : (t : ℕ) → type-within-lts.Need-attr
   entity-within-reads.Asked,
   entity-within-reads.Learnt,
 ) (type-within-at t) type-within.Post
-type-within-attributes-within-requires t c κs = search needs
+type-within-attributes-within-requires t c κs = omega arith
 
 -- src/types.rt:121:25
 type-within-entity-within-requires : (t : ℕ) → type-within-lts.Need-entity-within-requires (
@@ -722,7 +721,7 @@ type-within-entity-within-requires : (t : ℕ) → type-within-lts.Need-entity-w
   entity-within-reads.Asked,
   entity-within-reads.Learnt,
 ) (type-within-at t) type-within.Post
-type-within-entity-within-requires t c κs = search needs
+type-within-entity-within-requires t c κs = omega arith
 
 -- src/types.rt:122:49
 type-within-sub-attributes-within-2 : (t : ℕ) → type-within-lts.Need-sub-attributes-within-2 (
@@ -733,7 +732,7 @@ type-within-sub-attributes-within-2 : (t : ℕ) → type-within-lts.Need-sub-att
   entity-within-reads.Asked,
   entity-within-reads.Learnt,
 ) (type-within-at t) type-within.Post
-type-within-sub-attributes-within-2 t c = search needs
+type-within-sub-attributes-within-2 t c = omega arith
 
 -- src/types.rt:122:25
 type-within-attributes-within-requires-2 :
@@ -745,7 +744,7 @@ type-within-attributes-within-requires-2 :
       entity-within-reads.Asked,
       entity-within-reads.Learnt,
     ) (type-within-at t) type-within.Post
-type-within-attributes-within-requires-2 t c κs = search needs
+type-within-attributes-within-requires-2 t c κs = omega arith
 
 -- src/types.rt:126:17
 type-within-returns-5 : (t : ℕ) → type-within-lts.Need-returns-5 (

@@ -1,6 +1,6 @@
+use native.Mathlib.Omega.{arith}
 use mathlib.Core.Path.{sym, _∙_}
 use Rattle.forms.specs.Laws.Types.{entity-short, entity-none, entity-other, entity-open}
-use borrow.Author.Needs.{needs}
 use Rattle.forms.proofs.types.entity_within.Statement.{statement}
 use Rattle.forms.proofs.types.entity_within.Tie as tie
 use Rattle.forms.proofs.types.entity_within.Reads as reads
@@ -14,7 +14,7 @@ returns c = entity-short ((c .before .before) .args .t .now) (c .if1 .taken)
 
 -- src/types.rt:41:9
 u16-at-requires : tie.Need-u16-at-requires
-u16-at-requires c κs = search needs
+u16-at-requires c κs = omega arith
 
 -- src/types.rt:43:9
 returns-2 : tie.Need-returns-2
@@ -22,11 +22,11 @@ returns-2 c = entity-none ((c .before .before .before .before) .args .t .now) ((
 
 -- src/types.rt:45:23
 mul-if3 : tie.Need-mul-if3
-mul-if3 c = search needs
+mul-if3 c = omega arith
 
 -- src/types.rt:45:19
 add-if3 : tie.Need-add-if3
-add-if3 c = search needs
+add-if3 c = omega arith
 
 -- src/types.rt:46:9
 returns-3 : tie.Need-returns-3
@@ -34,19 +34,19 @@ returns-3 c = entity-other ((c .before .before .before .before .before) .args .t
 
 -- src/types.rt:48:18
 sub-names-ascend : tie.Need-sub-names-ascend
-sub-names-ascend c = search needs
+sub-names-ascend c = omega arith
 
 -- src/types.rt:48:18
 part-names-ascend-start : tie.Need-part-names-ascend-start
-part-names-ascend-start c = search needs
+part-names-ascend-start c = omega arith
 
 -- src/types.rt:48:18
 part-names-ascend-end : tie.Need-part-names-ascend-end
-part-names-ascend-end c = search needs
+part-names-ascend-end c = omega arith
 
 -- src/types.rt:48:5
 names-ascend-requires : tie.Need-names-ascend-requires
-names-ascend-requires c κs = search needs
+names-ascend-requires c κs = omega arith
 
 -- src/types.rt:35:1
 returns-4 : tie.Need-returns-4

@@ -1,4 +1,3 @@
-use borrow.Author.Needs.{needs}
 use Prim.Native.Nat.{_*_, _≤_}
 use mathlib.Core.Path.{_≡_, refl}
 use lib.ListN.{length}
@@ -23,7 +22,7 @@ loop-holds c = names-start ((c .before) .pre)
 
 -- src/types.rt:20:13
 u16-at-requires : tie.Need-u16-at-requires Inv-loop μ-loop
-u16-at-requires c κs = search needs
+u16-at-requires c κs = omega arith
 
 -- src/types.rt:22:13
 returns : tie.Need-returns Inv-loop μ-loop
@@ -31,27 +30,27 @@ returns c = names-low ((c .before .before .before) .loop .inv) ((c .before .befo
 
 -- src/types.rt:24:15
 add-low : tie.Need-add-low Inv-loop μ-loop
-add-low c = search needs
+add-low c = omega arith
 
 -- src/types.rt:25:13
 sub-b : tie.Need-sub-b Inv-loop μ-loop
-sub-b c = search needs
+sub-b c = omega arith
 
 -- src/types.rt:25:13
 part-b-start : tie.Need-part-b-start Inv-loop μ-loop
-part-b-start c = search needs
+part-b-start c = omega arith
 
 -- src/types.rt:25:13
 part-b-end : tie.Need-part-b-end Inv-loop μ-loop
-part-b-end c = search needs
+part-b-end c = omega arith
 
 -- src/types.rt:26:9
 sub-left : tie.Need-sub-left Inv-loop μ-loop
-sub-left c = search needs
+sub-left c = omega arith
 
 -- src/types.rt:19:5
 loop-less : tie.Need-loop-less Inv-loop μ-loop
-loop-less c = search needs
+loop-less c = omega arith
 
 -- src/types.rt:19:5
 loop-again : tie.Need-loop-again Inv-loop μ-loop

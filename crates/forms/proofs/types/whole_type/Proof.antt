@@ -1,7 +1,7 @@
+use native.Mathlib.Omega.{arith}
 use Rattle.cedar.specs.TypeForm.{parse}
 use Rattle.forms.specs.Laws.Sure.{within-over, within-yes}
 use Rattle.forms.specs.Laws.TypeTwin.{type-twin}
-use borrow.Author.Needs.{needs}
 use Rattle.forms.proofs.types.whole_type.Statement.{statement}
 use Rattle.forms.proofs.types.whole_type.Tie as tie
 use Rattle.forms.proofs.types.whole_type.Reads as reads
@@ -14,7 +14,7 @@ returns c = within-over 4096 (parse 16) ((c .before .before) .args .t .now) (typ
 
 -- src/types.rt:142:5
 type-within-requires : tie.Need-type-within-requires
-type-within-requires c κs = search needs
+type-within-requires c κs = omega arith
 
 -- src/types.rt:136:1
 returns-2 : tie.Need-returns-2

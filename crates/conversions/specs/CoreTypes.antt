@@ -1,0 +1,18 @@
+-- The conversion to a core type, with its refusal. Assumes nothing: these are definitions.
+use Prim.Native.Nat.{ℕ}
+use mathlib.Core.Bool.{Bool, cond}
+use lib.Dec.{eqb}
+use Rattle.cedar.specs.Types.{Ty, Attrs}
+use Rattle.cedar.specs.Conversion.{convert, convertAttrs}
+use Rattle.cedar.specs.Result.{Result, notConvertible}
+use Rattle.bounds.specs.Extents.{orRefuse}
+
+unfoldable pub core : Ty → Result Ty
+core t = orRefuse notConvertible (convert t)
+
+unfoldable pub coreAttrs : Attrs → Result Attrs
+coreAttrs xs = orRefuse notConvertible (convertAttrs xs)
+
+-- The kind of an atom's core type: True and False become Bool.
+abbrev pub boolOr : ℕ → ℕ
+boolOr k = cond (eqb k 1) 3 (cond (eqb k 2) 3 k)

@@ -1,0 +1,2 @@
+-- Laws of the definitions, for the proofs here and in the crates above.
+pub mod CoreTypes

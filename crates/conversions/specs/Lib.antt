@@ -1,0 +1,2 @@
+pub mod CoreTypes
+pub mod Laws

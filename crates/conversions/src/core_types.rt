@@ -1,0 +1,149 @@
+// `TryFrom<Type>` into `CoreSchemaType`: a length pass, and a write pass where every part can be expressed.
+use bounds::extents::Extent;
+use bounds::extents::capped;
+use bounds::tables::bodies_at;
+use bounds::tables::entries_at;
+use bounds::writers::put_attribute;
+use bounds::writers::put_entity;
+use bounds::writers::put_kind;
+use bounds::writers::put_one;
+use bounds::writers::put_record;
+use forms::kinds::Kind;
+use forms::numbers::u16_at;
+use forms::refusals::Refusal;
+use forms::widths::Width;
+ghost use mathlib.Core.Path.{_≡_};
+ghost use mathlib.Core.Bool.{true};
+ghost use Rattle.cedar.specs.TypeForm.{enc};
+ghost use Rattle.forms.specs.TypeBytes.{whole, dec, decA, Sound};
+ghost use Rattle.bounds.specs.Extents.{extentOf, formOf, table, Ready};
+ghost use Rattle.bounds.specs.Written.{Written};
+ghost use Rattle.conversions.specs.CoreTypes.{core, coreAttrs, boolOr};
+
+// How long the core type's form is.
+pub fn core_extent(t: &[u8], levels: usize) -> Extent
+    requires { ⌜ whole levels (now t) ≡ true ⌝ }
+    ensures { λ r. ⌜ r ≡ extentOf enc (core (dec levels (now (t .entry)))) ⌝ }
+{
+    let k = t[0];
+    match k {
+        Kind::NEVER => Extent::Not(Refusal::CONVERSION),
+        Kind::ANY_ENTITY => Extent::Not(Refusal::CONVERSION),
+        Kind::SET => core_extent(&t[1..], levels - 1).plus(1),
+        Kind::RECORD => {
+            let n = u16_at(t, 2);
+            core_attributes_extent(entries_at(t, 2), bodies_at(t, 2), n, levels - 1).plus(4)
+        }
+        Kind::ENTITY => {
+            if u16_at(t, 1) == 1 {
+                return Extent::Of(5);
+            }
+            Extent::Not(Refusal::CONVERSION)
+        }
+        Kind::ACTION => Extent::Of(5),
+        Kind::EXTENSION => Extent::Of(3),
+        _ => Extent::Of(1),
+    }
+}
+
+// How long the entries and bodies of a record's core type are.
+fn core_attributes_extent(es: &[u8], bs: &[u8], n: usize, levels: usize) -> Extent
+    requires { ⌜ Sound levels n 0 (now es) (now bs) ⌝ }
+    ensures { λ r. ⌜ r ≡ extentOf table (coreAttrs (decA (dec levels) n (now (es .entry)) (now (bs .entry)))) ⌝ }
+{
+    let mut e = es;
+    let mut b = bs;
+    let mut left = n;
+    let mut sum = 0;
+    while 0 < left {
+        let len = u16_at(e, 3);
+        let Extent::Of(x) = core_extent(&b[0..len], levels) else {
+            return Extent::Not(Refusal::CONVERSION);
+        };
+        sum = capped(sum + x + Width::ATTRIBUTE);
+        e = &e[Width::ATTRIBUTE..];
+        b = &b[len..];
+        left -= 1;
+    }
+    Extent::Of(sum)
+}
+
+// True and False become Bool.
+fn bool_or(k: u8) -> u8
+    ensures { λ r. ⌜ r ≡ boolOr k ⌝ }
+{
+    if k == Kind::TRUE {
+        return Kind::BOOL;
+    }
+    if k == Kind::FALSE {
+        return Kind::BOOL;
+    }
+    k
+}
+
+// Writes the core type's form, and says how long it is.
+pub fn write_core(t: &[u8], levels: usize, out: &mut [u8]) -> usize
+    requires { ⌜ whole levels (now t) ≡ true ⌝ }
+    requires { ⌜ Ready enc (core (dec levels (now t))) (now out) ⌝ }
+    ensures { λ r. ⌜ Written (formOf enc (core (dec levels (now (t .entry))))) (now (out .entry)) (now (out .exit)) r ⌝ }
+{
+    let k = t[0];
+    match k {
+        Kind::SET => {
+            put_one(out, Kind::SET);
+            write_core(&t[1..], levels - 1, &mut out[1..]) + 1
+        }
+        Kind::RECORD => {
+            let n = u16_at(t, 2);
+            put_record(out, t[1], n);
+            write_core_attributes(
+                entries_at(t, 2),
+                bodies_at(t, 2),
+                n,
+                levels - 1,
+                &mut out[4..],
+            )
+                + 4
+        }
+        Kind::ENTITY => {
+            put_entity(out, u16_at(t, 3));
+            5
+        }
+        Kind::ACTION => {
+            put_entity(out, u16_at(t, 1));
+            5
+        }
+        Kind::EXTENSION => {
+            put_kind(out, Kind::EXTENSION, u16_at(t, 1));
+            3
+        }
+        _ => {
+            put_one(out, bool_or(k));
+            1
+        }
+    }
+}
+
+// Writes the entries and bodies of a record's core type, and says how long they are.
+fn write_core_attributes(es: &[u8], bs: &[u8], n: usize, levels: usize, out: &mut [u8]) -> usize
+    requires { ⌜ Sound levels n 0 (now es) (now bs) ⌝ }
+    requires { ⌜ Ready table (coreAttrs (decA (dec levels) n (now es) (now bs))) (now out) ⌝ }
+    ensures { λ r. ⌜ Written (formOf table (coreAttrs (decA (dec levels) n (now (es .entry)) (now (bs .entry))))) (now (out .entry)) (now (out .exit)) r ⌝ }
+{
+    let mut e = es;
+    let mut b = bs;
+    let mut left = n;
+    let mut at = 0;
+    let mut pos = Width::ATTRIBUTE * n;
+    while 0 < left {
+        let len = u16_at(e, 3);
+        let x = write_core(&b[0..len], levels, &mut out[pos..]);
+        put_attribute(&mut out[at..], u16_at(e, 0), e[2], x);
+        at += Width::ATTRIBUTE;
+        pos += x;
+        e = &e[Width::ATTRIBUTE..];
+        b = &b[len..];
+        left -= 1;
+    }
+    pos
+}

@@ -1,0 +1,117 @@
+use mathlib.Core.Path.{refl}
+use mathlib.Core.Bool.{true}
+use Rattle.cedar.specs.Limits.{standard}
+use Rattle.forms.specs.Rows.{noneLeft}
+use Rattle.forms.specs.ValueBytes.{memberRow}
+use Rattle.forms.specs.ListBytes.{typeFits}
+use Rattle.forms.specs.Laws.Rows.{RowsLeft, rows-start, rows-end, rows-short, rows-body, rows-again}
+use native.Mathlib.Omega.{arith}
+use Rattle.forms.proofs.lists.types_within.Statement.{statement}
+use Rattle.forms.proofs.lists.types_within.Tie as tie
+use Rattle.forms.proofs.lists.types_within.Reads as reads
+use Rattle.forms.proofs.lists.types_within.Lts as lts
+use Rattle.forms.proofs.numbers.u16_at.Reads as u16-at-reads
+use Rattle.forms.proofs.types.whole_type.Reads as whole-type-reads
+
+abbrev Inv-loop : tie.InvT-loop
+Inv-loop es bs n e₀ b₀ left₀ e b left = RowsLeft memberRow (λ _. typeFits standard) noneLeft n tt es bs left tt e b
+
+abbrev μ-loop : tie.MeasureT-loop
+μ-loop es bs n e₀ b₀ left₀ e b left = left
+
+-- src/lists.rt:22:5
+loop-holds : tie.Need-loop-holds Inv-loop μ-loop
+loop-holds c = rows-start ((c .before .before) .pre)
+
+-- src/lists.rt:23:13
+u16-at-requires : tie.Need-u16-at-requires Inv-loop μ-loop
+u16-at-requires c κs = omega arith
+
+-- src/lists.rt:25:13
+returns : tie.Need-returns Inv-loop μ-loop
+returns c = rows-short ((c .before .before .before) .loop .inv) ((c .before .before) .loop-test .taken) ((c .before) .u16-at .result) ((c .before) .u16-at .ensures .0) (c .if1 .taken)
+
+-- src/lists.rt:27:24
+sub-whole-type : tie.Need-sub-whole-type Inv-loop μ-loop
+sub-whole-type c = omega arith
+
+-- src/lists.rt:27:24
+part-whole-type-start : tie.Need-part-whole-type-start Inv-loop μ-loop
+part-whole-type-start c = omega arith
+
+-- src/lists.rt:27:24
+part-whole-type-end : tie.Need-part-whole-type-end Inv-loop μ-loop
+part-whole-type-end c = omega arith
+
+-- src/lists.rt:27:13
+whole-type-requires : tie.Need-whole-type-requires Inv-loop μ-loop
+whole-type-requires c κs = omega arith
+
+-- src/lists.rt:28:13
+returns-2 : tie.Need-returns-2 Inv-loop μ-loop
+returns-2 c = rows-body ((c .before .before .before .before .before .before) .loop .inv) ((c .before .before .before .before .before) .loop-test .taken) ((c .before .before .before .before) .u16-at .result) ((c .before .before .before .before) .u16-at .ensures .0) ((c .before) .whole-type .result) ((c .before) .whole-type .ensures) (c .if2 .taken)
+
+-- src/lists.rt:30:13
+sub-e : tie.Need-sub-e Inv-loop μ-loop
+sub-e c = omega arith
+
+-- src/lists.rt:30:13
+part-e-start : tie.Need-part-e-start Inv-loop μ-loop
+part-e-start c = omega arith
+
+-- src/lists.rt:30:13
+part-e-end : tie.Need-part-e-end Inv-loop μ-loop
+part-e-end c = omega arith
+
+-- src/lists.rt:31:13
+sub-b : tie.Need-sub-b Inv-loop μ-loop
+sub-b c = omega arith
+
+-- src/lists.rt:31:13
+part-b-start : tie.Need-part-b-start Inv-loop μ-loop
+part-b-start c = omega arith
+
+-- src/lists.rt:31:13
+part-b-end : tie.Need-part-b-end Inv-loop μ-loop
+part-b-end c = omega arith
+
+-- src/lists.rt:32:9
+sub-left : tie.Need-sub-left Inv-loop μ-loop
+sub-left c = omega arith
+
+-- src/lists.rt:22:5
+loop-less : tie.Need-loop-less Inv-loop μ-loop
+loop-less c = omega arith
+
+-- src/lists.rt:22:5
+loop-again : tie.Need-loop-again Inv-loop μ-loop
+loop-again c = rows-again ((c .before .before .before .before .before .before .before .before) .loop .inv) ((c .before .before .before .before .before .before .before) .loop-test .taken) ((c .before .before .before .before .before .before) .u16-at .result) ((c .before .before .before .before .before .before) .u16-at .ensures .0) true refl refl ((c .before .before .before .before .before) .if1 .left) ((c .before .before .before) .whole-type .result) ((c .before .before .before) .whole-type .ensures) ((c .before .before) .if2 .left) tt refl
+
+-- src/lists.rt:15:1
+returns-3 : tie.Need-returns-3 Inv-loop μ-loop
+returns-3 c = rows-end ((c .before) .loop .inv) (c .loop-test .left) _ refl
+
+pub types-within-spec : {M : Type 1} → statement M
+types-within-spec =
+    tie.close
+    (tie.spec
+    Inv-loop
+    μ-loop
+    loop-holds
+    u16-at-requires
+    returns
+    sub-whole-type
+    part-whole-type-start
+    part-whole-type-end
+    whole-type-requires
+    returns-2
+    sub-e
+    part-e-start
+    part-e-end
+    sub-b
+    part-b-start
+    part-b-end
+    sub-left
+    loop-less
+    loop-again
+    returns-3)

@@ -1,0 +1,96 @@
+use mathlib.Core.Path.{sym, _∙_}
+use mathlib.Core.Bool.{false}
+use Prim.Native.Nat.{_+_, _*_}
+use Rattle.cedar.specs.Limits.{standard}
+use Rattle.cedar.specs.ListForm.{parseList}
+use Rattle.cedar.specs.Whole.{wholeType}
+use Rattle.forms.specs.Laws.Parts.{length-part}
+use Rattle.forms.specs.Laws.Sure.{within-over, within-yes}
+use Rattle.forms.specs.Laws.Lists.{list-twin, list-short, list-many, list-over, list-open}
+use native.Mathlib.Omega.{arith}
+use Rattle.forms.proofs.lists.whole_list.Statement.{statement}
+use Rattle.forms.proofs.lists.whole_list.Tie as tie
+use Rattle.forms.proofs.lists.whole_list.Reads as reads
+use Rattle.forms.proofs.lists.whole_list.Lts as lts
+use Rattle.forms.proofs.lists.types_within.Reads as types-within-reads
+use Rattle.forms.proofs.numbers.u16_at.Reads as u16-at-reads
+
+-- src/lists.rt:42:9
+returns : tie.Need-returns
+returns c = within-over 32768 (parseList (λ c. wholeType standard c)) ((c .before .before) .args .l .now) (list-twin standard ((c .before .before) .args .l .now)) (c .if1 .taken)
+
+-- src/lists.rt:45:9
+returns-2 : tie.Need-returns-2
+returns-2 c = within-yes 32768 (parseList (λ c. wholeType standard c)) ((c .before .before .before) .args .l .now) (list-twin standard ((c .before .before .before) .args .l .now)) ((c .before) .if1 .left) false (list-short standard ((c .before .before .before) .args .l .now) (c .if2 .taken))
+
+-- src/lists.rt:47:9
+u16-at-requires : tie.Need-u16-at-requires
+u16-at-requires c κs = omega arith
+
+-- src/lists.rt:49:9
+returns-3 : tie.Need-returns-3
+returns-3 c = within-yes 32768 (parseList (λ c. wholeType standard c)) ((c .before .before .before .before .before) .args .l .now) (list-twin standard ((c .before .before .before .before .before) .args .l .now)) ((c .before .before .before) .if1 .left) false (list-many standard ((c .before .before .before .before .before) .args .l .now) ((c .before) .u16-at .result) ((c .before) .u16-at .ensures .0) (c .if3 .taken))
+
+-- src/lists.rt:51:19
+mul-end : tie.Need-mul-end
+mul-end c = omega arith
+
+-- src/lists.rt:51:15
+add-end : tie.Need-add-end
+add-end c = omega arith
+
+-- src/lists.rt:53:9
+returns-4 : tie.Need-returns-4
+returns-4 c = within-yes 32768 (parseList (λ c. wholeType standard c)) ((c .before .before .before .before .before .before) .args .l .now) (list-twin standard ((c .before .before .before .before .before .before) .args .l .now)) ((c .before .before .before .before) .if1 .left) false (list-over standard ((c .before .before .before .before .before .before) .args .l .now) ((c .before .before) .u16-at .result) ((c .before .before) .u16-at .ensures .0) (c .if4 .taken))
+
+-- src/lists.rt:55:18
+sub-types-within : tie.Need-sub-types-within
+sub-types-within c = omega arith
+
+-- src/lists.rt:55:18
+part-types-within-start : tie.Need-part-types-within-start
+part-types-within-start c = omega arith
+
+-- src/lists.rt:55:18
+part-types-within-end : tie.Need-part-types-within-end
+part-types-within-end c = omega arith
+
+-- src/lists.rt:55:30
+sub-types-within-2 : tie.Need-sub-types-within-2
+sub-types-within-2 c = omega arith
+
+-- src/lists.rt:55:30
+part-types-within-start-2 : tie.Need-part-types-within-start-2
+part-types-within-start-2 c = omega arith
+
+-- src/lists.rt:55:30
+part-types-within-end-2 : tie.Need-part-types-within-end-2
+part-types-within-end-2 c = omega arith
+
+-- src/lists.rt:55:5
+types-within-requires : tie.Need-types-within-requires
+types-within-requires c κs = omega arith
+
+-- src/lists.rt:38:1
+returns-5 : tie.Need-returns-5
+returns-5 c = within-yes 32768 (parseList (λ c. wholeType standard c)) ((c .before .before .before .before .before .before .before .before .before) .args .l .now) (list-twin standard ((c .before .before .before .before .before .before .before .before .before) .args .l .now)) ((c .before .before .before .before .before .before .before) .if1 .left) (c .types-within .result) (c .types-within .ensures ∙ sym (list-open standard ((c .before .before .before .before .before .before .before .before .before) .args .l .now) ((c .before .before .before .before .before) .u16-at .result) ((c .before .before .before .before .before) .u16-at .ensures .0) ((c .before .before .before .before .before .before) .if2 .left) ((c .before .before .before .before) .if3 .left) ((c .before .before .before) .if4 .left)))
+
+pub whole-list-spec : {M : Type 1} → statement M
+whole-list-spec =
+    tie.close
+    (tie.spec
+    returns
+    returns-2
+    u16-at-requires
+    returns-3
+    mul-end
+    add-end
+    returns-4
+    sub-types-within
+    part-types-within-start
+    part-types-within-end
+    sub-types-within-2
+    part-types-within-start-2
+    part-types-within-end-2
+    types-within-requires
+    returns-5)

@@ -1,0 +1,24 @@
+use native.Mathlib.Omega.{arith}
+use Rattle.cedar.specs.ValueForm.{parseValue}
+use Rattle.forms.specs.Laws.Sure.{within-over, within-yes}
+use Rattle.forms.specs.Laws.ValueTwin.{value-twin}
+use Rattle.forms.proofs.values.whole_value.Statement.{statement}
+use Rattle.forms.proofs.values.whole_value.Tie as tie
+use Rattle.forms.proofs.values.whole_value.Reads as reads
+use Rattle.forms.proofs.values.whole_value.Lts as lts
+use Rattle.forms.proofs.values.value_within.Reads as value-within-reads
+
+-- src/values.rt:119:9
+returns : tie.Need-returns
+returns c = within-over 4096 (parseValue 16) ((c .before .before) .args .v .now) (value-twin 16 ((c .before .before) .args .v .now)) (c .if1 .taken)
+
+-- src/values.rt:121:5
+value-within-requires : tie.Need-value-within-requires
+value-within-requires c κs = omega arith
+
+-- src/values.rt:115:1
+returns-2 : tie.Need-returns-2
+returns-2 c = within-yes 4096 (parseValue 16) ((c .before .before .before) .args .v .now) (value-twin 16 ((c .before .before .before) .args .v .now)) ((c .before) .if1 .left) (c .value-within .result) (c .value-within .ensures)
+
+pub whole-value-spec : {M : Type 1} → statement M
+whole-value-spec = tie.close (tie.spec returns value-within-requires returns-2)

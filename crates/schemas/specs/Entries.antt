@@ -1,0 +1,63 @@
+-- Searches in a whole schema by key. Assumes nothing: these are definitions.
+use Prim.Native.Nat.{ℕ, zero, suc, _+_, _*_, _-_, _≤_}
+use mathlib.Core.List.{List}
+use mathlib.Core.Bool.{Bool, true, _&&_, cond}
+use mathlib.Core.Path.{_≡_}
+use lib.Dec.{eqb}
+use lib.ListN.{length, getD}
+use Rattle.cedar.specs.Types.{Attrs}
+use Rattle.cedar.specs.Limits.{standard, blockBytes}
+use Rattle.forms.specs.Parts.{part, rest, rd}
+use Rattle.forms.specs.TypeBytes.{dec, decA}
+use Rattle.schemas.specs.SchemaBytes.{sectionEnd, sectionsOf, wholeS}
+use Rattle.schemas.specs.declared.sections.Section.{Section}
+use Rattle.schemas.specs.declared.sections.Sections.{Sections}
+use Rattle.schemas.specs.declared.entries.Key.{Key}
+use Rattle.schemas.specs.declared.entries.Key.the-variants.{Name, Uid}
+use Rattle.schemas.specs.declared.entries.FoundEntry.{FoundEntry}
+use Rattle.schemas.specs.declared.entries.FoundEntry.the-variants.{At, Nothing}
+use Rattle.schemas.specs.declared.entries.Signature.{Signature}
+use Rattle.schemas.specs.declared.entries.FoundFunction.{FoundFunction}
+use Rattle.schemas.specs.declared.entries.FoundFunction.the-variants as functions
+
+-- The first entry has the key.
+abbrev pub keyIs : Key → List ℕ → Bool
+keyIs (Name n) es = eqb n (rd es 0)
+keyIs (Uid k i) es = eqb k (rd es 0) && eqb i (rd es 2)
+
+-- The first of n entries from `at` on that has the key, with its body; the bodies start at `start`.
+unfoldable pub entryFrom : ℕ → Key → ℕ → ℕ → ℕ → List ℕ → FoundEntry
+entryFrom w key zero at start b = Nothing
+entryFrom w key (suc n) at start b =
+    cond (keyIs key (rest at b)) (At at start (start + rd (rest at b) (w - 2))) (entryFrom w key n (at + w) (start + rd (rest at b) (w - 2)) b)
+
+-- A section's entry of a key.
+abbrev pub entryAt : ℕ → Key → Section → List ℕ → FoundEntry
+entryAt w key x b = entryFrom w key (x .count) (x .entries) (x .bodies) b
+
+-- What a function's entry says.
+abbrev pub signatureOf : List ℕ → FoundEntry → FoundFunction
+signatureOf b (At i start end) = functions.At (record { returns = eqb (getD (rest i b) 2 0) 1; extension = rd (rest i b) 3; start = start; end = end })
+signatureOf b Nothing = functions.Nothing
+
+abbrev pub functionAt : ℕ → Section → List ℕ → FoundFunction
+functionAt name x b = signatureOf b (entryAt 7 (Name name) x b)
+
+-- A section of so wide entries lies within the bytes.
+pub record LaidIn (w : ℕ) (x : Section) (b : List ℕ) : Type 0 where
+  pub wide : 5 ≤ w
+  pub entries : x .entries + w * x .count ≤ length b
+  pub room : sectionEnd w x b ≤ length b
+
+-- A schema that was checked, and its sections.
+pub record Kept (b : List ℕ) (x : Sections) : Type 0 where
+  pub few : length b ≤ blockBytes
+  pub yes : wholeS standard b ≡ true
+  pub is : x ≡ sectionsOf b
+
+-- What a record form says.
+abbrev pub openAt : List ℕ → Bool
+openAt c = eqb (getD c 1 0) 1
+
+abbrev pub attrsAt : List ℕ → Attrs
+attrsAt c = decA (dec (standard .levels - 1)) (rd c 2) (part 4 (4 + 5 * rd c 2) c) (rest (4 + 5 * rd c 2) c)

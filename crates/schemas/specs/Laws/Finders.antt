@@ -1,0 +1,286 @@
+-- What the finders of a whole schema find: cedar's entries. Assumes nothing.
+use mathlib.Core.Path.{_≡_, refl, ap, ap₂, sym, _∙_, subst}
+use mathlib.Core.List.{List, [], _∷_}
+use mathlib.Core.Bool.{Bool, true, false, not, _&&_, cond}
+use mathlib.Core.Option.{Option, none, some}
+use Prim.Native.Nat.{ℕ, zero, suc, _+_, _*_, _-_, _≤_, _<_}
+use native.Mathlib.Omega.{arith}
+use lib.Dec.{eqb, leb}
+use lib.ListN.{length, getD}
+use borrow.Author.Tests.{leb-true, le-leb, eqb-true}
+use Rattle.cedar.specs.Types.{Ty, Attrs, Arg, Entity, Action, Function, maybe}
+use Rattle.cedar.specs.Limits.{standard, blockBytes}
+use Rattle.cedar.specs.SchemaForm.{entitiesOf, actionsOf, functionsOf}
+use Rattle.cedar.specs.Attribute.{entityIn, entityOf}
+use Rattle.cedar.specs.Literal.{actionIn, actionOf}
+use Rattle.cedar.specs.Conformance.{functionIn, functionOf}
+use Rattle.cedar.specs.Whole.{wholeSchema}
+use Rattle.forms.specs.Parts.{part, rest, rd, kind}
+use Rattle.forms.specs.TypeBytes.{whole, dec}
+use Rattle.forms.specs.Laws.Parts.{and-l, and-r}
+use Rattle.forms.specs.Laws.Sure.{sure-yes}
+use Rattle.forms.specs.Laws.Views.{IsRecord, is-record}
+use Rattle.schemas.specs.SchemaBytes.{entityRow, actionRow, functionRow, entityBody, actionBody, functionBody, bodyFits, bodyOf, recordOf, argsFit, argsOf}
+use Rattle.schemas.specs.SchemaBytes.{sectionFits, sectionOf, sectionEnd, entitySection, actionSection, functionSection, sectionsOf, headFits, wholeS, decS, checked}
+use Rattle.schemas.specs.Entries.{entryFrom, entryAt, signatureOf, functionAt, LaidIn, Kept, openAt, attrsAt}
+use Rattle.schemas.specs.Laws.Walks.{section-ends}
+use Rattle.schemas.specs.Laws.Bodies.{IsBody, is-body}
+use Rattle.schemas.specs.Laws.Checks.{Head, head, checked-whole}
+use Rattle.schemas.specs.Laws.SchemaTwin.{whole-schema-twin}
+use Rattle.schemas.specs.Laws.Entries.{lookup, RowAt, FoundIn, found-in}
+use Rattle.schemas.specs.declared.sections.Section.{Section}
+use Rattle.schemas.specs.declared.sections.Sections.{Sections}
+use Rattle.schemas.specs.declared.whole.Checked.{Checked}
+use Rattle.schemas.specs.declared.whole.Checked.the-variants as checks
+use Rattle.schemas.specs.declared.entries.Key.the-variants.{Name, Uid}
+use Rattle.schemas.specs.declared.entries.FoundEntry.{FoundEntry}
+use Rattle.schemas.specs.declared.entries.FoundEntry.the-variants.{At, Nothing}
+use Rattle.schemas.specs.declared.entries.Signature.{Signature}
+use Rattle.schemas.specs.declared.entries.FoundFunction.{FoundFunction}
+use Rattle.schemas.specs.declared.entries.FoundFunction.the-variants as functions
+
+-- Checking a schema keeps it.
+pub kept : (b : List ℕ) (y : Checked) → y ≡ checked b → (x : Sections) → y ≡ checks.Whole x → Kept b x
+kept b y q x h =
+    let t = checked-whole b y q x h in
+    record {
+      few = leb-true (length b) blockBytes (and-l (leb (length b) blockBytes) (wholeS standard b) (t .0));
+      yes = and-r (leb (length b) blockBytes) (wholeS standard b) (t .0);
+      is = t .1;
+    }
+
+-- The three sections of a whole schema.
+record Parts (b : List ℕ) : Type 0 where
+  pub counts : Head b
+  pub first : sectionFits entityRow (entityBody standard) 0 (entitySection b) b ≡ true
+  pub second : sectionFits actionRow (actionBody standard) (0, 0) (actionSection b) b ≡ true
+  pub third : sectionFits functionRow functionBody 0 (functionSection b) b ≡ true
+  pub end₀ : actionSection b .bodies ≤ length b
+  pub end₁ : functionSection b .bodies ≤ length b
+  pub end₂ : sectionEnd 7 (functionSection b) b ≤ length b
+
+parts : (b : List ℕ) → wholeS standard b ≡ true → Parts b
+unfolding wholeS
+parts b h =
+    let f = sectionFits entityRow (entityBody standard) 0 (entitySection b) b in
+    let s = sectionFits actionRow (actionBody standard) (0, 0) (actionSection b) b in
+    let t = sectionFits functionRow functionBody 0 (functionSection b) b in
+    let u = eqb (sectionEnd 7 (functionSection b) b) (length b) in
+    let c = head b (and-l (headFits b) (f && (s && (t && u))) h) in
+    let h₁ = and-r (headFits b) (f && (s && (t && u))) h in
+    let h₂ = and-r f (s && (t && u)) h₁ in
+    let h₃ = and-r s (t && u) h₂ in
+    let e₀ = section-ends entityRow (entityBody standard) 0 (entitySection b) b (and-l f (s && (t && u)) h₁) (c .fit) in
+    let e₁ = section-ends actionRow (actionBody standard) (0, 0) (actionSection b) b (and-l s (t && u) h₂) e₀ in
+    record {
+      counts = c;
+      first = and-l f (s && (t && u)) h₁;
+      second = and-l s (t && u) h₂;
+      third = and-l t u h₃;
+      end₀ = e₀;
+      end₁ = e₁;
+      end₂ = section-ends functionRow functionBody 0 (functionSection b) b (and-l t u h₃) e₁;
+    }
+
+-- A body that was found: a whole record form within the limits.
+pub record BodyAt (b : List ℕ) (a e : ℕ) : Type 0 where
+  pub order : a ≤ e
+  pub inside : e ≤ length b
+  pub few : length (part a e b) ≤ standard .bytes
+  pub good : whole (standard .levels) (part a e b) ≡ true
+  pub kind-is : kind (part a e b) ≡ 8
+  pub view : IsRecord (standard .levels) (part a e b)
+
+pub record EntityAt (b : List ℕ) (name a e : ℕ) : Type 0 where
+  pub body : BodyAt b a e
+  pub enumerated : Bool
+  pub is : entityOf (decS standard b) name ≡ some (record { name = name; enumerated = enumerated; isOpen = openAt (part a e b); attrs = attrsAt (part a e b) })
+
+pub record ActionAt (b : List ℕ) (k i a e : ℕ) : Type 0 where
+  pub body : BodyAt b a e
+  pub is : actionOf (decS standard b) k i ≡ some (record { type = k; id = i; attrs = attrsAt (part a e b) })
+
+pub record FunctionAt (b : List ℕ) (name : ℕ) (f : Signature) : Type 0 where
+  pub order : f .start ≤ f .end
+  pub inside : f .end ≤ length b
+  pub args : argsFit (part (f .start) (f .end) b) ≡ true
+  pub is : functionOf (decS standard b) name ≡ some (record { name = name; returns = cond (f .returns) (some (f .extension)) none; args = argsOf (part (f .start) (f .end) b) })
+
+body-at : (b : List ℕ) (a e : ℕ) (closed : Bool) → a ≤ e → e ≤ length b → bodyFits standard closed (part a e b) ≡ true → BodyAt b a e
+body-at b a e closed o i h =
+    let v = is-body standard closed (part a e b) h in
+    record { order = o; inside = i; few = v .few; good = v .good; kind-is = v .kind-is; view = is-record (standard .levels) (part a e b) (v .good) (v .kind-is) }
+
+body-says : {b : List ℕ} {a e : ℕ} → BodyAt b a e → bodyOf standard (part a e b) ≡ (openAt (part a e b), attrsAt (part a e b))
+unfolding bodyOf
+body-says v = ap recordOf (v .view .is)
+
+-- Cedar's searches go down the rows, for each section.
+module _ {H A E : Type 0} (q : H → Bool) (make : H × A → E) (find : List (H × A) → Option E) (stop : find [] ≡ none) (step : (x : H × A) (xs : List (H × A)) → find (x ∷ xs) ≡ cond (q (x .0)) (some (make x)) (find xs)) where
+  rows-find : (xs : List (H × A)) → find xs ≡ maybe none (λ y. some (make y)) (lookup q xs)
+  rows-find [] = stop
+  rows-find (x ∷ xs) = step x xs ∙ go (q (x .0)) (find xs) (lookup q xs) (rows-find xs)
+    where
+      go : (z : Bool) (o : Option E) (p : Option (H × A)) → o ≡ maybe none (λ y. some (make y)) p → cond z (some (make x)) o ≡ maybe none (λ y. some (make y)) (cond z (some x) p)
+      go true o p e = refl
+      go false o p e = e
+
+  rows-some : (xs : List (H × A)) (y : H × A) → lookup q xs ≡ some y → find xs ≡ some (make y)
+  rows-some xs y e = rows-find xs ∙ ap (λ (o : Option (H × A)). maybe none (λ z. some (make z)) o) e
+
+  rows-none : (xs : List (H × A)) → lookup q xs ≡ none → find xs ≡ none
+  rows-none xs e = rows-find xs ∙ ap (λ (o : Option (H × A)). maybe none (λ z. some (make z)) o) e
+
+-- The rows of a schema.
+abbrev entityRows : List ℕ → List ((ℕ × Bool) × (Bool × Attrs))
+entityRows b = sectionOf entityRow (λ h. bodyOf standard) (entitySection b) b
+
+abbrev actionRows : List ℕ → List ((ℕ × ℕ) × (Bool × Attrs))
+actionRows b = sectionOf actionRow (λ h. bodyOf standard) (actionSection b) b
+
+abbrev functionRows : List ℕ → List ((ℕ × Option ℕ) × List Arg)
+functionRows b = sectionOf functionRow (λ h. argsOf) (functionSection b) b
+
+module _ {b : List ℕ} {x : Sections} (k : Kept b x) where
+  kept-parts : Parts b
+  kept-parts = parts b (k .yes)
+
+  -- The schema that cedar reads.
+  pub kept-schema : wholeSchema standard b ≡ some (decS standard b)
+  kept-schema = sure-yes (whole-schema-twin standard b) (rw (le-leb (length b) 32768 (k .few), k .yes) refl)
+
+  -- Where the sections lie.
+  entities-is : x .entities ≡ entitySection b
+  unfolding sectionsOf
+  entities-is = ap (λ (y : Sections). y .entities) (k .is)
+
+  actions-is : x .actions ≡ actionSection b
+  unfolding sectionsOf
+  actions-is = ap (λ (y : Sections). y .actions) (k .is)
+
+  functions-is : x .functions ≡ functionSection b
+  unfolding sectionsOf
+  functions-is = ap (λ (y : Sections). y .functions) (k .is)
+
+  pub entities-laid : LaidIn 5 (x .entities) b
+  entities-laid = subst (λ (y : Section). LaidIn 5 y b) (sym entities-is) (record { wide = omega arith; entries = omega (arith, kept-parts .counts .fit); room = kept-parts .end₀ })
+
+  pub actions-laid : LaidIn 6 (x .actions) b
+  actions-laid = subst (λ (y : Section). LaidIn 6 y b) (sym actions-is) (record { wide = omega arith; entries = omega (arith, kept-parts .counts .fit); room = kept-parts .end₁ })
+
+  pub functions-laid : LaidIn 7 (x .functions) b
+  functions-laid = subst (λ (y : Section). LaidIn 7 y b) (sym functions-is) (record { wide = omega arith; entries = omega (arith, kept-parts .counts .fit); room = kept-parts .end₂ })
+
+  -- An entity type.
+  module _ (name : ℕ) (y : FoundEntry) (q : y ≡ entryAt 5 (Name name) (x .entities) b) where
+    abbrev EntityFound : FoundEntry → Type 0
+    EntityFound = FoundIn entityRow (entityBody standard) (λ h. bodyOf standard) (Name name) (λ h. eqb name (h .0)) b (entityRows b)
+
+    entity-found : EntityFound y
+    entity-found =
+        subst EntityFound (sym (q ∙ ap (λ (z : Section). entryAt 5 (Name name) z b) entities-is))
+        (found-in entityRow (entityBody standard) (λ h. bodyOf standard) (Name name) (λ h. eqb name (h .0)) b (λ es. refl) (rd b 0) 0 6 (entitySection b .bodies) (omega (arith, kept-parts .counts .fit)) (kept-parts .counts .fit) (kept-parts .first))
+
+    pub entity-at : (i a e : ℕ) → y ≡ At i a e → EntityAt b name a e
+    unfolding decS
+    entity-at i a e h =
+        let f = subst EntityFound h entity-found in
+        let v = body-at b a e (eqb (getD (rest i b) 2 0) 1) (f .order) (f .inside) (f .body) in
+        record {
+          body = v;
+          enumerated = eqb (getD (rest i b) 2 0) 1;
+          is =
+              rows-some (λ h. eqb name (h .0)) (λ z. record { name = z .0 .0; enumerated = z .0 .1; isOpen = z .1 .0; attrs = z .1 .1 }) (λ xs. entityIn (entitiesOf xs) name) refl (λ z zs. refl) (entityRows b) _ (f .is)
+              ∙ ap₂ (λ (n : ℕ) (o : Bool × Attrs). some (record { name = n; enumerated = eqb (getD (rest i b) 2 0) 1; isOpen = o .0; attrs = o .1 })) (sym (eqb-true name (rd (rest i b) 0) (f .has))) (body-says v);
+        }
+
+    pub entity-not : y ≡ Nothing → entityOf (decS standard b) name ≡ none
+    unfolding decS
+    entity-not h =
+        rows-none (λ h. eqb name (h .0)) (λ z. record { name = z .0 .0; enumerated = z .0 .1; isOpen = z .1 .0; attrs = z .1 .1 }) (λ xs. entityIn (entitiesOf xs) name) refl (λ z zs. refl) (entityRows b) (subst EntityFound h entity-found)
+
+  -- An action.
+  module _ (t d : ℕ) (y : FoundEntry) (q : y ≡ entryAt 6 (Uid t d) (x .actions) b) where
+    abbrev ActionFound : FoundEntry → Type 0
+    ActionFound = FoundIn actionRow (actionBody standard) (λ h. bodyOf standard) (Uid t d) (λ h. eqb t (h .0) && eqb d (h .1)) b (actionRows b)
+
+    action-found : ActionFound y
+    action-found =
+        subst ActionFound (sym (q ∙ ap (λ (z : Section). entryAt 6 (Uid t d) z b) actions-is))
+        (found-in actionRow (actionBody standard) (λ h. bodyOf standard) (Uid t d) (λ h. eqb t (h .0) && eqb d (h .1)) b (λ es. refl) (rd b 2) (0, 0) (6 + 5 * rd b 0) (actionSection b .bodies) (omega (arith, kept-parts .counts .fit)) (kept-parts .end₀) (kept-parts .second))
+
+    pub action-at : (i a e : ℕ) → y ≡ At i a e → ActionAt b t d a e
+    unfolding decS
+    action-at i a e h =
+        let f = subst ActionFound h action-found in
+        let v = body-at b a e true (f .order) (f .inside) (f .body) in
+        let n = eqb-true t (rd (rest i b) 0) (and-l (eqb t (rd (rest i b) 0)) (eqb d (rd (rest i b) 2)) (f .has)) in
+        let j = eqb-true d (rd (rest i b) 2) (and-r (eqb t (rd (rest i b) 0)) (eqb d (rd (rest i b) 2)) (f .has)) in
+        record {
+          body = v;
+          is =
+              rows-some (λ h. eqb t (h .0) && eqb d (h .1)) (λ z. record { type = z .0 .0; id = z .0 .1; attrs = z .1 .1 }) (λ xs. actionIn (actionsOf xs) t d) refl (λ z zs. refl) (actionRows b) _ (f .is)
+              ∙ ap (λ (o : Bool × Attrs). some (record { type = rd (rest i b) 0; id = rd (rest i b) 2; attrs = o .1 })) (body-says v)
+              ∙ ap₂ (λ (l m : ℕ). some (record { type = l; id = m; attrs = attrsAt (part a e b) })) (sym n) (sym j);
+        }
+
+    pub action-not : y ≡ Nothing → actionOf (decS standard b) t d ≡ none
+    unfolding decS
+    action-not h =
+        rows-none (λ h. eqb t (h .0) && eqb d (h .1)) (λ z. record { type = z .0 .0; id = z .0 .1; attrs = z .1 .1 }) (λ xs. actionIn (actionsOf xs) t d) refl (λ z zs. refl) (actionRows b) (subst ActionFound h action-found)
+
+  -- A function.
+  module _ (name : ℕ) where
+    abbrev EntryFound : FoundEntry → Type 0
+    EntryFound = FoundIn functionRow functionBody (λ h. argsOf) (Name name) (λ h. eqb name (h .0)) b (functionRows b)
+
+    entry-found : EntryFound (entryAt 7 (Name name) (x .functions) b)
+    entry-found =
+        subst EntryFound (sym (ap (λ (z : Section). entryAt 7 (Name name) z b) functions-is))
+        (found-in functionRow functionBody (λ h. argsOf) (Name name) (λ h. eqb name (h .0)) b (λ es. refl) (rd b 4) 0 (6 + 5 * rd b 0 + 6 * rd b 2) (functionSection b .bodies) (omega (arith, kept-parts .counts .fit)) (kept-parts .end₁) (kept-parts .third))
+
+    -- The entry is there.
+    pub function-room : (y : FoundEntry) → y ≡ entryAt 7 (Name name) (x .functions) b → (i a e : ℕ) → y ≡ At i a e → i + 7 ≤ length b
+    function-room y q i a e h = subst EntryFound (sym q ∙ h) entry-found .room
+
+    entry-says : (i a e : ℕ) → EntryFound (At i a e) → FunctionAt b name (record { returns = eqb (getD (rest i b) 2 0) 1; extension = rd (rest i b) 3; start = a; end = e })
+    unfolding decS
+    entry-says i a e f =
+        record {
+          order = f .order;
+          inside = f .inside;
+          args = f .body;
+          is =
+              rows-some (λ h. eqb name (h .0)) (λ z. record { name = z .0 .0; returns = z .0 .1; args = z .1 }) (λ xs. functionIn (functionsOf xs) name) refl (λ z zs. refl) (functionRows b) _ (f .is)
+              ∙ ap (λ (n : ℕ). some (record { name = n; returns = cond (eqb (getD (rest i b) 2 0) 1) (some (rd (rest i b) 3)) none; args = argsOf (part a e b) })) (sym (eqb-true name (rd (rest i b) 0) (f .has)));
+        }
+
+    none-says : EntryFound Nothing → functionOf (decS standard b) name ≡ none
+    unfolding decS
+    none-says v = rows-none (λ h. eqb name (h .0)) (λ z. record { name = z .0 .0; returns = z .0 .1; args = z .1 }) (λ xs. functionIn (functionsOf xs) name) refl (λ z zs. refl) (functionRows b) v
+
+    module _ (y : FoundFunction) (q : y ≡ functionAt name (x .functions) b) where
+      pub function-at : (f : Signature) → y ≡ functions.At f → FunctionAt b name f
+      function-at f h = go (entryAt 7 (Name name) (x .functions) b) (sym q ∙ h) entry-found
+        where
+          go : (g : FoundEntry) → signatureOf b g ≡ functions.At f → EntryFound g → FunctionAt b name f
+          go (At i a e) p v =
+              let z : _≡_ {A = Signature} (record { returns = eqb (getD (rest i b) 2 0) 1; extension = rd (rest i b) 3; start = a; end = e }) f = cc in
+              subst (λ (u : Signature). FunctionAt b name u) z (entry-says i a e v)
+          go Nothing p v = absurd (let z : _≡_ {A = ℕ} 0 1 = cc in omega arith)
+
+      pub function-not : y ≡ functions.Nothing → functionOf (decS standard b) name ≡ none
+      function-not h = go (entryAt 7 (Name name) (x .functions) b) (sym q ∙ h) entry-found
+        where
+          go : (g : FoundEntry) → signatureOf b g ≡ functions.Nothing → EntryFound g → functionOf (decS standard b) name ≡ none
+          go (At i a e) p v = absurd (let z : _≡_ {A = ℕ} 0 1 = cc in omega arith)
+          go Nothing p v = none-says v
+
+-- The answers of `find_function`.
+pub signature-not : (b : List ℕ) (y g : FoundEntry) → y ≡ g → y ≡ Nothing → functions.Nothing ≡ signatureOf b g
+signature-not b y g q h = ap (signatureOf b) (sym h ∙ q)
+
+pub signature-at : (b : List ℕ) (y g : FoundEntry) → y ≡ g → (i a e : ℕ) → y ≡ At i a e → (m : ℕ) → m ≡ rd (rest i b) 3 →
+    functions.At (record { returns = eqb (getD (rest i b) 2 0) 1; extension = m; start = a; end = e }) ≡ signatureOf b g
+signature-at b y g q i a e h m p =
+    ap (λ (n : ℕ). functions.At (record { returns = eqb (getD (rest i b) 2 0) 1; extension = n; start = a; end = e })) p ∙ ap (signatureOf b) (sym h ∙ q)

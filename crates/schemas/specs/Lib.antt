@@ -1,0 +1,3 @@
+pub mod SchemaBytes
+pub mod Entries
+pub mod Laws

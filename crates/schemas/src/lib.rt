@@ -1,0 +1,7 @@
+// The schema form: whether one is whole, where its sections lie, and its entries by key.
+pub mod arguments;
+pub mod bodies;
+pub mod entries;
+pub mod order;
+pub mod sections;
+pub mod whole;
