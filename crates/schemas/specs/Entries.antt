@@ -16,7 +16,6 @@ use Rattle.schemas.specs.declared.entries.Key.{Key}
 use Rattle.schemas.specs.declared.entries.Key.the-variants.{Name, Uid}
 use Rattle.schemas.specs.declared.entries.FoundEntry.{FoundEntry}
 use Rattle.schemas.specs.declared.entries.FoundEntry.the-variants.{At, Nothing}
-use Rattle.schemas.specs.declared.entries.Signature.{Signature}
 use Rattle.schemas.specs.declared.entries.FoundFunction.{FoundFunction}
 use Rattle.schemas.specs.declared.entries.FoundFunction.the-variants as functions
 

@@ -1,5 +1,5 @@
 -- The schema form in the borrow checker's terms: the test that one is whole and a total decoder. Assumes nothing: these are definitions.
-use Prim.Native.Nat.{ℕ, zero, suc, _+_, _*_, _≤_}
+use Prim.Native.Nat.{ℕ, _+_, _*_, _≤_}
 use mathlib.Core.List.{List, []}
 use mathlib.Core.Bool.{Bool, true, false, not, _&&_, _||_, cond}
 use mathlib.Core.Option.{Option, none, some}
@@ -101,19 +101,23 @@ module _ {S H : Type 0} where
   abbrev pub sectionOf : {A : Type 0} → Row S H → (H → List ℕ → A) → Section → List ℕ → List (H × A)
   sectionOf r d x b = rowsOf r d (x .count) (rest (x .entries) b) (rest (x .bodies) b)
 
+-- A section, by its count and where its entries and bodies start.
+abbrev pub section : ℕ → ℕ → ℕ → Section
+section count entries bodies = record { count = count; entries = entries; bodies = bodies }
+
 -- Where the bodies of a section of so wide entries end.
 abbrev pub sectionEnd : ℕ → Section → List ℕ → ℕ
 sectionEnd w x b = x .bodies + used w (x .count) (rest (x .entries) b)
 
 -- The three sections: entries after the counts, bodies after the entries.
 abbrev pub entitySection : List ℕ → Section
-entitySection b = record { count = rd b 0; entries = 6; bodies = 6 + 5 * rd b 0 + 6 * rd b 2 + 7 * rd b 4 }
+entitySection b = section (rd b 0) 6 (6 + 5 * rd b 0 + 6 * rd b 2 + 7 * rd b 4)
 
 abbrev pub actionSection : List ℕ → Section
-actionSection b = record { count = rd b 2; entries = 6 + 5 * rd b 0; bodies = sectionEnd 5 (entitySection b) b }
+actionSection b = section (rd b 2) (6 + 5 * rd b 0) (sectionEnd 5 (entitySection b) b)
 
 abbrev pub functionSection : List ℕ → Section
-functionSection b = record { count = rd b 4; entries = 6 + 5 * rd b 0 + 6 * rd b 2; bodies = sectionEnd 6 (actionSection b) b }
+functionSection b = section (rd b 4) (6 + 5 * rd b 0 + 6 * rd b 2) (sectionEnd 6 (actionSection b) b)
 
 unfoldable pub sectionsOf : List ℕ → Sections
 sectionsOf b = record { entities = entitySection b; actions = actionSection b; functions = functionSection b }

@@ -38,7 +38,7 @@ pub fn entity_follows(e: &[u8], low: usize) -> bool
     low <= name
 }
 
-// Whether an action entry has an odd type, above low or with an id of at least id.
+// Whether an action entry has an odd type above low, or low itself and an id of at least id.
 pub fn action_follows(e: &[u8], low: usize, id: usize) -> bool
     requires { ⌜ 6 ≤ length (now e) ⌝ }
     ensures { λ r. ⌜ r ≡ actionRow .ok (low, id) (now (e .entry)) ⌝ }

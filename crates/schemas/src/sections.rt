@@ -9,13 +9,25 @@ use forms::numbers::u16_at;
 use forms::widths::Width;
 ghost use mathlib.Core.Path.{_≡_};
 ghost use Rattle.cedar.specs.Limits.{standard};
-ghost use Rattle.schemas.specs.SchemaBytes.{Inside, passedBy, entityRow, actionRow, functionRow, entityBody, actionBody, functionBody};
+ghost use Rattle.schemas.specs.SchemaBytes.{section, Inside, passedBy, entityRow, actionRow, functionRow, entityBody, actionBody, functionBody};
 
 // Where a section lies: how many entries it has, where they start, and where their bodies start.
 pub struct Section {
     pub count: usize,
     pub entries: usize,
     pub bodies: usize,
+}
+
+impl Section {
+    pub fn new(count: usize, entries: usize, bodies: usize) -> Self
+        ensures { λ r. ⌜ r ≡ section count entries bodies ⌝ }
+    {
+        Section {
+            count,
+            entries,
+            bodies,
+        }
+    }
 }
 
 // The sections of a schema, found once and handed to every search.

@@ -65,27 +65,15 @@ pub fn check_schema(s: &[u8]) -> Checked
     let k = u16_at(s, 4);
     let second = Counts::BYTES + Width::ENTITY * m;
     let third = second + Width::ACTION * n;
-    let entities = Section {
-        count: m,
-        entries: Counts::BYTES,
-        bodies: third + Width::FUNCTION * k,
-    };
+    let entities = Section::new(m, Counts::BYTES, third + Width::FUNCTION * k);
     let Passed::To(p) = entities_within(s, entities) else {
         return Checked::Broken;
     };
-    let actions = Section {
-        count: n,
-        entries: second,
-        bodies: p,
-    };
+    let actions = Section::new(n, second, p);
     let Passed::To(q) = actions_within(s, actions) else {
         return Checked::Broken;
     };
-    let functions = Section {
-        count: k,
-        entries: third,
-        bodies: q,
-    };
+    let functions = Section::new(k, third, q);
     let Passed::To(end) = functions_within(s, functions) else {
         return Checked::Broken;
     };

@@ -1,18 +1,18 @@
 -- The body of an entity type or an action. Assumes nothing.
 use mathlib.Core.Path.{_≡_, refl, ap, sym, _∙_}
 use mathlib.Core.List.{List}
-use mathlib.Core.Bool.{Bool, true, false, not, _&&_, and-false}
-use Prim.Native.Nat.{ℕ, zero, suc, _+_, _*_, _-_, _≤_, _<_}
+use mathlib.Core.Bool.{Bool, true, false, not, _&&_}
+use Prim.Native.Nat.{ℕ, zero, suc, _≤_, _<_}
 use native.Mathlib.Omega.{arith}
 use native.Mathlib.Decide.{ℕ-discrete}
 use lib.Dec.{eqb, leb}
 use lib.ListN.{length, getD}
 use borrow.Author.Tests.{leb-true, not-true, not-false}
-use Rattle.cedar.specs.Types.{Ty, Attrs, rec, present, asRec}
+use Rattle.cedar.specs.Types.{Ty, rec, present, asRec}
 use Rattle.cedar.specs.Limits.{Limits}
 use Rattle.cedar.specs.Whole.{wholeType}
-use Rattle.forms.specs.Parts.{part, rest, rd, kind}
-use Rattle.forms.specs.TypeBytes.{whole, dec, decA}
+use Rattle.forms.specs.Parts.{kind}
+use Rattle.forms.specs.TypeBytes.{whole, dec}
 use Rattle.forms.specs.Laws.Parts.{and-l, and-r, and-not-l, and-not-r, and-yes}
 use Rattle.forms.specs.Laws.Sure.{sure-present}
 use Rattle.forms.specs.Laws.TypeTwin.{whole-type-twin}

@@ -1,19 +1,20 @@
 -- The answers of `counts_within`, `check_schema` and `whole_schema`. Assumes nothing.
-use mathlib.Core.Path.{_≡_, refl, ap, ap₂, sym, _∙_}
+use mathlib.Core.Path.{_≡_, refl, ap, sym, _∙_}
 use mathlib.Core.List.{List}
 use mathlib.Core.Bool.{Bool, true, false, not, _&&_, cond, and-false}
-use Prim.Native.Nat.{ℕ, _+_, _*_, _-_, _≤_, _<_}
+use mathlib.Core.Option.{none}
+use Prim.Native.Nat.{ℕ, _+_, _*_, _≤_, _<_}
 use native.Mathlib.Omega.{arith}
 use lib.Dec.{eqb, leb}
 use lib.ListN.{length}
 use borrow.Author.Tests.{leb-true, lt-leb, le-leb, eq-eqb, ne-eqb, not-true, not-false}
 use Rattle.cedar.specs.Types.{present}
-use Rattle.cedar.specs.Limits.{Limits, standard, blockBytes, maxEntities, maxActions, maxFunctions}
+use Rattle.cedar.specs.Limits.{standard}
 use Rattle.cedar.specs.Whole.{wholeSchema}
-use Rattle.forms.specs.Parts.{rd}
-use Rattle.forms.specs.Laws.Parts.{and-l, and-r, and-not-l, and-not-r, and-yes}
+use Rattle.forms.specs.Parts.{rd, sure}
+use Rattle.forms.specs.Laws.Parts.{and-l, and-r, and-not-l, and-not-r}
 use Rattle.forms.specs.Laws.Sure.{sure-present}
-use Rattle.schemas.specs.SchemaBytes.{entityRow, actionRow, functionRow, entityBody, actionBody, functionBody, sectionFits, sectionEnd, entitySection, actionSection, functionSection, sectionsOf, headFits, wholeS, Inside, passedBy, checked}
+use Rattle.schemas.specs.SchemaBytes.{section, entityRow, actionRow, functionRow, entityBody, actionBody, functionBody, sectionFits, sectionEnd, entitySection, actionSection, functionSection, sectionsOf, headFits, wholeS, decS, Inside, passedBy, checked}
 use Rattle.schemas.specs.Laws.Walks.{section-ends, passed-broken, passed-to}
 use Rattle.schemas.specs.Laws.SchemaTwin.{whole-schema-twin}
 use Rattle.schemas.specs.declared.sections.Section.{Section}
@@ -76,7 +77,7 @@ not-whole b h = rw (h, and-false (leb (length b) 32768)) refl
 pub check-head : (b : List ℕ) (y : Bool) → y ≡ headFits b → not y ≡ true → Broken ≡ checked b
 check-head b y q h = not-whole b (unfold wholeS in sym (and-not-l (headFits b) _ (sym q ∙ not-true y h)))
 
-section-equal : {a b c d e f : ℕ} → a ≡ b → c ≡ d → e ≡ f → _≡_ {A = Section} (record { count = a; entries = c; bodies = e }) (record { count = b; entries = d; bodies = f })
+section-equal : {a b c d e f : ℕ} → a ≡ b → c ≡ d → e ≡ f → section a c e ≡ section b d f
 section-equal p q r = cc
 
 -- What is known after the counts, after the first walk, and after the second.
@@ -100,19 +101,16 @@ pub counted : (b : List ℕ) (m n k : ℕ) → m ≡ rd b 0 → n ≡ rd b 2 →
 counted b m n k p q r y g h = record { m-is = p; n-is = q; k-is = r; yes = sym g ∙ not-false y h }
 
 -- The entity types.
-module _ {b : List ℕ} {m n k : ℕ} (c : Counted b m n k) where
-  abbrev pub firstSection : Section
-  firstSection = record { count = m; entries = 6; bodies = 6 + 5 * m + 6 * n + 7 * k }
+module _ {b : List ℕ} {m n k : ℕ} (c : Counted b m n k) (x : Section) (x-is : x ≡ section m 6 (6 + 5 * m + 6 * n + 7 * k)) where
+  pub first-is : x ≡ entitySection b
+  first-is = x-is ∙ section-equal (c .m-is) refl (omega (arith, c .m-is, c .n-is, c .k-is))
 
-  first-is : firstSection ≡ entitySection b
-  first-is = section-equal (c .m-is) refl (omega (arith, c .m-is, c .n-is, c .k-is))
+  pub entities-inside : Inside 5 x b
+  entities-inside = let h = head b (c .yes) in rw first-is (record { entries = omega (arith, h .fit); bodies = h .fit })
 
-  pub entities-inside : Inside 5 firstSection b
-  entities-inside = let h = head b (c .yes) in record { entries = omega (arith, h .fit, c .m-is); bodies = omega (arith, h .fit, c .m-is, c .n-is, c .k-is) }
-
-  module _ (w : Passed) (q : w ≡ passedBy entityRow (entityBody standard) 0 firstSection b) where
+  module _ (w : Passed) (q : w ≡ passedBy entityRow (entityBody standard) 0 x b) where
     at-first : w ≡ passedBy entityRow (entityBody standard) 0 (entitySection b) b
-    at-first = q ∙ ap (λ (x : Section). passedBy entityRow (entityBody standard) 0 x b) first-is
+    at-first = q ∙ ap (λ (z : Section). passedBy entityRow (entityBody standard) 0 z b) first-is
 
     pub entities-broken : w ≡ passes.Broken → Broken ≡ checked b
     entities-broken e =
@@ -125,22 +123,19 @@ module _ {b : List ℕ} {m n k : ℕ} (c : Counted b m n k) where
         record { counts = c; yes = t .0; p-is = t .1 }
 
 -- The actions.
-module _ {b : List ℕ} {m n k p : ℕ} (o : One b m n k p) where
-  abbrev pub secondSection : Section
-  secondSection = record { count = n; entries = 6 + 5 * m; bodies = p }
+second-start : {b : List ℕ} {m n k p : ℕ} → One b m n k p → actionSection b .bodies ≤ length b
+second-start {b} o = section-ends entityRow (entityBody standard) 0 (entitySection b) b (o .yes) (head b (o .counts .yes) .fit)
 
-  second-is : secondSection ≡ actionSection b
-  second-is = section-equal (o .counts .n-is) (omega (arith, o .counts .m-is)) (o .p-is)
+module _ {b : List ℕ} {m n k p : ℕ} (o : One b m n k p) (x : Section) (x-is : x ≡ section n (6 + 5 * m) p) where
+  pub second-is : x ≡ actionSection b
+  second-is = x-is ∙ section-equal (o .counts .n-is) (omega (arith, o .counts .m-is)) (o .p-is)
 
-  second-start : actionSection b .bodies ≤ length b
-  second-start = section-ends entityRow (entityBody standard) 0 (entitySection b) b (o .yes) (head b (o .counts .yes) .fit)
+  pub actions-inside : Inside 6 x b
+  actions-inside = let h = head b (o .counts .yes) in rw second-is (record { entries = omega (arith, h .fit); bodies = second-start o })
 
-  pub actions-inside : Inside 6 secondSection b
-  actions-inside = let h = head b (o .counts .yes) in record { entries = omega (arith, h .fit, o .counts .m-is, o .counts .n-is); bodies = rw (o .p-is) second-start }
-
-  module _ (w : Passed) (q : w ≡ passedBy actionRow (actionBody standard) (0, 0) secondSection b) where
+  module _ (w : Passed) (q : w ≡ passedBy actionRow (actionBody standard) (0, 0) x b) where
     at-second : w ≡ passedBy actionRow (actionBody standard) (0, 0) (actionSection b) b
-    at-second = q ∙ ap (λ (x : Section). passedBy actionRow (actionBody standard) (0, 0) x b) second-is
+    at-second = q ∙ ap (λ (z : Section). passedBy actionRow (actionBody standard) (0, 0) z b) second-is
 
     pub actions-broken : w ≡ passes.Broken → Broken ≡ checked b
     actions-broken e =
@@ -153,24 +148,18 @@ module _ {b : List ℕ} {m n k p : ℕ} (o : One b m n k p) where
         record { one = o; yes = t .0; q-is = t .1 }
 
 -- The functions, and the end.
-module _ {b : List ℕ} {m n k p q : ℕ} (t : Two b m n k p q) where
-  abbrev pub thirdSection : Section
-  thirdSection = record { count = k; entries = 6 + 5 * m + 6 * n; bodies = q }
+module _ {b : List ℕ} {m n k p q : ℕ} (t : Two b m n k p q) (x : Section) (x-is : x ≡ section k (6 + 5 * m + 6 * n) q) where
+  third-is : x ≡ functionSection b
+  third-is = x-is ∙ section-equal (t .one .counts .k-is) (omega (arith, t .one .counts .m-is, t .one .counts .n-is)) (t .q-is)
 
-  third-is : thirdSection ≡ functionSection b
-  third-is = section-equal (t .one .counts .k-is) (omega (arith, t .one .counts .m-is, t .one .counts .n-is)) (t .q-is)
-
-  third-start : functionSection b .bodies ≤ length b
-  third-start = section-ends actionRow (actionBody standard) (0, 0) (actionSection b) b (t .yes) (second-start (t .one))
-
-  pub functions-inside : Inside 7 thirdSection b
+  pub functions-inside : Inside 7 x b
   functions-inside =
       let h = head b (t .one .counts .yes) in
-      record { entries = omega (arith, h .fit, t .one .counts .m-is, t .one .counts .n-is, t .one .counts .k-is); bodies = rw (t .q-is) third-start }
+      rw third-is (record { entries = omega (arith, h .fit); bodies = section-ends actionRow (actionBody standard) (0, 0) (actionSection b) b (t .yes) (second-start (t .one)) })
 
-  module _ (w : Passed) (e : w ≡ passedBy functionRow functionBody 0 thirdSection b) where
+  module _ (w : Passed) (e : w ≡ passedBy functionRow functionBody 0 x b) where
     at-third : w ≡ passedBy functionRow functionBody 0 (functionSection b) b
-    at-third = e ∙ ap (λ (x : Section). passedBy functionRow functionBody 0 x b) third-is
+    at-third = e ∙ ap (λ (z : Section). passedBy functionRow functionBody 0 z b) third-is
 
     -- What is left to ask.
     whole-is : wholeS standard b ≡ (sectionFits functionRow functionBody 0 (functionSection b) b && eqb (sectionEnd 7 (functionSection b) b) (length b))
@@ -187,26 +176,29 @@ module _ {b : List ℕ} {m n k p q : ℕ} (t : Two b m n k p q) where
       pub end-over : (end ≡ length b → ⊥) → Broken ≡ checked b
       end-over g = not-whole b (whole-is ∙ rw (ended .0, ne-eqb (sectionEnd 7 (functionSection b) b) (length b) (λ z. g (ended .1 ∙ z))) refl)
 
-      pub end-whole : length b ≤ 32768 → end ≡ length b → Whole (record { entities = firstSection (t .one .counts); actions = secondSection (t .one); functions = thirdSection }) ≡ checked b
+      pub end-whole : length b ≤ 32768 → end ≡ length b → (u v : Section) → u ≡ entitySection b → v ≡ actionSection b → Whole (record { entities = u; actions = v; functions = x }) ≡ checked b
       unfolding checked sectionsOf
-      end-whole l g =
+      end-whole l g u v u-is v-is =
           let y : wholeS standard b ≡ true = whole-is ∙ rw (ended .0, eq-eqb (sectionEnd 7 (functionSection b) b) (length b) (sym (ended .1) ∙ g)) refl in
-          let a = first-is (t .one .counts) in
-          let o = second-is (t .one) in
-          let f = third-is in
-          rw (le-leb (length b) 32768 l, y) (same a o f)
+          rw (le-leb (length b) 32768 l, y) (same u-is v-is third-is)
         where
           same : {x₀ y₀ x₁ y₁ x₂ y₂ : Section} → x₀ ≡ y₀ → x₁ ≡ y₁ → x₂ ≡ y₂ → Whole (record { entities = x₀; actions = x₁; functions = x₂ }) ≡ Whole (record { entities = y₀; actions = y₁; functions = y₂ })
           same a o f = cc
 
 -- What the answer says.
-pub checked-broken : (b : List ℕ) (y : Checked) → y ≡ checked b → y ≡ Broken → false ≡ present (wholeSchema standard b)
+is-broken : (b : List ℕ) (y : Checked) → y ≡ checked b → y ≡ Broken → leb (length b) 32768 && wholeS standard b ≡ false
 unfolding checked
-checked-broken b y q h = go (leb (length b) 32768 && wholeS standard b) (sym h ∙ q) ∙ sym (sure-present (whole-schema-twin standard b))
+is-broken b y q h = go (leb (length b) 32768 && wholeS standard b) (sym h ∙ q)
   where
-    go : (z : Bool) → Broken ≡ cond z (Whole (sectionsOf b)) Broken → false ≡ z
+    go : (z : Bool) → Broken ≡ cond z (Whole (sectionsOf b)) Broken → z ≡ false
     go true e = absurd (let z : _≡_ {A = ℕ} 0 1 = cc in omega arith)
     go false e = refl
+
+pub checked-none : (b : List ℕ) (y : Checked) → y ≡ checked b → y ≡ Broken → wholeSchema standard b ≡ none
+checked-none b y q h = whole-schema-twin standard b .is ∙ ap (λ (z : Bool). sure z (decS standard b)) (is-broken b y q h)
+
+pub checked-broken : (b : List ℕ) (y : Checked) → y ≡ checked b → y ≡ Broken → false ≡ present (wholeSchema standard b)
+checked-broken b y q h = sym (sure-present (whole-schema-twin standard b) ∙ is-broken b y q h)
 
 -- A schema that was checked, with its sections: what every search asks.
 pub checked-whole : (b : List ℕ) (y : Checked) → y ≡ checked b → (x : Sections) → y ≡ Whole x → (leb (length b) 32768 && wholeS standard b ≡ true) × (x ≡ sectionsOf b)

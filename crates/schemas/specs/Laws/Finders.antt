@@ -1,14 +1,14 @@
 -- What the finders of a whole schema find: cedar's entries. Assumes nothing.
 use mathlib.Core.Path.{_≡_, refl, ap, ap₂, sym, _∙_, subst}
 use mathlib.Core.List.{List, [], _∷_}
-use mathlib.Core.Bool.{Bool, true, false, not, _&&_, cond}
+use mathlib.Core.Bool.{Bool, true, false, _&&_, cond}
 use mathlib.Core.Option.{Option, none, some}
-use Prim.Native.Nat.{ℕ, zero, suc, _+_, _*_, _-_, _≤_, _<_}
+use Prim.Native.Nat.{ℕ, _+_, _*_, _≤_}
 use native.Mathlib.Omega.{arith}
 use lib.Dec.{eqb, leb}
 use lib.ListN.{length, getD}
 use borrow.Author.Tests.{leb-true, le-leb, eqb-true}
-use Rattle.cedar.specs.Types.{Ty, Attrs, Arg, Entity, Action, Function, maybe}
+use Rattle.cedar.specs.Types.{Attrs, Arg, maybe}
 use Rattle.cedar.specs.Limits.{standard, blockBytes}
 use Rattle.cedar.specs.SchemaForm.{entitiesOf, actionsOf, functionsOf}
 use Rattle.cedar.specs.Attribute.{entityIn, entityOf}
@@ -16,18 +16,18 @@ use Rattle.cedar.specs.Literal.{actionIn, actionOf}
 use Rattle.cedar.specs.Conformance.{functionIn, functionOf}
 use Rattle.cedar.specs.Whole.{wholeSchema}
 use Rattle.forms.specs.Parts.{part, rest, rd, kind}
-use Rattle.forms.specs.TypeBytes.{whole, dec}
+use Rattle.forms.specs.TypeBytes.{whole}
 use Rattle.forms.specs.Laws.Parts.{and-l, and-r}
 use Rattle.forms.specs.Laws.Sure.{sure-yes}
 use Rattle.forms.specs.Laws.Views.{IsRecord, is-record}
 use Rattle.schemas.specs.SchemaBytes.{entityRow, actionRow, functionRow, entityBody, actionBody, functionBody, bodyFits, bodyOf, recordOf, argsFit, argsOf}
 use Rattle.schemas.specs.SchemaBytes.{sectionFits, sectionOf, sectionEnd, entitySection, actionSection, functionSection, sectionsOf, headFits, wholeS, decS, checked}
-use Rattle.schemas.specs.Entries.{entryFrom, entryAt, signatureOf, functionAt, LaidIn, Kept, openAt, attrsAt}
+use Rattle.schemas.specs.Entries.{entryAt, signatureOf, functionAt, LaidIn, Kept, openAt, attrsAt}
 use Rattle.schemas.specs.Laws.Walks.{section-ends}
-use Rattle.schemas.specs.Laws.Bodies.{IsBody, is-body}
+use Rattle.schemas.specs.Laws.Bodies.{is-body}
 use Rattle.schemas.specs.Laws.Checks.{Head, head, checked-whole}
 use Rattle.schemas.specs.Laws.SchemaTwin.{whole-schema-twin}
-use Rattle.schemas.specs.Laws.Entries.{lookup, RowAt, FoundIn, found-in}
+use Rattle.schemas.specs.Laws.Entries.{lookup, FoundIn, found-in}
 use Rattle.schemas.specs.declared.sections.Section.{Section}
 use Rattle.schemas.specs.declared.sections.Sections.{Sections}
 use Rattle.schemas.specs.declared.whole.Checked.{Checked}

@@ -1,32 +1,30 @@
 -- The schema form as cedar reads it, and as the code walks it. Assumes nothing.
 use mathlib.Core.Path.{_≡_, refl, ap, ap₂, sym, _∙_}
-use mathlib.Core.List.{List, [], _∷_}
+use mathlib.Core.List.{List, []}
 use mathlib.Core.Bool.{Bool, true, false, not, _&&_, _||_, cond, and-false, and-true, and-assoc}
 use mathlib.Core.Option.{Option, none, some}
-use Prim.Native.Nat.{ℕ, zero, suc, _+_, _*_, _-_, _≤_, _<_}
+use Prim.Native.Nat.{ℕ, zero, suc, _+_, _*_, _-_, _≤_}
 use native.Mathlib.Numerals.{add-one}
 use native.Mathlib.Omega.{arith}
 use native.Mathlib.Decide.{decLe}
 use lib.Dec.{eqb, leb, ltb}
-use lib.ListN.{length, take, drop, getD, length-drop}
+use lib.ListN.{length, drop, getD, length-drop}
 use lib.Seq.{drop-drop}
 use borrow.Author.Tests.{leb-true, le-leb, lt-leb}
-use Rattle.cedar.specs.Types.{Ty, Attrs, Arg, Entity, Action, Function, Schema, isAction, maybe, present, asRec}
+use Rattle.cedar.specs.Types.{Entity, Action, Function, Schema, isAction, maybe, present, asRec}
 use Rattle.cedar.specs.Limits.{Limits, blockBytes, maxEntities, maxActions, maxFunctions}
-use Rattle.cedar.specs.Bytes.{_>>=_, guard}
-use Rattle.cedar.specs.Table.{rows}
 use Rattle.cedar.specs.SchemaForm.{readEntity, readAction, readFunction, ascendingFirst, ascendingAction, readBody, parseArgs, entitiesOf, actionsOf, functionsOf, parseSchema}
 use Rattle.cedar.specs.Whole.{wholeType, wholeSchema}
-use Rattle.forms.specs.Parts.{part, rest, rd}
+use Rattle.forms.specs.Parts.{rest, rd}
 use Rattle.forms.specs.Rows.{Row, bodyLength, rowsTo, rowsOf, leftOf, noneLeft}
 use Rattle.forms.specs.Search.{used}
 use Rattle.forms.specs.TypeBytes.{dec}
-use Rattle.forms.specs.Laws.Parts.{and-same, and-l, and-r, rest-is, rest-0, rest-rest, length-rest}
+use Rattle.forms.specs.Laws.Parts.{and-same, rest-is, rest-0, rest-rest, length-rest}
 use Rattle.forms.specs.Laws.Sure.{Sure, sure-same, bind-to, map-to, guard-to, finish-to, word-at, bit-at, ascending-to, eqb-same, leb-and, leb-under, within-to}
 use Rattle.forms.specs.Laws.RowsTwin.{Reads, rows-twin}
 use Rattle.forms.specs.Laws.TypeTwin.{whole-type-twin}
 use Rattle.schemas.specs.SchemaBytes.{entityRow, actionRow, functionRow, recordOf, bodyFits, bodyOf, argsFit, argsOf, entityBody, actionBody, functionBody, any}
-use Rattle.schemas.specs.SchemaBytes.{sectionFits, sectionOf, sectionEnd, entitySection, actionSection, functionSection, headFits, wholeS, decS}
+use Rattle.schemas.specs.SchemaBytes.{sectionFits, sectionEnd, entitySection, actionSection, functionSection, wholeS, decS}
 use Rattle.schemas.specs.declared.sections.Section.{Section}
 use Rattle.schemas.specs.Laws.Walks.{section-ends}
 

@@ -2,31 +2,22 @@ use Rattle.schemas.specs.Laws.Arguments.{arg-extension, arg-named, arg-l
 use borrow.Author.Needs.{needs}
 use Rattle.schemas.proofs.arguments.argument_within.Statement.{statement}
 use Rattle.schemas.proofs.arguments.argument_within.Tie as tie
-use Rattle.schemas.proofs.arguments.argument_within.Reads as reads
-use Rattle.schemas.proofs.arguments.argument_within.Lts as lts
-use Rattle.forms.proofs.numbers.u16_at.Reads as u16-at-reads
 
--- src/arguments.rt:15:13
 shared-slice-read-k : tie.Need-shared-slice-read-k
 shared-slice-read-k c = search needs
 
--- src/arguments.rt:17:9
 returns : tie.Need-returns
 returns c = arg-extension ((c .before .before .before) .args .a .now) (c .if1 .taken)
 
--- src/arguments.rt:19:8
 u16-at-requires : tie.Need-u16-at-requires
 u16-at-requires c κs = search needs
 
--- src/arguments.rt:20:9
 returns-2 : tie.Need-returns-2
 returns-2 c = arg-named ((c .before .before .before .before .before) .args .a .now) ((c .before .before) .if1 .left) ((c .before) .u16-at .result) ((c .before) .u16-at .ensures .0) (c .if2 .taken)
 
--- src/arguments.rt:23:9
 returns-3 : tie.Need-returns-3
 returns-3 c = arg-low ((c .before .before .before .before .before .before) .args .a .now) ((c .before .before .before) .if1 .left) ((c .before .before) .u16-at .result) ((c .before .before) .u16-at .ensures .0) ((c .before) .if2 .left) (c .if3 .taken)
 
--- src/arguments.rt:11:1
 returns-4 : tie.Need-returns-4
 returns-4 c = arg-plain ((c .before .before .before .before .before .before) .args .a .now) ((c .before .before .before) .if1 .left) ((c .before .before) .u16-at .result) ((c .before .before) .u16-at .ensures .0) ((c .before) .if2 .left) (c .if3 .left)
 

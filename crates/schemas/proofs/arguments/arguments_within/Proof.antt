@@ -6,9 +6,6 @@ use mathlib.Core.Path.{refl}
 use Rattle.schemas.specs.Laws.Arguments.{ArgsLeft, args-short, args-not, args-again, args-end}
 use Rattle.schemas.proofs.arguments.arguments_within.Statement.{statement}
 use Rattle.schemas.proofs.arguments.arguments_within.Tie as tie
-use Rattle.schemas.proofs.arguments.arguments_within.Reads as reads
-use Rattle.schemas.proofs.arguments.arguments_within.Lts as lts
-use Rattle.schemas.proofs.arguments.argument_within.Reads as argument-within-reads
 
 abbrev Inv-loop : tie.InvT-loop
 Inv-loop b a₀ a = ArgsLeft b a
@@ -16,43 +13,33 @@ Inv-loop b a₀ a = ArgsLeft b a
 abbrev μ-loop : tie.MeasureT-loop
 μ-loop b a₀ a = length a
 
--- src/arguments.rt:33:5
 loop-holds : tie.Need-loop-holds Inv-loop μ-loop
 loop-holds c = record { same = refl }
 
--- src/arguments.rt:35:13
 returns : tie.Need-returns Inv-loop μ-loop
 returns c = args-short ((c .before .before) .loop .inv) ((c .before) .loop-test .taken) (c .if1 .taken)
 
--- src/arguments.rt:37:13
 argument-within-requires : tie.Need-argument-within-requires Inv-loop μ-loop
 argument-within-requires c κs = search needs
 
--- src/arguments.rt:38:13
 returns-2 : tie.Need-returns-2 Inv-loop μ-loop
 returns-2 c = args-not ((c .before .before .before .before) .loop .inv) ((c .before .before .before) .loop-test .taken) ((c .before .before) .if1 .left) ((c .before) .argument-within .result) ((c .before) .argument-within .ensures) (c .if2 .taken)
 
--- src/arguments.rt:40:13
 sub-a : tie.Need-sub-a Inv-loop μ-loop
 sub-a c = search needs
 
--- src/arguments.rt:40:13
 part-a-start : tie.Need-part-a-start Inv-loop μ-loop
 part-a-start c = search needs
 
--- src/arguments.rt:40:13
 part-a-end : tie.Need-part-a-end Inv-loop μ-loop
 part-a-end c = search needs
 
--- src/arguments.rt:33:5
 loop-less : tie.Need-loop-less Inv-loop μ-loop
 loop-less c = omega (arith, length-rest 3 ((c .before .before .before .before .before) .loop .a .now))
 
--- src/arguments.rt:33:5
 loop-again : tie.Need-loop-again Inv-loop μ-loop
 loop-again c = args-again ((c .before .before .before .before .before) .loop .inv) ((c .before .before .before .before) .loop-test .taken) ((c .before .before .before) .if1 .left) ((c .before .before) .argument-within .result) ((c .before .before) .argument-within .ensures) ((c .before) .if2 .left)
 
--- src/arguments.rt:29:1
 returns-3 : tie.Need-returns-3 Inv-loop μ-loop
 returns-3 c = args-end ((c .before) .loop .inv) (c .loop-test .left)
 

@@ -4,48 +4,34 @@ use Rattle.schemas.specs.Laws.Finders.{functions-laid, function-room, si
 use borrow.Author.Needs.{needs}
 use Rattle.schemas.proofs.entries.find_function.Statement.{statement}
 use Rattle.schemas.proofs.entries.find_function.Tie as tie
-use Rattle.schemas.proofs.entries.find_function.Reads as reads
-use Rattle.schemas.proofs.entries.find_function.Lts as lts
-use Rattle.forms.proofs.numbers.u16_at.Reads as u16-at-reads
-use Rattle.schemas.proofs.entries.find_entry.Reads as find-entry-reads
 
--- src/entries.rt:95:41
 find-entry-requires : tie.Need-find-entry-requires
 find-entry-requires c κs = functions-laid ((c .before) .pre)
 
--- src/entries.rt:95:24
 enum-known-i : tie.Need-enum-known-i
 enum-known-i c = search needs
 
--- src/entries.rt:96:9
 enum-told : tie.Need-enum-told
 enum-told c = search needs
 
--- src/entries.rt:96:9
 returns : tie.Need-returns
 returns c = signature-not ((c .before .before .before .before) .args .s .now) ((c .before .before) .find-entry .result) _ ((c .before .before) .find-entry .ensures) (c .enum-told .given .1)
 
--- src/entries.rt:98:13
 sub-e : tie.Need-sub-e
 sub-e c = omega (arith, function-room ((c .before .before .before .before .before) .pre) ((c .before .before .before .before .before) .args .name) ((c .before .before .before) .find-entry .result) ((c .before .before .before) .find-entry .ensures) ((c .before) .i .given .0 .0) ((c .before) .i .given .0 .1 .0) ((c .before) .i .given .0 .1 .1 .0) ((c .before) .i .given .1))
 
--- src/entries.rt:98:13
 part-e-start : tie.Need-part-e-start
 part-e-start c = omega (arith, function-room ((c .before .before .before .before .before) .pre) ((c .before .before .before .before .before) .args .name) ((c .before .before .before) .find-entry .result) ((c .before .before .before) .find-entry .ensures) ((c .before) .i .given .0 .0) ((c .before) .i .given .0 .1 .0) ((c .before) .i .given .0 .1 .1 .0) ((c .before) .i .given .1))
 
--- src/entries.rt:98:13
 part-e-end : tie.Need-part-e-end
 part-e-end c = omega (arith, function-room ((c .before .before .before .before .before) .pre) ((c .before .before .before .before .before) .args .name) ((c .before .before .before) .find-entry .result) ((c .before .before .before) .find-entry .ensures) ((c .before) .i .given .0 .0) ((c .before) .i .given .0 .1 .0) ((c .before) .i .given .0 .1 .1 .0) ((c .before) .i .given .1))
 
--- src/entries.rt:100:18
 shared-slice-read-t14 : tie.Need-shared-slice-read-t14
 shared-slice-read-t14 c = omega (arith, function-room ((c .before .before .before .before .before .before .before) .pre) ((c .before .before .before .before .before .before .before) .args .name) ((c .before .before .before .before .before) .find-entry .result) ((c .before .before .before .before .before) .find-entry .ensures) ((c .before .before .before) .i .given .0 .0) ((c .before .before .before) .i .given .0 .1 .0) ((c .before .before .before) .i .given .0 .1 .1 .0) ((c .before .before .before) .i .given .1), length-rest ((c .before .before .before) .i .given .0 .0) ((c .before .before .before .before .before .before .before) .args .s .now))
 
--- src/entries.rt:101:20
 u16-at-requires : tie.Need-u16-at-requires
 u16-at-requires c κs = omega (arith, function-room ((c .before .before .before .before .before .before .before) .pre) ((c .before .before .before .before .before .before .before) .args .name) ((c .before .before .before .before .before) .find-entry .result) ((c .before .before .before .before .before) .find-entry .ensures) ((c .before .before .before) .i .given .0 .0) ((c .before .before .before) .i .given .0 .1 .0) ((c .before .before .before) .i .given .0 .1 .1 .0) ((c .before .before .before) .i .given .1), length-rest ((c .before .before .before) .i .given .0 .0) ((c .before .before .before .before .before .before .before) .args .s .now))
 
--- src/entries.rt:91:1
 returns-2 : tie.Need-returns-2
 returns-2 c = signature-at ((c .before .before .before .before .before .before .before .before) .args .s .now) ((c .before .before .before .before .before .before) .find-entry .result) _ ((c .before .before .before .before .before .before) .find-entry .ensures) ((c .before .before .before .before) .i .given .0 .0) ((c .before .before .before .before) .i .given .0 .1 .0) ((c .before .before .before .before) .i .given .0 .1 .1 .0) ((c .before .before .before .before) .i .given .1) (c .u16-at .result) (c .u16-at .ensures .0)
 

@@ -2,39 +2,28 @@ use Rattle.schemas.specs.Laws.Entries.{key-name, key-other, key-uid}
 use borrow.Author.Needs.{needs}
 use Rattle.schemas.proofs.entries.has_key.Statement.{statement}
 use Rattle.schemas.proofs.entries.has_key.Tie as tie
-use Rattle.schemas.proofs.entries.has_key.Reads as reads
-use Rattle.schemas.proofs.entries.has_key.Lts as lts
-use Rattle.forms.proofs.numbers.u16_at.Reads as u16-at-reads
 
--- src/entries.rt:43:19
 enum-known-key : tie.Need-enum-known-key
 enum-known-key c = search needs
 
--- src/entries.rt:43:36
 u16-at-requires : tie.Need-u16-at-requires
 u16-at-requires c κs = search needs
 
--- src/entries.rt:44:18
 enum-known-key-2 : tie.Need-enum-known-key-2
 enum-known-key-2 c = search needs
 
--- src/entries.rt:45:24
 u16-at-requires-2 : tie.Need-u16-at-requires-2
 u16-at-requires-2 c κs = search needs
 
--- src/entries.rt:46:17
 returns : tie.Need-returns
 returns c = key-other ((c .before .before .before .before .before .before) .args .key) ((c .before .before .before .before .before .before) .args .e .now) ((c .before .before .before) .key2 .given .0 .0) ((c .before .before .before) .key2 .given .0 .1 .0) ((c .before .before .before) .key2 .given .1) ((c .before) .u16-at2 .result) ((c .before) .u16-at2 .ensures .0) (c .if1 .taken)
 
--- src/entries.rt:48:19
 u16-at-requires-3 : tie.Need-u16-at-requires-3
 u16-at-requires-3 c κs = search needs
 
--- src/entries.rt:38:1
 returns-2 : tie.Need-returns-2
 returns-2 c = key-name ((c .before .before .before .before .before) .args .key) ((c .before .before .before .before .before) .args .e .now) ((c .before .before) .key .given .0 .0) ((c .before .before) .key .given .1) (c .u16-at .result) (c .u16-at .ensures .0)
 
--- src/entries.rt:38:1
 returns-3 : tie.Need-returns-3
 returns-3 c = key-uid ((c .before .before .before .before .before .before .before) .args .key) ((c .before .before .before .before .before .before .before) .args .e .now) ((c .before .before .before .before) .key2 .given .0 .0) ((c .before .before .before .before) .key2 .given .0 .1 .0) ((c .before .before .before .before) .key2 .given .1) ((c .before .before) .u16-at2 .result) ((c .before .before) .u16-at2 .ensures .0) ((c .before) .if1 .left) (c .u16-at3 .result) (c .u16-at3 .ensures .0)
 

@@ -2,32 +2,22 @@ use Rattle.schemas.specs.Laws.Order.{entity-odd, entity-kind, entity-ope
 use borrow.Author.Needs.{needs}
 use Rattle.schemas.proofs.order.entity_follows.Statement.{statement}
 use Rattle.schemas.proofs.order.entity_follows.Tie as tie
-use Rattle.schemas.proofs.order.entity_follows.Reads as reads
-use Rattle.schemas.proofs.order.entity_follows.Lts as lts
-use Rattle.forms.proofs.numbers.u16_at.Reads as u16-at-reads
-use Rattle.schemas.proofs.order.is_action.Reads as is-action-reads
 
--- src/order.rt:31:9
 u16-at-requires : tie.Need-u16-at-requires
 u16-at-requires c κs = search needs
 
--- src/order.rt:32:8
 is-action-requires : tie.Need-is-action-requires
 is-action-requires c κs = search needs
 
--- src/order.rt:33:9
 returns : tie.Need-returns
 returns c = entity-odd ((c .before .before .before .before) .args .e .now) ((c .before .before .before .before) .args .low) ((c .before .before) .u16-at .result) ((c .before .before) .u16-at .ensures .0) ((c .before) .is-action .result) ((c .before) .is-action .ensures) (c .if1 .taken)
 
--- src/order.rt:35:33
 shared-slice-read-if2 : tie.Need-shared-slice-read-if2
 shared-slice-read-if2 c = search needs
 
--- src/order.rt:36:9
 returns-2 : tie.Need-returns-2
 returns-2 c = entity-kind ((c .before .before .before .before .before .before) .args .e .now) ((c .before .before .before .before .before .before) .args .low) ((c .before .before .before .before) .u16-at .result) ((c .before .before .before .before) .u16-at .ensures .0) ((c .before .before .before) .is-action .result) ((c .before .before .before) .is-action .ensures) ((c .before .before) .if1 .left) (c .if2 .taken)
 
--- src/order.rt:27:1
 returns-3 : tie.Need-returns-3
 returns-3 c = entity-open ((c .before .before .before .before .before .before) .args .e .now) ((c .before .before .before .before .before .before) .args .low) ((c .before .before .before .before) .u16-at .result) ((c .before .before .before .before) .u16-at .ensures .0) ((c .before .before .before) .is-action .result) ((c .before .before .before) .is-action .ensures) ((c .before .before) .if1 .left) (c .if2 .left)
 

@@ -2,39 +2,28 @@ use Rattle.schemas.specs.Laws.Order.{function-returns, function-flag, fu
 use borrow.Author.Needs.{needs}
 use Rattle.schemas.proofs.order.function_follows.Statement.{statement}
 use Rattle.schemas.proofs.order.function_follows.Tie as tie
-use Rattle.schemas.proofs.order.function_follows.Reads as reads
-use Rattle.schemas.proofs.order.function_follows.Lts as lts
-use Rattle.forms.proofs.numbers.u16_at.Reads as u16-at-reads
 
--- src/order.rt:61:9
 u16-at-requires : tie.Need-u16-at-requires
 u16-at-requires c κs = search needs
 
--- src/order.rt:62:8
 shared-slice-read-if1 : tie.Need-shared-slice-read-if1
 shared-slice-read-if1 c = search needs
 
--- src/order.rt:63:9
 returns : tie.Need-returns
 returns c = function-returns ((c .before .before .before .before) .args .e .now) ((c .before .before .before .before) .args .low) ((c .before .before) .u16-at .result) ((c .before .before) .u16-at .ensures .0) (c .if1 .taken)
 
--- src/order.rt:65:8
 shared-slice-read-if2 : tie.Need-shared-slice-read-if2
 shared-slice-read-if2 c = search needs
 
--- src/order.rt:66:9
 returns-2 : tie.Need-returns-2
 returns-2 c = function-flag ((c .before .before .before .before .before .before) .args .e .now) ((c .before .before .before .before .before .before) .args .low) ((c .before .before .before .before) .u16-at .result) ((c .before .before .before .before) .u16-at .ensures .0) ((c .before .before) .if1 .left) (c .if2 .taken)
 
--- src/order.rt:68:8
 u16-at-requires-2 : tie.Need-u16-at-requires-2
 u16-at-requires-2 c κs = search needs
 
--- src/order.rt:69:9
 returns-3 : tie.Need-returns-3
 returns-3 c = function-named ((c .before .before .before .before .before .before .before .before) .args .e .now) ((c .before .before .before .before .before .before .before .before) .args .low) ((c .before .before .before .before .before .before) .u16-at .result) ((c .before .before .before .before .before .before) .u16-at .ensures .0) ((c .before .before .before .before) .if1 .left) ((c .before .before) .if2 .left) ((c .before) .u16-at2 .result) ((c .before) .u16-at2 .ensures .0) (c .if3 .taken)
 
--- src/order.rt:57:1
 returns-4 : tie.Need-returns-4
 returns-4 c = function-open ((c .before .before .before .before .before .before .before .before) .args .e .now) ((c .before .before .before .before .before .before .before .before) .args .low) ((c .before .before .before .before .before .before) .u16-at .result) ((c .before .before .before .before .before .before) .u16-at .ensures .0) ((c .before .before .before .before) .if1 .left) ((c .before .before) .if2 .left) ((c .before) .u16-at2 .result) ((c .before) .u16-at2 .ensures .0) (c .if3 .left)
 

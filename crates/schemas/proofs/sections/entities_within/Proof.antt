@@ -2,16 +2,11 @@ use borrow.Author.Needs.{needs}
 use Rattle.schemas.specs.SchemaBytes.{entityRow, entityBody}
 use Rattle.cedar.specs.Limits.{standard}
 use Prim.Native.Nat.{ℕ, _+_}
-use mathlib.Core.Path.{refl, ap, ap₂}
+use mathlib.Core.Path.{ap}
 use native.Mathlib.Omega.{arith}
 use Rattle.schemas.specs.Laws.Walks.{WalkLeft, walk-start, walk-room, walk-unfit, walk-short, walk-body, walk-again, walk-end}
 use Rattle.schemas.proofs.sections.entities_within.Statement.{statement}
 use Rattle.schemas.proofs.sections.entities_within.Tie as tie
-use Rattle.schemas.proofs.sections.entities_within.Reads as reads
-use Rattle.schemas.proofs.sections.entities_within.Lts as lts
-use Rattle.forms.proofs.numbers.u16_at.Reads as u16-at-reads
-use Rattle.schemas.proofs.bodies.body_within.Reads as body-within-reads
-use Rattle.schemas.proofs.order.entity_follows.Reads as entity-follows-reads
 
 abbrev Inv-loop : tie.InvT-loop
 Inv-loop s start bodies e₀ b₀ left₀ low₀ e b left low = WalkLeft entityRow (entityBody standard) 0 (record { count = left₀; entries = start; bodies = bodies }) s left low e b
@@ -19,123 +14,93 @@ Inv-loop s start bodies e₀ b₀ left₀ low₀ e b left low = WalkLeft entityR
 abbrev μ-loop : tie.MeasureT-loop
 μ-loop s start bodies e₀ b₀ left₀ low₀ e b left low = left
 
--- src/sections.rt:41:17
 sub-e : tie.Need-sub-e Inv-loop μ-loop
 sub-e c = omega (arith, (c .before) .pre .entries)
 
--- src/sections.rt:41:17
 part-e-start : tie.Need-part-e-start Inv-loop μ-loop
 part-e-start c = omega (arith, (c .before) .pre .entries)
 
--- src/sections.rt:41:17
 part-e-end : tie.Need-part-e-end Inv-loop μ-loop
 part-e-end c = omega (arith, (c .before) .pre .entries)
 
--- src/sections.rt:42:17
 sub-b : tie.Need-sub-b Inv-loop μ-loop
 sub-b c = omega (arith, (c .before .before) .pre .bodies)
 
--- src/sections.rt:42:17
 part-b-start : tie.Need-part-b-start Inv-loop μ-loop
 part-b-start c = omega (arith, (c .before .before) .pre .bodies)
 
--- src/sections.rt:42:17
 part-b-end : tie.Need-part-b-end Inv-loop μ-loop
 part-b-end c = omega (arith, (c .before .before) .pre .bodies)
 
--- src/sections.rt:45:5
 loop-holds : tie.Need-loop-holds Inv-loop μ-loop
 loop-holds c = walk-start 0 ((c .before .before .before) .pre)
 
--- src/sections.rt:46:13
 entity-follows-requires : tie.Need-entity-follows-requires Inv-loop μ-loop
 entity-follows-requires c κs = walk-room ((c .before) .loop .inv) (c .loop-test .taken)
 
--- src/sections.rt:47:13
 returns : tie.Need-returns Inv-loop μ-loop
 returns c = walk-unfit ((c .before .before .before) .loop .inv) ((c .before .before) .loop-test .taken) ((c .before) .entity-follows .result) ((c .before) .entity-follows .ensures) (c .if1 .taken)
 
--- src/sections.rt:49:13
 u16-at-requires : tie.Need-u16-at-requires Inv-loop μ-loop
 u16-at-requires c κs = omega (arith, walk-room ((c .before .before .before) .loop .inv) ((c .before .before) .loop-test .taken))
 
--- src/sections.rt:51:13
 returns-2 : tie.Need-returns-2 Inv-loop μ-loop
 returns-2 c = walk-short ((c .before .before .before .before .before) .loop .inv) ((c .before .before .before .before) .loop-test .taken) ((c .before) .u16-at .result) ((c .before) .u16-at .ensures .0) (c .if2 .taken)
 
--- src/sections.rt:53:25
 sub-body-within : tie.Need-sub-body-within Inv-loop μ-loop
 sub-body-within c = search needs
 
--- src/sections.rt:53:25
 part-body-within-start : tie.Need-part-body-within-start Inv-loop μ-loop
 part-body-within-start c = search needs
 
--- src/sections.rt:53:25
 part-body-within-end : tie.Need-part-body-within-end Inv-loop μ-loop
 part-body-within-end c = search needs
 
--- src/sections.rt:53:37
 shared-slice-read-body-within : tie.Need-shared-slice-read-body-within Inv-loop μ-loop
 shared-slice-read-body-within c = omega (arith, walk-room ((c .before .before .before .before .before .before .before) .loop .inv) ((c .before .before .before .before .before .before) .loop-test .taken))
 
--- src/sections.rt:53:13
 body-within-requires : tie.Need-body-within-requires Inv-loop μ-loop
 body-within-requires c κs = search needs
 
--- src/sections.rt:54:13
 returns-3 : tie.Need-returns-3 Inv-loop μ-loop
 returns-3 c = walk-body ((c .before .before .before .before .before .before .before .before .before) .loop .inv) ((c .before .before .before .before .before .before .before .before) .loop-test .taken) ((c .before .before .before .before .before) .u16-at .result) ((c .before .before .before .before .before) .u16-at .ensures .0) ((c .before) .body-within .result) ((c .before) .body-within .ensures) (c .if3 .taken)
 
--- src/sections.rt:56:15
 u16-at-requires-2 : tie.Need-u16-at-requires-2 Inv-loop μ-loop
 u16-at-requires-2 c κs = omega (arith, walk-room ((c .before .before .before .before .before .before .before .before .before) .loop .inv) ((c .before .before .before .before .before .before .before .before) .loop-test .taken))
 
--- src/sections.rt:56:15
 add-low : tie.Need-add-low Inv-loop μ-loop
 add-low c = search needs
 
--- src/sections.rt:57:13
 sub-e-2 : tie.Need-sub-e-2 Inv-loop μ-loop
 sub-e-2 c = omega (arith, walk-room ((c .before .before .before .before .before .before .before .before .before .before) .loop .inv) ((c .before .before .before .before .before .before .before .before .before) .loop-test .taken))
 
--- src/sections.rt:57:13
 part-e-start-2 : tie.Need-part-e-start-2 Inv-loop μ-loop
 part-e-start-2 c = omega (arith, walk-room ((c .before .before .before .before .before .before .before .before .before .before) .loop .inv) ((c .before .before .before .before .before .before .before .before .before) .loop-test .taken))
 
--- src/sections.rt:57:13
 part-e-end-2 : tie.Need-part-e-end-2 Inv-loop μ-loop
 part-e-end-2 c = omega (arith, walk-room ((c .before .before .before .before .before .before .before .before .before .before) .loop .inv) ((c .before .before .before .before .before .before .before .before .before) .loop-test .taken))
 
--- src/sections.rt:58:13
 sub-b-2 : tie.Need-sub-b-2 Inv-loop μ-loop
 sub-b-2 c = search needs
 
--- src/sections.rt:58:13
 part-b-start-2 : tie.Need-part-b-start-2 Inv-loop μ-loop
 part-b-start-2 c = search needs
 
--- src/sections.rt:58:13
 part-b-end-2 : tie.Need-part-b-end-2 Inv-loop μ-loop
 part-b-end-2 c = search needs
 
--- src/sections.rt:59:9
 sub-left : tie.Need-sub-left Inv-loop μ-loop
 sub-left c = search needs
 
--- src/sections.rt:45:5
 loop-less : tie.Need-loop-less Inv-loop μ-loop
 loop-less c = search needs
 
--- src/sections.rt:45:5
 loop-again : tie.Need-loop-again Inv-loop μ-loop
 loop-again c = walk-again ((c .before .before .before .before .before .before .before .before .before .before .before .before) .loop .inv) ((c .before .before .before .before .before .before .before .before .before .before .before) .loop-test .taken) ((c .before .before .before .before .before .before .before .before) .u16-at .result) ((c .before .before .before .before .before .before .before .before) .u16-at .ensures .0) ((c .before .before .before .before .before .before .before .before .before .before) .entity-follows .result) ((c .before .before .before .before .before .before .before .before .before .before) .entity-follows .ensures) ((c .before .before .before .before .before .before .before .before .before) .if1 .left) ((c .before .before .before .before .before .before .before) .if2 .left) ((c .before .before .before .before) .body-within .result) ((c .before .before .before .before) .body-within .ensures) ((c .before .before .before) .if3 .left) ((c .before .before) .u16-at2 .result + 1) (ap (λ (j : ℕ). j + 1) ((c .before .before) .u16-at2 .ensures .0))
 
--- src/sections.rt:61:16
 sub-t29 : tie.Need-sub-t29 Inv-loop μ-loop
 sub-t29 c = omega (arith, (c .before) .loop .inv .inside)
 
--- src/sections.rt:35:1
 returns-4 : tie.Need-returns-4 Inv-loop μ-loop
 returns-4 c = walk-end ((c .before) .loop .inv) (c .loop-test .left)
 

@@ -1,0 +1,69 @@
+use Rattle.schemas.specs.Laws.Finders.{entity-at, entity-not, action-at, action-not}
+use Rattle.attributes.specs.Laws.Literal.{literal-action, literal-no-action, literal-entity, literal-no-entity}
+use borrow.Author.Needs.{needs}
+use Rattle.attributes.proofs.euid_literal.find_literal.Statement.{statement}
+use Rattle.attributes.proofs.euid_literal.find_literal.Tie as tie
+use Rattle.attributes.proofs.euid_literal.find_literal.Reads as reads
+use Rattle.attributes.proofs.euid_literal.find_literal.Lts as lts
+use Rattle.schemas.proofs.entries.find_action.Reads as find-action-reads
+use Rattle.schemas.proofs.entries.find_entity.Reads as find-entity-reads
+use Rattle.schemas.proofs.order.is_action.Reads as is-action-reads
+
+-- src/euid_literal.rt:30:8
+is-action-requires : tie.Need-is-action-requires
+is-action-requires c κs = search needs
+
+-- src/euid_literal.rt:31:45
+find-action-requires : tie.Need-find-action-requires
+find-action-requires c κs = search needs
+
+-- src/euid_literal.rt:31:31
+enum-known-start : tie.Need-enum-known-start
+enum-known-start c = search needs
+
+-- src/euid_literal.rt:32:13
+enum-told : tie.Need-enum-told
+enum-told c = search needs
+
+-- src/euid_literal.rt:32:13
+returns : tie.Need-returns
+returns c = literal-no-action ((c .before .before .before .before .before .before) .args .schema .now) ((c .before .before .before .before .before .before) .args .entity) ((c .before .before .before .before .before .before) .args .id) ((c .before .before .before .before) .is-action .result) ((c .before .before .before .before) .is-action .ensures) ((c .before .before .before) .if1 .taken) (action-not ((c .before .before .before .before .before .before) .pre) ((c .before .before .before .before .before .before) .args .entity) ((c .before .before .before .before .before .before) .args .id) ((c .before .before) .find-action .result) ((c .before .before) .find-action .ensures) (c .enum-told .given .1))
+
+-- src/euid_literal.rt:34:9
+returns-2 : tie.Need-returns-2
+returns-2 c = literal-action ((c .before .before .before .before .before .before .before) .args .schema .now) ((c .before .before .before .before .before .before .before) .args .entity) ((c .before .before .before .before .before .before .before) .args .id) ((c .before .before .before .before .before) .is-action .result) ((c .before .before .before .before .before) .is-action .ensures) ((c .before) .start .given .0 .1 .0) ((c .before) .start .given .0 .1 .1 .0) ((c .before .before .before .before) .if1 .taken) (action-at ((c .before .before .before .before .before .before .before) .pre) ((c .before .before .before .before .before .before .before) .args .entity) ((c .before .before .before .before .before .before .before) .args .id) ((c .before .before .before) .find-action .result) ((c .before .before .before) .find-action .ensures) ((c .before) .start .given .0 .0) ((c .before) .start .given .0 .1 .0) ((c .before) .start .given .0 .1 .1 .0) ((c .before) .start .given .1))
+
+-- src/euid_literal.rt:36:35
+find-entity-requires : tie.Need-find-entity-requires
+find-entity-requires c κs = search needs
+
+enum-told-2 : tie.Need-enum-told-2
+enum-told-2 c = search needs
+
+-- src/euid_literal.rt:37:9
+enum-told-3 : tie.Need-enum-told-3
+enum-told-3 c = search needs
+
+-- src/euid_literal.rt:37:9
+returns-3 : tie.Need-returns-3
+returns-3 c = literal-no-entity ((c .before .before .before .before .before .before) .args .schema .now) ((c .before .before .before .before .before .before) .args .entity) ((c .before .before .before .before .before .before) .args .id) ((c .before .before .before .before) .is-action .result) ((c .before .before .before .before) .is-action .ensures) ((c .before .before .before) .if1 .left) (entity-not ((c .before .before .before .before .before .before) .pre) ((c .before .before .before .before .before .before) .args .entity) ((c .before .before) .find-entity .result) ((c .before .before) .find-entity .ensures) (c .enum-told3 .given .1))
+
+-- src/euid_literal.rt:26:1
+returns-4 : tie.Need-returns-4
+returns-4 c = literal-entity ((c .before .before .before .before .before .before) .args .schema .now) ((c .before .before .before .before .before .before) .args .entity) ((c .before .before .before .before .before .before) .args .id) ((c .before .before .before .before) .is-action .result) ((c .before .before .before .before) .is-action .ensures) (c .enum-told2 .given .0 .1 .0) (c .enum-told2 .given .0 .1 .1 .0) ((c .before .before .before) .if1 .left) (entity-at ((c .before .before .before .before .before .before) .pre) ((c .before .before .before .before .before .before) .args .entity) ((c .before .before) .find-entity .result) ((c .before .before) .find-entity .ensures) (c .enum-told2 .given .0 .0) (c .enum-told2 .given .0 .1 .0) (c .enum-told2 .given .0 .1 .1 .0) (c .enum-told2 .given .1))
+
+pub find-literal-spec : {M : Type 1} → statement M
+find-literal-spec =
+    tie.close
+    (tie.spec
+    is-action-requires
+    find-action-requires
+    enum-known-start
+    enum-told
+    returns
+    returns-2
+    find-entity-requires
+    enum-told-2
+    enum-told-3
+    returns-3
+    returns-4)

@@ -1,0 +1,82 @@
+use borrow.Author.Needs.{needs}
+use native.Mathlib.Omega.{arith}
+use Rattle.cedar.specs.Limits.{standard}
+use Rattle.cedar.specs.Attribute.{mayHaveNames}
+use Rattle.forms.specs.TypeBytes.{namesOf}
+use Rattle.schemas.specs.SchemaBytes.{decS}
+use Rattle.attributes.specs.Laws.Ahead.{Ahead, ahead-start}
+use Rattle.attributes.specs.Laws.MayHave.{none-may-have, one-may-have, next-may-have}
+use Rattle.attributes.proofs.may_have_attr.entity_may_have.Statement.{statement}
+use Rattle.attributes.proofs.may_have_attr.entity_may_have.Tie as tie
+use Rattle.attributes.proofs.may_have_attr.entity_may_have.Reads as reads
+use Rattle.attributes.proofs.may_have_attr.entity_may_have.Lts as lts
+use Rattle.attributes.proofs.may_have_attr.entity_type_may_have.Reads as entity-type-may-have-reads
+use Rattle.forms.proofs.numbers.u16_at.Reads as u16-at-reads
+
+abbrev Inv-loop : tie.InvT-loop
+Inv-loop schema at types n name e₀ left₀ e left = Ahead (mayHaveNames (decS standard schema) name (namesOf n types)) (mayHaveNames (decS standard schema) name) left e
+
+abbrev μ-loop : tie.MeasureT-loop
+μ-loop schema at types n name e₀ left₀ e left = left
+
+-- src/may_have_attr.rt:68:5
+loop-holds : tie.Need-loop-holds Inv-loop μ-loop
+loop-holds c = ahead-start (mayHaveNames (decS standard ((c .before .before) .args .schema .now)) ((c .before .before) .args .name)) ((c .before .before) .args .n) ((c .before .before) .args .types .now) ((c .before .before) .pre .1)
+
+-- src/may_have_attr.rt:69:45
+u16-at-requires : tie.Need-u16-at-requires Inv-loop μ-loop
+u16-at-requires c κs = omega (arith, (c .before) .loop .inv .sized)
+
+-- src/may_have_attr.rt:69:12
+entity-type-may-have-requires : tie.Need-entity-type-may-have-requires Inv-loop μ-loop
+entity-type-may-have-requires c κs = (c .before .before .before .before .before) .pre .0
+
+-- src/may_have_attr.rt:70:13
+returns : tie.Need-returns Inv-loop μ-loop
+returns c = one-may-have (decS standard ((c .before .before .before .before .before .before .before) .args .schema .now)) ((c .before .before .before .before .before .before .before) .args .name) ((c .before .before .before .before) .loop .inv) ((c .before .before .before) .loop-test .taken) ((c .before .before) .u16-at .result) ((c .before .before) .u16-at .ensures .0) ((c .before) .entity-type-may-have .result) ((c .before) .entity-type-may-have .ensures) (c .if1 .taken)
+
+-- src/may_have_attr.rt:72:13
+sub-e : tie.Need-sub-e Inv-loop μ-loop
+sub-e c = omega (arith, (c .before .before .before .before) .loop .inv .sized)
+
+-- src/may_have_attr.rt:72:13
+part-e-start : tie.Need-part-e-start Inv-loop μ-loop
+part-e-start c = omega (arith, (c .before .before .before .before) .loop .inv .sized)
+
+-- src/may_have_attr.rt:72:13
+part-e-end : tie.Need-part-e-end Inv-loop μ-loop
+part-e-end c = omega arith
+
+-- src/may_have_attr.rt:73:9
+sub-left : tie.Need-sub-left Inv-loop μ-loop
+sub-left c = omega arith
+
+-- src/may_have_attr.rt:68:5
+loop-less : tie.Need-loop-less Inv-loop μ-loop
+loop-less c = omega arith
+
+-- src/may_have_attr.rt:68:5
+loop-again : tie.Need-loop-again Inv-loop μ-loop
+loop-again c = next-may-have (decS standard ((c .before .before .before .before .before .before .before .before) .args .schema .now)) ((c .before .before .before .before .before .before .before .before) .args .name) ((c .before .before .before .before .before) .loop .inv) ((c .before .before .before .before) .loop-test .taken) ((c .before .before .before) .u16-at .result) ((c .before .before .before) .u16-at .ensures .0) ((c .before .before) .entity-type-may-have .result) ((c .before .before) .entity-type-may-have .ensures) ((c .before) .if1 .left)
+
+-- src/may_have_attr.rt:61:1
+returns-2 : tie.Need-returns-2 Inv-loop μ-loop
+returns-2 c = none-may-have (decS standard ((c .before .before .before .before) .args .schema .now)) ((c .before .before .before .before) .args .name) ((c .before) .loop .inv) (c .loop-test .left)
+
+pub entity-may-have-spec : {M : Type 1} → statement M
+entity-may-have-spec =
+    tie.close
+    (tie.spec
+    Inv-loop
+    μ-loop
+    loop-holds
+    u16-at-requires
+    entity-type-may-have-requires
+    returns
+    sub-e
+    part-e-start
+    part-e-end
+    sub-left
+    loop-less
+    loop-again
+    returns-2)

@@ -1,0 +1,90 @@
+use native.Mathlib.Omega.{arith}
+use Rattle.cedar.specs.Limits.{standard}
+use Rattle.forms.specs.Laws.Views.{not-empty, is-entity}
+use Rattle.forms.specs.Laws.Parts.{length-rest}
+use Rattle.schemas.specs.SchemaBytes.{decS}
+use Rattle.attributes.specs.Laws.MayHave.{record-is, action-is, entity-is, entity-names, never-is, any-entity-is, other-is}
+use borrow.Author.Needs.{needs}
+use Rattle.attributes.proofs.may_have_attr.may_have_attr.Statement.{statement}
+use Rattle.attributes.proofs.may_have_attr.may_have_attr.Tie as tie
+use Rattle.attributes.proofs.may_have_attr.may_have_attr.Reads as reads
+use Rattle.attributes.proofs.may_have_attr.may_have_attr.Lts as lts
+use Rattle.attributes.proofs.may_have_attr.entity_may_have.Reads as entity-may-have-reads
+use Rattle.attributes.proofs.may_have_attr.lists_attribute.Reads as lists-attribute-reads
+use Rattle.attributes.proofs.may_have_attr.record_may_have.Reads as record-may-have-reads
+use Rattle.forms.proofs.numbers.u16_at.Reads as u16-at-reads
+
+-- src/may_have_attr.rt:83:13
+shared-slice-read-k : tie.Need-shared-slice-read-k
+shared-slice-read-k c = not-empty 16 ((c .before .before .before) .args .t .now) ((c .before .before .before) .pre .1)
+
+-- src/may_have_attr.rt:87:25
+record-may-have-requires : tie.Need-record-may-have-requires
+record-may-have-requires c κs = ((c .before .before .before .before) .pre .1, c .match .keys3)
+
+-- src/may_have_attr.rt:88:53
+sub-entity-may-have : tie.Need-sub-entity-may-have
+sub-entity-may-have c = omega (arith, is-entity 16 ((c .before .before .before .before) .args .t .now) ((c .before .before .before .before) .pre .1) (c .match .keys4) .sized)
+
+-- src/may_have_attr.rt:88:53
+part-entity-may-have-start : tie.Need-part-entity-may-have-start
+part-entity-may-have-start c = omega (arith, is-entity 16 ((c .before .before .before .before) .args .t .now) ((c .before .before .before .before) .pre .1) (c .match .keys4) .sized)
+
+-- src/may_have_attr.rt:88:53
+part-entity-may-have-end : tie.Need-part-entity-may-have-end
+part-entity-may-have-end c = omega arith
+
+-- src/may_have_attr.rt:88:62
+u16-at-requires : tie.Need-u16-at-requires
+u16-at-requires c κs = omega (arith, is-entity 16 ((c .before .before .before .before .before) .args .t .now) ((c .before .before .before .before .before) .pre .1) ((c .before) .match .keys4) .some)
+
+-- src/may_have_attr.rt:88:25
+entity-may-have-requires : tie.Need-entity-may-have-requires
+entity-may-have-requires c κs = ((c .before .before .before .before .before .before) .pre .0, omega (arith, entity-names (decS standard ((c .before .before .before .before .before .before) .args .schema .now)) ((c .before .before .before .before .before .before) .args .name) 16 ((c .before .before .before .before .before .before) .args .t .now) ((c .before .before .before .before .before .before) .pre .1) ((c .before .before) .match .keys4) (c .u16-at .result) (c .u16-at .ensures .0), length-rest 3 ((c .before .before .before .before .before .before) .args .t .now)))
+
+-- src/may_have_attr.rt:89:25
+lists-attribute-requires : tie.Need-lists-attribute-requires
+lists-attribute-requires c κs = search needs
+
+-- src/may_have_attr.rt:78:1
+returns : tie.Need-returns
+returns c = never-is (decS standard ((c .before .before .before .before) .args .schema .now)) ((c .before .before .before .before) .args .name) 16 ((c .before .before .before .before) .args .t .now) ((c .before .before .before .before) .pre .1) (c .match .keys1)
+
+-- src/may_have_attr.rt:78:1
+returns-2 : tie.Need-returns-2
+returns-2 c = any-entity-is (decS standard ((c .before .before .before .before) .args .schema .now)) ((c .before .before .before .before) .args .name) 16 ((c .before .before .before .before) .args .t .now) ((c .before .before .before .before) .pre .1) (c .match .keys2)
+
+-- src/may_have_attr.rt:78:1
+returns-3 : tie.Need-returns-3
+returns-3 c = record-is (decS standard ((c .before .before .before .before .before) .args .schema .now)) ((c .before .before .before .before .before) .args .name) 16 ((c .before .before .before .before .before) .args .t .now) ((c .before .before .before .before .before) .pre .1) ((c .before) .match .keys3) (c .record-may-have .result) (c .record-may-have .ensures)
+
+-- src/may_have_attr.rt:78:1
+returns-4 : tie.Need-returns-4
+returns-4 c = entity-is (decS standard ((c .before .before .before .before .before .before .before) .args .schema .now)) ((c .before .before .before .before .before .before .before) .args .name) 16 ((c .before .before .before .before .before .before .before) .args .t .now) ((c .before .before .before .before .before .before .before) .pre .1) ((c .before .before .before) .match .keys4) ((c .before) .u16-at .result) ((c .before) .u16-at .ensures .0) (c .entity-may-have .result) (c .entity-may-have .ensures)
+
+-- src/may_have_attr.rt:78:1
+returns-5 : tie.Need-returns-5
+returns-5 c = action-is (decS standard ((c .before .before .before .before .before) .args .schema .now)) ((c .before .before .before .before .before) .args .name) 16 ((c .before .before .before .before .before) .args .t .now) ((c .before .before .before .before .before) .pre .1) ((c .before) .match .keys5) (c .lists-attribute .result) (c .lists-attribute .ensures)
+
+-- src/may_have_attr.rt:78:1
+returns-6 : tie.Need-returns-6
+returns-6 c = other-is (decS standard ((c .before .before .before .before) .args .schema .now)) ((c .before .before .before .before) .args .name) 16 ((c .before .before .before .before) .args .t .now) ((c .before .before .before .before) .pre .1) (c .match .rest)
+
+pub may-have-attr-spec : {M : Type 1} → statement M
+may-have-attr-spec =
+    tie.close
+    (tie.spec
+    shared-slice-read-k
+    record-may-have-requires
+    sub-entity-may-have
+    part-entity-may-have-start
+    part-entity-may-have-end
+    u16-at-requires
+    entity-may-have-requires
+    lists-attribute-requires
+    returns
+    returns-2
+    returns-3
+    returns-4
+    returns-5
+    returns-6)

@@ -1,0 +1,6 @@
+-- Laws for the proofs here and in the crates above.
+pub mod Bytes
+pub mod Place
+pub mod Ahead
+pub mod MayHave
+pub mod Literal

@@ -1,0 +1,4 @@
+pub mod Place
+pub mod MayHave
+pub mod Literal
+pub mod Laws

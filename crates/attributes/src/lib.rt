@@ -1,0 +1,4 @@
+// The type of a literal, lookup of attributes, may-have and attribute names.
+pub mod euid_literal;
+pub mod may_have_attr;
+pub mod own_attribute;

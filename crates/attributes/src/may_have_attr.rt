@@ -1,0 +1,92 @@
+// Whether a value of a type might have an attribute.
+use crate::own_attribute::Place;
+use crate::own_attribute::own_attribute;
+use forms::kinds::Kind;
+use forms::kinds::Openness;
+use forms::limits::Limits;
+use forms::numbers::u16_at;
+use forms::widths::Width;
+use schemas::entries::FoundEntry;
+use schemas::entries::find_entity;
+use schemas::sections::Sections;
+ghost use mathlib.Core.Path.{_≡_};
+ghost use mathlib.Core.Bool.{true};
+ghost use Prim.Native.Nat.{_*_, _≤_};
+ghost use lib.ListN.{length};
+ghost use Rattle.cedar.specs.Types.{present};
+ghost use Rattle.cedar.specs.Limits.{standard};
+ghost use Rattle.cedar.specs.Attribute.{ownAttr, mayHaveType, mayHaveNames, mayHave};
+ghost use Rattle.forms.specs.Parts.{kind};
+ghost use Rattle.forms.specs.TypeBytes.{whole, dec, namesOf};
+ghost use Rattle.schemas.specs.SchemaBytes.{decS};
+ghost use Rattle.schemas.specs.Entries.{Kept};
+ghost use Rattle.attributes.specs.MayHave.{recordMayHave};
+
+// Whether a record or an action lists the attribute.
+fn lists_attribute(t: &[u8], name: usize, levels: usize) -> bool
+    requires { ⌜ whole levels (now t) ≡ true ⌝ }
+    ensures { λ r. ⌜ r ≡ present (ownAttr name (dec levels (now (t .entry)))) ⌝ }
+{
+    let Place::At(_, _, _) = own_attribute(t, name, levels) else {
+        return false;
+    };
+    true
+}
+
+// Whether a record is open or lists the attribute.
+fn record_may_have(t: &[u8], name: usize, levels: usize) -> bool
+    requires { ⌜ whole levels (now t) ≡ true ⌝ }
+    requires { ⌜ kind (now t) ≡ 8 ⌝ }
+    ensures { λ r. ⌜ r ≡ recordMayHave name (dec levels (now (t .entry))) ⌝ }
+{
+    if t[1] == Openness::OPEN {
+        return true;
+    }
+    lists_attribute(t, name, levels)
+}
+
+// Whether an entity type is missing from the schema, is open, or lists the attribute.
+fn entity_type_may_have(schema: &[u8], at: Sections, entity: usize, name: usize) -> bool
+    requires { ⌜ Kept (now schema) «at» ⌝ }
+    ensures { λ r. ⌜ r ≡ mayHaveType (decS standard (now (schema .entry))) name entity ⌝ }
+{
+    let FoundEntry::At(_, start, end) = find_entity(schema, at, entity) else {
+        return true;
+    };
+    record_may_have(&schema[start..end], name, Limits::LEVELS)
+}
+
+// Whether one of n entity types may have the attribute.
+fn entity_may_have(schema: &[u8], at: Sections, types: &[u8], n: usize, name: usize) -> bool
+    requires { ⌜ Kept (now schema) «at» ⌝ }
+    requires { ⌜ 2 * n ≤ length (now types) ⌝ }
+    ensures { λ r. ⌜ r ≡ mayHaveNames (decS standard (now (schema .entry))) name (namesOf n (now (types .entry))) ⌝ }
+{
+    let mut e = types;
+    let mut left = n;
+    while 0 < left {
+        if entity_type_may_have(schema, at, u16_at(e, 0), name) {
+            return true;
+        }
+        e = &e[Width::NAME..];
+        left -= 1;
+    }
+    false
+}
+
+// Whether a value of the type might have the attribute.
+pub fn may_have_attr(schema: &[u8], at: Sections, t: &[u8], name: usize) -> bool
+    requires { ⌜ Kept (now schema) «at» ⌝ }
+    requires { ⌜ whole 16 (now t) ≡ true ⌝ }
+    ensures { λ r. ⌜ r ≡ mayHave (decS standard (now (schema .entry))) name (dec 16 (now (t .entry))) ⌝ }
+{
+    let k = t[0];
+    match k {
+        Kind::NEVER => true,
+        Kind::ANY_ENTITY => true,
+        Kind::RECORD => record_may_have(t, name, Limits::LEVELS),
+        Kind::ENTITY => entity_may_have(schema, at, &t[3..], u16_at(t, 1), name),
+        Kind::ACTION => lists_attribute(t, name, Limits::LEVELS),
+        _ => false,
+    }
+}

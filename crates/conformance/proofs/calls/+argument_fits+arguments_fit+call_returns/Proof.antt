@@ -1,0 +1,770 @@
+use Rattle.forms.specs.Parts.{rd}
+use Rattle.schemas.specs.Laws.Finders.{function-at, function-not}
+use Rattle.conformance.specs.Laws.Calls.{call-unknown, call-none, call-other, call-arguments}
+use Rattle.conformance.proofs.Told.{no-yes}
+use Rattle.schemas.specs.SchemaBytes.{decS, argsOf}
+use Rattle.cedar.specs.Conformance.{shorter, fitAll}
+use Rattle.cedar.specs.Limits.{standard}
+use Rattle.conformance.specs.Walks.{argumentsOf}
+use Rattle.forms.specs.ValueBytes.{memberRow, wholeV}
+use Rattle.conformance.specs.Laws.Arguments.{ArgumentsAhead, arguments-start, arguments-end, arguments-over, arguments-first, arguments-stop, arguments-again}
+use Rattle.conformance.specs.Laws.Ahead.{table-count, table-entries, ahead-room, ahead-inside, ahead-body}
+use Rattle.conformance.specs.Laws.Calls.{fit-bool, fit-long, fit-string, fit-not, fit-call}
+use Rattle.conformance.specs.Laws.Values.{value-level, value-first, value-as}
+use mathlib.Core.Path.{sym, _∙_}
+use borrow.Author.Needs.{needs}
+use Prim.Native.Nat.{_+_, _*_}
+use native.Mathlib.Omega.{arith}
+use Prim.Native.Nat.{ℕ, _<_}
+use borrow.Fn.Kinds.{In}
+use borrow.Fn.PlainCycle.{Measures, is, falls, and}
+use Rattle.conformance.proofs.calls.argument_fits.Reads as argument-fits
+use Rattle.conformance.proofs.calls.argument_fits.Kinds as argument-fits-kinds
+use Rattle.conformance.proofs.calls.+argument_fits+arguments_fit+call_returns.Lts-argument_fits as argument-fits-lts
+use Rattle.conformance.proofs.calls.arguments_fit.Reads as arguments-fit
+use Rattle.conformance.proofs.calls.arguments_fit.Kinds as arguments-fit-kinds
+use Rattle.conformance.proofs.calls.+argument_fits+arguments_fit+call_returns.Lts-arguments_fit as arguments-fit-lts
+use Rattle.conformance.proofs.calls.call_returns.Reads as call-returns
+use Rattle.conformance.proofs.calls.call_returns.Kinds as call-returns-kinds
+use Rattle.conformance.proofs.calls.+argument_fits+arguments_fit+call_returns.Lts-call_returns as call-returns-lts
+use Rattle.conformance.proofs.verdicts.inside.Reads as inside-reads
+use Rattle.conformance.proofs.verdicts.tested.Reads as tested-reads
+use Rattle.forms.proofs.numbers.u16_at.Reads as u16-at-reads
+use Rattle.schemas.proofs.entries.find_function.Reads as find-function-reads
+use Rattle.conformance.proofs.calls.+argument_fits+arguments_fit+call_returns.{statement}
+use Rattle.conformance.proofs.calls.+argument_fits+arguments_fit+call_returns.Tie.{close}
+
+abbrev μ-argument-fits : Measures 3 argument-fits-kinds.ps ℕ
+μ-argument-fits κs a = 3 * a .1 .1 .1 .1 .0 + 1
+
+abbrev μ-arguments-fit : Measures 3 arguments-fit-kinds.ps ℕ
+μ-arguments-fit κs a = 3 * a .1 .1 .1 .1 .0 + 2
+
+abbrev μ-call-returns : Measures 2 call-returns-kinds.ps ℕ
+μ-call-returns κs a = 3 * a .1 .1 .1 .1 .0 + 3
+
+abbrev argument-fits-at : ℕ → In 3 argument-fits-kinds.ps
+argument-fits-at t =
+    and 3 argument-fits-kinds.ps (is 3 argument-fits-kinds.ps μ-argument-fits t) argument-fits.Pre
+
+abbrev argument-fits-below : ℕ → In 3 argument-fits-kinds.ps
+argument-fits-below t =
+    and
+    3
+    argument-fits-kinds.ps
+    (falls 3 argument-fits-kinds.ps _<_ μ-argument-fits t)
+    argument-fits.Pre
+
+abbrev arguments-fit-at : ℕ → In 3 arguments-fit-kinds.ps
+arguments-fit-at t =
+    and 3 arguments-fit-kinds.ps (is 3 arguments-fit-kinds.ps μ-arguments-fit t) arguments-fit.Pre
+
+abbrev arguments-fit-below : ℕ → In 3 arguments-fit-kinds.ps
+arguments-fit-below t =
+    and
+    3
+    arguments-fit-kinds.ps
+    (falls 3 arguments-fit-kinds.ps _<_ μ-arguments-fit t)
+    arguments-fit.Pre
+
+abbrev call-returns-at : ℕ → In 2 call-returns-kinds.ps
+call-returns-at t =
+    and 2 call-returns-kinds.ps (is 2 call-returns-kinds.ps μ-call-returns t) call-returns.Pre
+
+abbrev call-returns-below : ℕ → In 2 call-returns-kinds.ps
+call-returns-below t =
+    and
+    2
+    call-returns-kinds.ps
+    (falls 2 call-returns-kinds.ps _<_ μ-call-returns t)
+    call-returns.Pre
+
+-- src/calls.rt:84:13
+argument-fits-shared-slice-read-k : (t : ℕ) → argument-fits-lts.Need-shared-slice-read-k (
+  tested-reads.Asked,
+  tested-reads.Learnt,
+  u16-at-reads.Asked,
+  u16-at-reads.Learnt,
+  call-returns-below t,
+  call-returns.Post,
+  inside-reads.Asked,
+  inside-reads.Learnt,
+) (argument-fits-at t) argument-fits.Post
+argument-fits-shared-slice-read-k t c = omega (arith, (c .before .before .before .before) .pre .1 .1 .0 .0)
+
+-- src/calls.rt:85:13
+argument-fits-shared-slice-read-j : (t : ℕ) → argument-fits-lts.Need-shared-slice-read-j (
+  tested-reads.Asked,
+  tested-reads.Learnt,
+  u16-at-reads.Asked,
+  u16-at-reads.Learnt,
+  call-returns-below t,
+  call-returns.Post,
+  inside-reads.Asked,
+  inside-reads.Learnt,
+) (argument-fits-at t) argument-fits.Post
+argument-fits-shared-slice-read-j t c = value-first ((c .before .before .before .before .before) .args .levels) ((c .before .before .before .before .before) .args .v .now) ((c .before .before .before .before .before) .pre .1 .1 .1)
+
+-- src/calls.rt:87:31
+argument-fits-tested-requires : (t : ℕ) → argument-fits-lts.Need-tested-requires (
+  tested-reads.Asked,
+  tested-reads.Learnt,
+  u16-at-reads.Asked,
+  u16-at-reads.Learnt,
+  call-returns-below t,
+  call-returns.Post,
+  inside-reads.Asked,
+  inside-reads.Learnt,
+) (argument-fits-at t) argument-fits.Post
+argument-fits-tested-requires t c κs = search needs
+
+-- src/calls.rt:88:31
+argument-fits-tested-requires-2 : (t : ℕ) → argument-fits-lts.Need-tested-requires-2 (
+  tested-reads.Asked,
+  tested-reads.Learnt,
+  u16-at-reads.Asked,
+  u16-at-reads.Learnt,
+  call-returns-below t,
+  call-returns.Post,
+  inside-reads.Asked,
+  inside-reads.Learnt,
+) (argument-fits-at t) argument-fits.Post
+argument-fits-tested-requires-2 t c κs = search needs
+
+-- src/calls.rt:89:33
+argument-fits-tested-requires-3 : (t : ℕ) → argument-fits-lts.Need-tested-requires-3 (
+  tested-reads.Asked,
+  tested-reads.Learnt,
+  u16-at-reads.Asked,
+  u16-at-reads.Learnt,
+  call-returns-below t,
+  call-returns.Post,
+  inside-reads.Asked,
+  inside-reads.Learnt,
+) (argument-fits-at t) argument-fits.Post
+argument-fits-tested-requires-3 t c κs = search needs
+
+-- src/calls.rt:92:17
+argument-fits-returns : (t : ℕ) → argument-fits-lts.Need-returns (
+  tested-reads.Asked,
+  tested-reads.Learnt,
+  u16-at-reads.Asked,
+  u16-at-reads.Learnt,
+  call-returns-below t,
+  call-returns.Post,
+  inside-reads.Asked,
+  inside-reads.Learnt,
+) (argument-fits-at t) argument-fits.Post
+argument-fits-returns t c = let s = (c .before .before .before .before .before .before .before) in let m = (c .before) .match .rest in fit-not _ (s .args .asked .now) (s .args .levels) (s .args .v .now) (s .pre .1 .1 .0 .1) (s .pre .1 .1 .1) (m .0 .0 .1) (m .0 .1) (m .1) (c .if1 .taken)
+
+-- src/calls.rt:94:54
+argument-fits-u16-at-requires : (t : ℕ) → argument-fits-lts.Need-u16-at-requires (
+  tested-reads.Asked,
+  tested-reads.Learnt,
+  u16-at-reads.Asked,
+  u16-at-reads.Learnt,
+  call-returns-below t,
+  call-returns.Post,
+  inside-reads.Asked,
+  inside-reads.Learnt,
+) (argument-fits-at t) argument-fits.Post
+argument-fits-u16-at-requires t c κs = omega (arith, (c .before .before .before .before .before .before .before) .pre .1 .1 .0 .0)
+
+-- src/calls.rt:94:72
+argument-fits-sub-call-returns : (t : ℕ) → argument-fits-lts.Need-sub-call-returns (
+  tested-reads.Asked,
+  tested-reads.Learnt,
+  u16-at-reads.Asked,
+  u16-at-reads.Learnt,
+  call-returns-below t,
+  call-returns.Post,
+  inside-reads.Asked,
+  inside-reads.Learnt,
+) (argument-fits-at t) argument-fits.Post
+argument-fits-sub-call-returns t c = let s = (c .before .before .before .before .before .before .before .before) in omega (arith, value-level (s .args .levels) (s .args .v .now) (s .pre .1 .1 .1))
+
+-- src/calls.rt:94:20
+argument-fits-call-returns-requires : (t : ℕ) → argument-fits-lts.Need-call-returns-requires (
+  tested-reads.Asked,
+  tested-reads.Learnt,
+  u16-at-reads.Asked,
+  u16-at-reads.Learnt,
+  call-returns-below t,
+  call-returns.Post,
+  inside-reads.Asked,
+  inside-reads.Learnt,
+) (argument-fits-at t) argument-fits.Post
+argument-fits-call-returns-requires t c κs = let s = (c .before .before .before .before .before .before .before .before) in (omega (arith, s .pre .0, value-level (s .args .levels) (s .args .v .now) (s .pre .1 .1 .1)), (s .pre .1 .0, value-as (s .args .levels) (s .args .v .now) (s .pre .1 .1 .1) 7 ((c .before) .if1 .left)))
+
+-- src/calls.rt:94:13
+argument-fits-inside-requires : (t : ℕ) → argument-fits-lts.Need-inside-requires (
+  tested-reads.Asked,
+  tested-reads.Learnt,
+  u16-at-reads.Asked,
+  u16-at-reads.Learnt,
+  call-returns-below t,
+  call-returns.Post,
+  inside-reads.Asked,
+  inside-reads.Learnt,
+) (argument-fits-at t) argument-fits.Post
+argument-fits-inside-requires t c κs = search needs
+
+-- src/calls.rt:78:1
+argument-fits-returns-2 : (t : ℕ) → argument-fits-lts.Need-returns-2 (
+  tested-reads.Asked,
+  tested-reads.Learnt,
+  u16-at-reads.Asked,
+  u16-at-reads.Learnt,
+  call-returns-below t,
+  call-returns.Post,
+  inside-reads.Asked,
+  inside-reads.Learnt,
+) (argument-fits-at t) argument-fits.Post
+argument-fits-returns-2 t c = let s = (c .before .before .before .before .before .before .before) in c .tested .ensures ∙ fit-bool _ (s .args .asked .now) (s .args .levels) (s .args .v .now) (s .pre .1 .1 .0 .1) (s .pre .1 .1 .1) ((c .before) .match .keys1)
+
+-- src/calls.rt:78:1
+argument-fits-returns-3 : (t : ℕ) → argument-fits-lts.Need-returns-3 (
+  tested-reads.Asked,
+  tested-reads.Learnt,
+  u16-at-reads.Asked,
+  u16-at-reads.Learnt,
+  call-returns-below t,
+  call-returns.Post,
+  inside-reads.Asked,
+  inside-reads.Learnt,
+) (argument-fits-at t) argument-fits.Post
+argument-fits-returns-3 t c = let s = (c .before .before .before .before .before .before .before) in c .tested2 .ensures ∙ fit-long _ (s .args .asked .now) (s .args .levels) (s .args .v .now) (s .pre .1 .1 .0 .1) (s .pre .1 .1 .1) ((c .before) .match .keys2)
+
+-- src/calls.rt:78:1
+argument-fits-returns-4 : (t : ℕ) → argument-fits-lts.Need-returns-4 (
+  tested-reads.Asked,
+  tested-reads.Learnt,
+  u16-at-reads.Asked,
+  u16-at-reads.Learnt,
+  call-returns-below t,
+  call-returns.Post,
+  inside-reads.Asked,
+  inside-reads.Learnt,
+) (argument-fits-at t) argument-fits.Post
+argument-fits-returns-4 t c = let s = (c .before .before .before .before .before .before .before) in c .tested3 .ensures ∙ fit-string _ (s .args .asked .now) (s .args .levels) (s .args .v .now) (s .pre .1 .1 .0 .1) (s .pre .1 .1 .1) ((c .before) .match .keys3)
+
+-- src/calls.rt:78:1
+argument-fits-returns-5 : (t : ℕ) → argument-fits-lts.Need-returns-5 (
+  tested-reads.Asked,
+  tested-reads.Learnt,
+  u16-at-reads.Asked,
+  u16-at-reads.Learnt,
+  call-returns-below t,
+  call-returns.Post,
+  inside-reads.Asked,
+  inside-reads.Learnt,
+) (argument-fits-at t) argument-fits.Post
+argument-fits-returns-5 t c = let s = (c .before .before .before .before .before .before .before .before .before .before) in let m = (c .before .before .before .before) .match .rest in c .inside .ensures ∙ fit-call _ (s .args .asked .now) (s .args .levels) (s .args .v .now) (s .pre .1 .1 .0 .1) (s .pre .1 .1 .1) (m .0 .0 .1) (m .0 .1) (m .1) ((c .before .before .before) .if1 .left) ((c .before .before) .u16-at .result) ((c .before .before) .u16-at .ensures .0) ((c .before) .call-returns .result) ((c .before) .call-returns .ensures)
+
+abbrev arguments-fit-Inv-loop : arguments-fit-lts.InvT-loop
+arguments-fit-Inv-loop schema sections asked v levels n end e₀ b₀ left₀ k₀ e b left k = ArgumentsAhead levels (decS standard schema) (fitAll shorter (decS standard schema) (argumentsOf levels v) (argsOf asked)) left e b k
+
+abbrev arguments-fit-μ-loop : arguments-fit-lts.MeasureT-loop
+arguments-fit-μ-loop schema sections asked v levels n end e₀ b₀ left₀ k₀ e b left k = left
+
+-- src/calls.rt:54:9
+arguments-fit-u16-at-requires : (t : ℕ) → arguments-fit-lts.Need-u16-at-requires (
+  u16-at-reads.Asked,
+  u16-at-reads.Learnt,
+  argument-fits-below t,
+  argument-fits.Post,
+) (arguments-fit-at t) arguments-fit.Post arguments-fit-Inv-loop arguments-fit-μ-loop
+arguments-fit-u16-at-requires t c κs = let s = (c .before .before .before) in omega (arith, table-count memberRow (λ _. wholeV (s .args .levels)) tt 3 (s .args .v .now) (s .pre .1 .1 .1))
+
+-- src/calls.rt:55:19
+arguments-fit-mul-end : (t : ℕ) → arguments-fit-lts.Need-mul-end (
+  u16-at-reads.Asked,
+  u16-at-reads.Learnt,
+  argument-fits-below t,
+  argument-fits.Post,
+) (arguments-fit-at t) arguments-fit.Post arguments-fit-Inv-loop arguments-fit-μ-loop
+arguments-fit-mul-end t c = search needs
+
+-- src/calls.rt:55:15
+arguments-fit-add-end : (t : ℕ) → arguments-fit-lts.Need-add-end (
+  u16-at-reads.Asked,
+  u16-at-reads.Learnt,
+  argument-fits-below t,
+  argument-fits.Post,
+) (arguments-fit-at t) arguments-fit.Post arguments-fit-Inv-loop arguments-fit-μ-loop
+arguments-fit-add-end t c = search needs
+
+-- src/calls.rt:56:17
+arguments-fit-sub-e : (t : ℕ) → arguments-fit-lts.Need-sub-e (
+  u16-at-reads.Asked,
+  u16-at-reads.Learnt,
+  argument-fits-below t,
+  argument-fits.Post,
+) (arguments-fit-at t) arguments-fit.Post arguments-fit-Inv-loop arguments-fit-μ-loop
+arguments-fit-sub-e t c = let s = (c .before .before .before .before) in omega (arith, table-entries memberRow (λ _. wholeV (s .args .levels)) tt 3 (s .args .v .now) (s .pre .1 .1 .1) (c .u16-at .result) (c .u16-at .ensures .0))
+
+-- src/calls.rt:56:17
+arguments-fit-part-e-start : (t : ℕ) → arguments-fit-lts.Need-part-e-start (
+  u16-at-reads.Asked,
+  u16-at-reads.Learnt,
+  argument-fits-below t,
+  argument-fits.Post,
+) (arguments-fit-at t) arguments-fit.Post arguments-fit-Inv-loop arguments-fit-μ-loop
+arguments-fit-part-e-start t c = search needs
+
+-- src/calls.rt:56:17
+arguments-fit-part-e-end : (t : ℕ) → arguments-fit-lts.Need-part-e-end (
+  u16-at-reads.Asked,
+  u16-at-reads.Learnt,
+  argument-fits-below t,
+  argument-fits.Post,
+) (arguments-fit-at t) arguments-fit.Post arguments-fit-Inv-loop arguments-fit-μ-loop
+arguments-fit-part-e-end t c = let s = (c .before .before .before .before) in omega (arith, table-entries memberRow (λ _. wholeV (s .args .levels)) tt 3 (s .args .v .now) (s .pre .1 .1 .1) (c .u16-at .result) (c .u16-at .ensures .0))
+
+-- src/calls.rt:57:17
+arguments-fit-sub-b : (t : ℕ) → arguments-fit-lts.Need-sub-b (
+  u16-at-reads.Asked,
+  u16-at-reads.Learnt,
+  argument-fits-below t,
+  argument-fits.Post,
+) (arguments-fit-at t) arguments-fit.Post arguments-fit-Inv-loop arguments-fit-μ-loop
+arguments-fit-sub-b t c = let s = (c .before .before .before .before .before) in omega (arith, table-entries memberRow (λ _. wholeV (s .args .levels)) tt 3 (s .args .v .now) (s .pre .1 .1 .1) ((c .before) .u16-at .result) ((c .before) .u16-at .ensures .0))
+
+-- src/calls.rt:57:17
+arguments-fit-part-b-start : (t : ℕ) → arguments-fit-lts.Need-part-b-start (
+  u16-at-reads.Asked,
+  u16-at-reads.Learnt,
+  argument-fits-below t,
+  argument-fits.Post,
+) (arguments-fit-at t) arguments-fit.Post arguments-fit-Inv-loop arguments-fit-μ-loop
+arguments-fit-part-b-start t c = let s = (c .before .before .before .before .before) in omega (arith, table-entries memberRow (λ _. wholeV (s .args .levels)) tt 3 (s .args .v .now) (s .pre .1 .1 .1) ((c .before) .u16-at .result) ((c .before) .u16-at .ensures .0))
+
+-- src/calls.rt:57:17
+arguments-fit-part-b-end : (t : ℕ) → arguments-fit-lts.Need-part-b-end (
+  u16-at-reads.Asked,
+  u16-at-reads.Learnt,
+  argument-fits-below t,
+  argument-fits.Post,
+) (arguments-fit-at t) arguments-fit.Post arguments-fit-Inv-loop arguments-fit-μ-loop
+arguments-fit-part-b-end t c = search needs
+
+-- src/calls.rt:60:5
+arguments-fit-loop-holds : (t : ℕ) → arguments-fit-lts.Need-loop-holds (
+  u16-at-reads.Asked,
+  u16-at-reads.Learnt,
+  argument-fits-below t,
+  argument-fits.Post,
+) (arguments-fit-at t) arguments-fit.Post arguments-fit-Inv-loop arguments-fit-μ-loop
+arguments-fit-loop-holds t c = let s = (c .before .before .before .before .before .before) in arguments-start (s .args .levels) _ (s .args .v .now) (s .args .asked .now) (s .pre .1 .1 .1) (s .pre .1 .1 .0) ((c .before .before) .u16-at .result) ((c .before .before) .u16-at .ensures .0)
+
+-- src/calls.rt:62:13
+arguments-fit-returns : (t : ℕ) → arguments-fit-lts.Need-returns (
+  u16-at-reads.Asked,
+  u16-at-reads.Learnt,
+  argument-fits-below t,
+  argument-fits.Post,
+) (arguments-fit-at t) arguments-fit.Post arguments-fit-Inv-loop arguments-fit-μ-loop
+arguments-fit-returns t c = arguments-over ((c .before .before) .loop .inv) (c .if1 .taken)
+
+-- src/calls.rt:64:13
+arguments-fit-u16-at-requires-2 : (t : ℕ) → arguments-fit-lts.Need-u16-at-requires-2 (
+  u16-at-reads.Asked,
+  u16-at-reads.Learnt,
+  argument-fits-below t,
+  argument-fits.Post,
+) (arguments-fit-at t) arguments-fit.Post arguments-fit-Inv-loop arguments-fit-μ-loop
+arguments-fit-u16-at-requires-2 t c κs = omega (arith, ahead-room ((c .before .before) .loop .inv .rows) ((c .before) .loop-test .taken))
+
+-- src/calls.rt:65:55
+arguments-fit-sub-argument-fits : (t : ℕ) → arguments-fit-lts.Need-sub-argument-fits (
+  u16-at-reads.Asked,
+  u16-at-reads.Learnt,
+  argument-fits-below t,
+  argument-fits.Post,
+) (arguments-fit-at t) arguments-fit.Post arguments-fit-Inv-loop arguments-fit-μ-loop
+arguments-fit-sub-argument-fits t c = search needs
+
+-- src/calls.rt:65:55
+arguments-fit-part-argument-fits-start : (t : ℕ) → arguments-fit-lts.Need-part-argument-fits-start (
+  u16-at-reads.Asked,
+  u16-at-reads.Learnt,
+  argument-fits-below t,
+  argument-fits.Post,
+) (arguments-fit-at t) arguments-fit.Post arguments-fit-Inv-loop arguments-fit-μ-loop
+arguments-fit-part-argument-fits-start t c = search needs
+
+-- src/calls.rt:65:55
+arguments-fit-part-argument-fits-end : (t : ℕ) → arguments-fit-lts.Need-part-argument-fits-end (
+  u16-at-reads.Asked,
+  u16-at-reads.Learnt,
+  argument-fits-below t,
+  argument-fits.Post,
+) (arguments-fit-at t) arguments-fit.Post arguments-fit-Inv-loop arguments-fit-μ-loop
+arguments-fit-part-argument-fits-end t c = omega (arith, ahead-inside ((c .before .before .before) .loop .inv .rows) ((c .before .before) .loop-test .taken) (c .u16-at2 .result) (c .u16-at2 .ensures .0))
+
+-- src/calls.rt:65:13
+arguments-fit-argument-fits-requires : (t : ℕ) → arguments-fit-lts.Need-argument-fits-requires (
+  u16-at-reads.Asked,
+  u16-at-reads.Learnt,
+  argument-fits-below t,
+  argument-fits.Post,
+) (arguments-fit-at t) arguments-fit.Post arguments-fit-Inv-loop arguments-fit-μ-loop
+arguments-fit-argument-fits-requires t c κs = let s = (c .before .before .before .before .before .before .before .before .before .before .before) in let a = arguments-first ((c .before .before .before .before) .loop .inv) ((c .before .before .before) .loop-test .taken) ((c .before .before) .if1 .left) ((c .before) .u16-at2 .result) ((c .before) .u16-at2 .ensures .0) in (omega (arith, s .pre .0), (s .pre .1 .0, ((a .room, a .fits), ahead-body ((c .before .before .before .before) .loop .inv .rows) ((c .before .before .before) .loop-test .taken) ((c .before) .u16-at2 .result) ((c .before) .u16-at2 .ensures .0))))
+
+arguments-fit-enum-told : (t : ℕ) → arguments-fit-lts.Need-enum-told (
+  u16-at-reads.Asked,
+  u16-at-reads.Learnt,
+  argument-fits-below t,
+  argument-fits.Post,
+) (arguments-fit-at t) arguments-fit.Post arguments-fit-Inv-loop arguments-fit-μ-loop
+arguments-fit-enum-told t c = search needs
+
+-- src/calls.rt:67:13
+arguments-fit-returns-2 : (t : ℕ) → arguments-fit-lts.Need-returns-2 (
+  u16-at-reads.Asked,
+  u16-at-reads.Learnt,
+  argument-fits-below t,
+  argument-fits.Post,
+) (arguments-fit-at t) arguments-fit.Post arguments-fit-Inv-loop arguments-fit-μ-loop
+arguments-fit-returns-2 t c = let f = (c .before) .argument-fits in arguments-stop ((c .before .before .before .before .before .before) .loop .inv) ((c .before .before .before .before .before) .loop-test .taken) ((c .before .before .before .before) .if1 .left) ((c .before .before .before) .u16-at2 .result) ((c .before .before .before) .u16-at2 .ensures .0) (f .result) (f .ensures) (no-yes (f .result) (c .match .keys2))
+
+-- src/calls.rt:69:13
+arguments-fit-sub-e-2 : (t : ℕ) → arguments-fit-lts.Need-sub-e-2 (
+  u16-at-reads.Asked,
+  u16-at-reads.Learnt,
+  argument-fits-below t,
+  argument-fits.Post,
+) (arguments-fit-at t) arguments-fit.Post arguments-fit-Inv-loop arguments-fit-μ-loop
+arguments-fit-sub-e-2 t c = omega (arith, ahead-room ((c .before .before .before .before .before .before .before) .loop .inv .rows) ((c .before .before .before .before .before .before) .loop-test .taken))
+
+-- src/calls.rt:69:13
+arguments-fit-part-e-start-2 : (t : ℕ) → arguments-fit-lts.Need-part-e-start-2 (
+  u16-at-reads.Asked,
+  u16-at-reads.Learnt,
+  argument-fits-below t,
+  argument-fits.Post,
+) (arguments-fit-at t) arguments-fit.Post arguments-fit-Inv-loop arguments-fit-μ-loop
+arguments-fit-part-e-start-2 t c = omega (arith, ahead-room ((c .before .before .before .before .before .before .before) .loop .inv .rows) ((c .before .before .before .before .before .before) .loop-test .taken))
+
+-- src/calls.rt:69:13
+arguments-fit-part-e-end-2 : (t : ℕ) → arguments-fit-lts.Need-part-e-end-2 (
+  u16-at-reads.Asked,
+  u16-at-reads.Learnt,
+  argument-fits-below t,
+  argument-fits.Post,
+) (arguments-fit-at t) arguments-fit.Post arguments-fit-Inv-loop arguments-fit-μ-loop
+arguments-fit-part-e-end-2 t c = search needs
+
+-- src/calls.rt:70:13
+arguments-fit-sub-b-2 : (t : ℕ) → arguments-fit-lts.Need-sub-b-2 (
+  u16-at-reads.Asked,
+  u16-at-reads.Learnt,
+  argument-fits-below t,
+  argument-fits.Post,
+) (arguments-fit-at t) arguments-fit.Post arguments-fit-Inv-loop arguments-fit-μ-loop
+arguments-fit-sub-b-2 t c = omega (arith, ahead-inside ((c .before .before .before .before .before .before .before .before) .loop .inv .rows) ((c .before .before .before .before .before .before .before) .loop-test .taken) ((c .before .before .before .before .before) .u16-at2 .result) ((c .before .before .before .before .before) .u16-at2 .ensures .0))
+
+-- src/calls.rt:70:13
+arguments-fit-part-b-start-2 : (t : ℕ) → arguments-fit-lts.Need-part-b-start-2 (
+  u16-at-reads.Asked,
+  u16-at-reads.Learnt,
+  argument-fits-below t,
+  argument-fits.Post,
+) (arguments-fit-at t) arguments-fit.Post arguments-fit-Inv-loop arguments-fit-μ-loop
+arguments-fit-part-b-start-2 t c = omega (arith, ahead-inside ((c .before .before .before .before .before .before .before .before) .loop .inv .rows) ((c .before .before .before .before .before .before .before) .loop-test .taken) ((c .before .before .before .before .before) .u16-at2 .result) ((c .before .before .before .before .before) .u16-at2 .ensures .0))
+
+-- src/calls.rt:70:13
+arguments-fit-part-b-end-2 : (t : ℕ) → arguments-fit-lts.Need-part-b-end-2 (
+  u16-at-reads.Asked,
+  u16-at-reads.Learnt,
+  argument-fits-below t,
+  argument-fits.Post,
+) (arguments-fit-at t) arguments-fit.Post arguments-fit-Inv-loop arguments-fit-μ-loop
+arguments-fit-part-b-end-2 t c = search needs
+
+-- src/calls.rt:71:13
+arguments-fit-sub-k : (t : ℕ) → arguments-fit-lts.Need-sub-k (
+  u16-at-reads.Asked,
+  u16-at-reads.Learnt,
+  argument-fits-below t,
+  argument-fits.Post,
+) (arguments-fit-at t) arguments-fit.Post arguments-fit-Inv-loop arguments-fit-μ-loop
+arguments-fit-sub-k t c = let a = arguments-first ((c .before .before .before .before .before .before .before .before .before) .loop .inv) ((c .before .before .before .before .before .before .before .before) .loop-test .taken) ((c .before .before .before .before .before .before .before) .if1 .left) ((c .before .before .before .before .before .before) .u16-at2 .result) ((c .before .before .before .before .before .before) .u16-at2 .ensures .0) in omega (arith, a .room)
+
+-- src/calls.rt:71:13
+arguments-fit-part-k-start : (t : ℕ) → arguments-fit-lts.Need-part-k-start (
+  u16-at-reads.Asked,
+  u16-at-reads.Learnt,
+  argument-fits-below t,
+  argument-fits.Post,
+) (arguments-fit-at t) arguments-fit.Post arguments-fit-Inv-loop arguments-fit-μ-loop
+arguments-fit-part-k-start t c = let a = arguments-first ((c .before .before .before .before .before .before .before .before .before) .loop .inv) ((c .before .before .before .before .before .before .before .before) .loop-test .taken) ((c .before .before .before .before .before .before .before) .if1 .left) ((c .before .before .before .before .before .before) .u16-at2 .result) ((c .before .before .before .before .before .before) .u16-at2 .ensures .0) in omega (arith, a .room)
+
+-- src/calls.rt:71:13
+arguments-fit-part-k-end : (t : ℕ) → arguments-fit-lts.Need-part-k-end (
+  u16-at-reads.Asked,
+  u16-at-reads.Learnt,
+  argument-fits-below t,
+  argument-fits.Post,
+) (arguments-fit-at t) arguments-fit.Post arguments-fit-Inv-loop arguments-fit-μ-loop
+arguments-fit-part-k-end t c = search needs
+
+-- src/calls.rt:72:9
+arguments-fit-sub-left : (t : ℕ) → arguments-fit-lts.Need-sub-left (
+  u16-at-reads.Asked,
+  u16-at-reads.Learnt,
+  argument-fits-below t,
+  argument-fits.Post,
+) (arguments-fit-at t) arguments-fit.Post arguments-fit-Inv-loop arguments-fit-μ-loop
+arguments-fit-sub-left t c = search needs
+
+-- src/calls.rt:60:5
+arguments-fit-loop-less : (t : ℕ) → arguments-fit-lts.Need-loop-less (
+  u16-at-reads.Asked,
+  u16-at-reads.Learnt,
+  argument-fits-below t,
+  argument-fits.Post,
+) (arguments-fit-at t) arguments-fit.Post arguments-fit-Inv-loop arguments-fit-μ-loop
+arguments-fit-loop-less t c = search needs
+
+-- src/calls.rt:60:5
+arguments-fit-loop-again : (t : ℕ) → arguments-fit-lts.Need-loop-again (
+  u16-at-reads.Asked,
+  u16-at-reads.Learnt,
+  argument-fits-below t,
+  argument-fits.Post,
+) (arguments-fit-at t) arguments-fit.Post arguments-fit-Inv-loop arguments-fit-μ-loop
+arguments-fit-loop-again t c = let f = (c .before .before .before .before .before) .argument-fits in arguments-again ((c .before .before .before .before .before .before .before .before .before .before) .loop .inv) ((c .before .before .before .before .before .before .before .before .before) .loop-test .taken) ((c .before .before .before .before .before .before .before .before) .if1 .left) ((c .before .before .before .before .before .before .before) .u16-at2 .result) ((c .before .before .before .before .before .before .before) .u16-at2 .ensures .0) (f .result) (f .ensures) ((c .before .before .before) .enum-told .given .1)
+
+-- src/calls.rt:48:1
+arguments-fit-returns-3 : (t : ℕ) → arguments-fit-lts.Need-returns-3 (
+  u16-at-reads.Asked,
+  u16-at-reads.Learnt,
+  argument-fits-below t,
+  argument-fits.Post,
+) (arguments-fit-at t) arguments-fit.Post arguments-fit-Inv-loop arguments-fit-μ-loop
+arguments-fit-returns-3 t c = arguments-end ((c .before) .loop .inv) (c .loop-test .left)
+
+-- src/calls.rt:32:9
+call-returns-u16-at-requires : (t : ℕ) → call-returns-lts.Need-u16-at-requires (
+  u16-at-reads.Asked,
+  u16-at-reads.Learnt,
+  find-function-reads.Asked,
+  find-function-reads.Learnt,
+  arguments-fit-below t,
+  arguments-fit.Post,
+) (call-returns-at t) call-returns.Post
+call-returns-u16-at-requires t c κs = let s = (c .before .before) in omega (arith, table-count memberRow (λ _. wholeV (s .args .levels)) tt 3 (s .args .v .now) (s .pre .1 .1))
+
+-- src/calls.rt:33:32
+call-returns-find-function-requires : (t : ℕ) → call-returns-lts.Need-find-function-requires (
+  u16-at-reads.Asked,
+  u16-at-reads.Learnt,
+  find-function-reads.Asked,
+  find-function-reads.Learnt,
+  arguments-fit-below t,
+  arguments-fit.Post,
+) (call-returns-at t) call-returns.Post
+call-returns-find-function-requires t c κs = (c .before .before .before) .pre .1 .0
+
+-- src/calls.rt:33:27
+call-returns-enum-known-f : (t : ℕ) → call-returns-lts.Need-enum-known-f (
+  u16-at-reads.Asked,
+  u16-at-reads.Learnt,
+  find-function-reads.Asked,
+  find-function-reads.Learnt,
+  arguments-fit-below t,
+  arguments-fit.Post,
+) (call-returns-at t) call-returns.Post
+call-returns-enum-known-f t c = search needs
+
+-- src/calls.rt:34:9
+call-returns-enum-told : (t : ℕ) → call-returns-lts.Need-enum-told (
+  u16-at-reads.Asked,
+  u16-at-reads.Learnt,
+  find-function-reads.Asked,
+  find-function-reads.Learnt,
+  arguments-fit-below t,
+  arguments-fit.Post,
+) (call-returns-at t) call-returns.Post
+call-returns-enum-told t c = search needs
+
+-- src/calls.rt:34:9
+call-returns-returns : (t : ℕ) → call-returns-lts.Need-returns (
+  u16-at-reads.Asked,
+  u16-at-reads.Learnt,
+  find-function-reads.Asked,
+  find-function-reads.Learnt,
+  arguments-fit-below t,
+  arguments-fit.Post,
+) (call-returns-at t) call-returns.Post
+call-returns-returns t c = let s = (c .before .before .before .before .before .before) in let y = (c .before .before) .find-function in call-unknown (decS standard (s .args .schema .now)) ((c .before .before .before) .u16-at .result) (rd (s .args .v .now) 1) (s .args .extension) ((c .before .before .before) .u16-at .ensures .0) (argumentsOf (s .args .levels) (s .args .v .now)) (function-not (s .pre .1 .0) ((c .before .before .before) .u16-at .result) (y .result) (y .ensures) (c .enum-told .given .1))
+
+-- src/calls.rt:37:9
+call-returns-returns-2 : (t : ℕ) → call-returns-lts.Need-returns-2 (
+  u16-at-reads.Asked,
+  u16-at-reads.Learnt,
+  find-function-reads.Asked,
+  find-function-reads.Learnt,
+  arguments-fit-below t,
+  arguments-fit.Post,
+) (call-returns-at t) call-returns.Post
+call-returns-returns-2 t c = let s = (c .before .before .before .before .before .before .before .before .before) in let y = (c .before .before .before .before .before) .find-function in let f = (c .before .before .before) .f .given .0 .0 in let g = function-at (s .pre .1 .0) ((c .before .before .before .before .before .before) .u16-at .result) (y .result) (y .ensures) f ((c .before .before .before) .f .given .1) in call-none (decS standard (s .args .schema .now)) ((c .before .before .before .before .before .before) .u16-at .result) (rd (s .args .v .now) 1) (s .args .extension) ((c .before .before .before .before .before .before) .u16-at .ensures .0) (argumentsOf (s .args .levels) (s .args .v .now)) (f .returns) (f .extension) _ (g .is) (c .if1 .taken)
+
+-- src/calls.rt:40:9
+call-returns-returns-3 : (t : ℕ) → call-returns-lts.Need-returns-3 (
+  u16-at-reads.Asked,
+  u16-at-reads.Learnt,
+  find-function-reads.Asked,
+  find-function-reads.Learnt,
+  arguments-fit-below t,
+  arguments-fit.Post,
+) (call-returns-at t) call-returns.Post
+call-returns-returns-3 t c = let s = (c .before .before .before .before .before .before .before .before .before .before .before) in let y = (c .before .before .before .before .before .before .before) .find-function in let f = (c .before .before .before .before .before) .f .given .0 .0 in let g = function-at (s .pre .1 .0) ((c .before .before .before .before .before .before .before .before) .u16-at .result) (y .result) (y .ensures) f ((c .before .before .before .before .before) .f .given .1) in call-other (decS standard (s .args .schema .now)) ((c .before .before .before .before .before .before .before .before) .u16-at .result) (rd (s .args .v .now) 1) (s .args .extension) ((c .before .before .before .before .before .before .before .before) .u16-at .ensures .0) (argumentsOf (s .args .levels) (s .args .v .now)) (f .returns) (f .extension) _ (g .is) ((c .before .before) .if1 .left) (c .if2 .taken)
+
+-- src/calls.rt:44:37
+call-returns-sub-arguments-fit : (t : ℕ) → call-returns-lts.Need-sub-arguments-fit (
+  u16-at-reads.Asked,
+  u16-at-reads.Learnt,
+  find-function-reads.Asked,
+  find-function-reads.Learnt,
+  arguments-fit-below t,
+  arguments-fit.Post,
+) (call-returns-at t) call-returns.Post
+call-returns-sub-arguments-fit t c = let s = (c .before .before .before .before .before .before .before .before .before .before .before) in let y = (c .before .before .before .before .before .before .before) .find-function in let f = (c .before .before .before .before .before) .f .given .0 .0 in let g = function-at (s .pre .1 .0) ((c .before .before .before .before .before .before .before .before) .u16-at .result) (y .result) (y .ensures) f ((c .before .before .before .before .before) .f .given .1) in omega (arith, g .order, g .inside)
+
+-- src/calls.rt:44:37
+call-returns-part-arguments-fit-start : (t : ℕ) → call-returns-lts.Need-part-arguments-fit-start (
+  u16-at-reads.Asked,
+  u16-at-reads.Learnt,
+  find-function-reads.Asked,
+  find-function-reads.Learnt,
+  arguments-fit-below t,
+  arguments-fit.Post,
+) (call-returns-at t) call-returns.Post
+call-returns-part-arguments-fit-start t c = let s = (c .before .before .before .before .before .before .before .before .before .before .before) in let y = (c .before .before .before .before .before .before .before) .find-function in let f = (c .before .before .before .before .before) .f .given .0 .0 in let g = function-at (s .pre .1 .0) ((c .before .before .before .before .before .before .before .before) .u16-at .result) (y .result) (y .ensures) f ((c .before .before .before .before .before) .f .given .1) in omega (arith, g .order, g .inside)
+
+-- src/calls.rt:44:37
+call-returns-part-arguments-fit-end : (t : ℕ) → call-returns-lts.Need-part-arguments-fit-end (
+  u16-at-reads.Asked,
+  u16-at-reads.Learnt,
+  find-function-reads.Asked,
+  find-function-reads.Learnt,
+  arguments-fit-below t,
+  arguments-fit.Post,
+) (call-returns-at t) call-returns.Post
+call-returns-part-arguments-fit-end t c = let s = (c .before .before .before .before .before .before .before .before .before .before .before) in let y = (c .before .before .before .before .before .before .before) .find-function in let f = (c .before .before .before .before .before) .f .given .0 .0 in let g = function-at (s .pre .1 .0) ((c .before .before .before .before .before .before .before .before) .u16-at .result) (y .result) (y .ensures) f ((c .before .before .before .before .before) .f .given .1) in omega (arith, g .order, g .inside)
+
+-- src/calls.rt:44:5
+call-returns-arguments-fit-requires : (t : ℕ) → call-returns-lts.Need-arguments-fit-requires (
+  u16-at-reads.Asked,
+  u16-at-reads.Learnt,
+  find-function-reads.Asked,
+  find-function-reads.Learnt,
+  arguments-fit-below t,
+  arguments-fit.Post,
+) (call-returns-at t) call-returns.Post
+call-returns-arguments-fit-requires t c κs = let s = (c .before .before .before .before .before .before .before .before .before .before .before .before) in let y = (c .before .before .before .before .before .before .before .before) .find-function in let f = (c .before .before .before .before .before .before) .f .given .0 .0 in let g = function-at (s .pre .1 .0) ((c .before .before .before .before .before .before .before .before .before) .u16-at .result) (y .result) (y .ensures) f ((c .before .before .before .before .before .before) .f .given .1) in (omega (arith, s .pre .0), (s .pre .1 .0, (g .args, s .pre .1 .1)))
+
+-- src/calls.rt:27:1
+call-returns-returns-4 : (t : ℕ) → call-returns-lts.Need-returns-4 (
+  u16-at-reads.Asked,
+  u16-at-reads.Learnt,
+  find-function-reads.Asked,
+  find-function-reads.Learnt,
+  arguments-fit-below t,
+  arguments-fit.Post,
+) (call-returns-at t) call-returns.Post
+call-returns-returns-4 t c = let s = (c .before .before .before .before .before .before .before .before .before .before .before .before .before) in let y = (c .before .before .before .before .before .before .before .before .before) .find-function in let f = (c .before .before .before .before .before .before .before) .f .given .0 .0 in let g = function-at (s .pre .1 .0) ((c .before .before .before .before .before .before .before .before .before .before) .u16-at .result) (y .result) (y .ensures) f ((c .before .before .before .before .before .before .before) .f .given .1) in c .arguments-fit .ensures ∙ call-arguments (decS standard (s .args .schema .now)) ((c .before .before .before .before .before .before .before .before .before .before) .u16-at .result) (rd (s .args .v .now) 1) (s .args .extension) ((c .before .before .before .before .before .before .before .before .before .before) .u16-at .ensures .0) (argumentsOf (s .args .levels) (s .args .v .now)) (f .returns) (f .extension) _ (g .is) ((c .before .before .before .before) .if1 .left) ((c .before .before) .if2 .left)
+
+pub +argument-fits+arguments-fit+call-returns-spec : {M : Type 1} → statement M
++argument-fits+arguments-fit+call-returns-spec =
+    close μ-argument-fits μ-arguments-fit μ-call-returns (λ t. argument-fits-lts.spec (
+      tested-reads.Asked,
+      tested-reads.Learnt,
+      u16-at-reads.Asked,
+      u16-at-reads.Learnt,
+      call-returns-below t,
+      call-returns.Post,
+      inside-reads.Asked,
+      inside-reads.Learnt,
+    )
+    (argument-fits-at t)
+    argument-fits.Post
+    (argument-fits-shared-slice-read-k t)
+    (argument-fits-shared-slice-read-j t)
+    (argument-fits-tested-requires t)
+    (argument-fits-tested-requires-2 t)
+    (argument-fits-tested-requires-3 t)
+    (argument-fits-returns t)
+    (argument-fits-u16-at-requires t)
+    (argument-fits-sub-call-returns t)
+    (argument-fits-call-returns-requires t)
+    (argument-fits-inside-requires t)
+    (argument-fits-returns-2 t)
+    (argument-fits-returns-3 t)
+    (argument-fits-returns-4 t)
+    (argument-fits-returns-5 t))
+    (λ t. arguments-fit-lts.spec (
+      u16-at-reads.Asked,
+      u16-at-reads.Learnt,
+      argument-fits-below t,
+      argument-fits.Post,
+    )
+    (arguments-fit-at t)
+    arguments-fit.Post
+    arguments-fit-Inv-loop
+    arguments-fit-μ-loop
+    (arguments-fit-u16-at-requires t)
+    (arguments-fit-mul-end t)
+    (arguments-fit-add-end t)
+    (arguments-fit-sub-e t)
+    (arguments-fit-part-e-start t)
+    (arguments-fit-part-e-end t)
+    (arguments-fit-sub-b t)
+    (arguments-fit-part-b-start t)
+    (arguments-fit-part-b-end t)
+    (arguments-fit-loop-holds t)
+    (arguments-fit-returns t)
+    (arguments-fit-u16-at-requires-2 t)
+    (arguments-fit-sub-argument-fits t)
+    (arguments-fit-part-argument-fits-start t)
+    (arguments-fit-part-argument-fits-end t)
+    (arguments-fit-argument-fits-requires t)
+    (arguments-fit-enum-told t)
+    (arguments-fit-returns-2 t)
+    (arguments-fit-sub-e-2 t)
+    (arguments-fit-part-e-start-2 t)
+    (arguments-fit-part-e-end-2 t)
+    (arguments-fit-sub-b-2 t)
+    (arguments-fit-part-b-start-2 t)
+    (arguments-fit-part-b-end-2 t)
+    (arguments-fit-sub-k t)
+    (arguments-fit-part-k-start t)
+    (arguments-fit-part-k-end t)
+    (arguments-fit-sub-left t)
+    (arguments-fit-loop-less t)
+    (arguments-fit-loop-again t)
+    (arguments-fit-returns-3 t))
+    λ t. call-returns-lts.spec (
+      u16-at-reads.Asked,
+      u16-at-reads.Learnt,
+      find-function-reads.Asked,
+      find-function-reads.Learnt,
+      arguments-fit-below t,
+      arguments-fit.Post,
+    )
+    (call-returns-at t)
+    call-returns.Post
+    (call-returns-u16-at-requires t)
+    (call-returns-find-function-requires t)
+    (call-returns-enum-known-f t)
+    (call-returns-enum-told t)
+    (call-returns-returns t)
+    (call-returns-returns-2 t)
+    (call-returns-returns-3 t)
+    (call-returns-sub-arguments-fit t)
+    (call-returns-part-arguments-fit-start t)
+    (call-returns-part-arguments-fit-end t)
+    (call-returns-arguments-fit-requires t)
+    (call-returns-returns-4 t)

@@ -1,0 +1,2261 @@
+use Rattle.conformance.specs.Laws.Records.{RecordAhead, record-start, record-end, record-skip, record-stop, record-again, pair-absent, pair-few, pair-room, pair-inside, pair-whole, pair-found}
+use Rattle.forms.specs.Laws.Attributes.{laid, past}
+use Rattle.conformance.specs.Laws.Required.{records-table}
+use Rattle.conformance.proofs.Told.{no-yes}
+use Rattle.cedar.specs.Limits.{standard}
+use Rattle.schemas.specs.SchemaBytes.{decS}
+use Rattle.forms.specs.TypeBytes.{attrRow, whole, dec}
+use Rattle.cedar.specs.Conformance.{shorter, andThen, eachValue, eachPair, hasRequired, conforms as has, conformsAt}
+use Rattle.conformance.specs.Walks.{isOpen, attributesOf, membersOf, pairsOf}
+use Rattle.conformance.specs.Laws.Members.{MembersAhead, members-start, members-end, members-stop, members-again}
+use Rattle.conformance.specs.Laws.Ahead.{table-count, table-entries, ahead-room, ahead-inside, ahead-body}
+use Rattle.forms.specs.ValueBytes.{memberRow, pairRow, wholeV}
+use Rattle.conformance.specs.Laws.Conforms.{set-not, set-members, record-not, record-pairs, record-parts, entity-not, entity-names, uid-length, action-not, action-name, extension-not, extension-call, atom-kinds}
+use Rattle.conformance.specs.Laws.Values.{value-level, value-first, value-as}
+use Rattle.forms.specs.Laws.Parts.{length-rest}
+use Rattle.forms.specs.Laws.Views.{not-empty, is-set, is-entity, is-action, is-extension}
+use Rattle.conformance.specs.Verdicts.{verdictOf}
+use Rattle.cedar.specs.Conformance.{verdict}
+use mathlib.Core.Bool.{Bool}
+use mathlib.Core.Path.{refl, ap, sym, _∙_}
+use borrow.Author.Needs.{needs}
+use Prim.Native.Nat.{_+_, _*_}
+use native.Mathlib.Omega.{arith}
+use Prim.Native.Nat.{ℕ, _<_}
+use borrow.Fn.Kinds.{In}
+use borrow.Fn.PlainCycle.{Measures, is, falls, and}
+use Rattle.conformance.proofs.conforms.conforms.Reads as conforms
+use Rattle.conformance.proofs.conforms.conforms.Kinds as conforms-kinds
+use Rattle.conformance.proofs.conforms.+conforms+members_conform+pair_conforms+record_conforms.Lts-conforms as conforms-lts
+use Rattle.conformance.proofs.conforms.members_conform.Reads as members-conform
+use Rattle.conformance.proofs.conforms.members_conform.Kinds as members-conform-kinds
+use Rattle.conformance.proofs.conforms.+conforms+members_conform+pair_conforms+record_conforms.Lts-members_conform as members-conform-lts
+use Rattle.conformance.proofs.conforms.pair_conforms.Reads as pair-conforms
+use Rattle.conformance.proofs.conforms.pair_conforms.Kinds as pair-conforms-kinds
+use Rattle.conformance.proofs.conforms.+conforms+members_conform+pair_conforms+record_conforms.Lts-pair_conforms as pair-conforms-lts
+use Rattle.conformance.proofs.conforms.record_conforms.Reads as record-conforms
+use Rattle.conformance.proofs.conforms.record_conforms.Kinds as record-conforms-kinds
+use Rattle.conformance.proofs.conforms.+conforms+members_conform+pair_conforms+record_conforms.Lts-record_conforms as record-conforms-lts
+use Rattle.conformance.proofs.atoms.takes_kind.Reads as takes-kind-reads
+use Rattle.conformance.proofs.calls.call_returns.Reads as call-returns-reads
+use Rattle.conformance.proofs.entities.is_action_of.Reads as is-action-of-reads
+use Rattle.conformance.proofs.entities.stands.Reads as stands-reads
+use Rattle.conformance.proofs.required.has_required.Reads as has-required-reads
+use Rattle.conformance.proofs.verdicts.tested.Reads as tested-reads
+use Rattle.forms.proofs.numbers.u16_at.Reads as u16-at-reads
+use Rattle.forms.proofs.search.find.Reads as find-reads
+use Rattle.forms.proofs.search.skip_below.Reads as skip-below-reads
+use Rattle.conformance.proofs.conforms.+conforms+members_conform+pair_conforms+record_conforms.{
+  statement,
+}
+use Rattle.conformance.proofs.conforms.+conforms+members_conform+pair_conforms+record_conforms.Tie.{
+  close,
+}
+
+abbrev μ-conforms : Measures 3 conforms-kinds.ps ℕ
+μ-conforms κs a = 3 * a .1 .1 .1 .1 .0
+
+abbrev μ-members-conform : Measures 3 members-conform-kinds.ps ℕ
+μ-members-conform κs a = 3 * a .1 .1 .1 .1 .0 + 1
+
+abbrev μ-pair-conforms : Measures 4 pair-conforms-kinds.ps ℕ
+μ-pair-conforms κs a = 3 * a .1 .1 .1 .1 .1 .1 .1 .1 .0 + 1
+
+abbrev μ-record-conforms : Measures 3 record-conforms-kinds.ps ℕ
+μ-record-conforms κs a = 3 * a .1 .1 .1 .1 .0 + 2
+
+abbrev conforms-at : ℕ → In 3 conforms-kinds.ps
+conforms-at t = and 3 conforms-kinds.ps (is 3 conforms-kinds.ps μ-conforms t) conforms.Pre
+
+abbrev conforms-below : ℕ → In 3 conforms-kinds.ps
+conforms-below t =
+    and 3 conforms-kinds.ps (falls 3 conforms-kinds.ps _<_ μ-conforms t) conforms.Pre
+
+abbrev members-conform-at : ℕ → In 3 members-conform-kinds.ps
+members-conform-at t =
+    and
+    3
+    members-conform-kinds.ps
+    (is 3 members-conform-kinds.ps μ-members-conform t)
+    members-conform.Pre
+
+abbrev members-conform-below : ℕ → In 3 members-conform-kinds.ps
+members-conform-below t =
+    and
+    3
+    members-conform-kinds.ps
+    (falls 3 members-conform-kinds.ps _<_ μ-members-conform t)
+    members-conform.Pre
+
+abbrev pair-conforms-at : ℕ → In 4 pair-conforms-kinds.ps
+pair-conforms-at t =
+    and 4 pair-conforms-kinds.ps (is 4 pair-conforms-kinds.ps μ-pair-conforms t) pair-conforms.Pre
+
+abbrev pair-conforms-below : ℕ → In 4 pair-conforms-kinds.ps
+pair-conforms-below t =
+    and
+    4
+    pair-conforms-kinds.ps
+    (falls 4 pair-conforms-kinds.ps _<_ μ-pair-conforms t)
+    pair-conforms.Pre
+
+abbrev record-conforms-at : ℕ → In 3 record-conforms-kinds.ps
+record-conforms-at t =
+    and
+    3
+    record-conforms-kinds.ps
+    (is 3 record-conforms-kinds.ps μ-record-conforms t)
+    record-conforms.Pre
+
+abbrev record-conforms-below : ℕ → In 3 record-conforms-kinds.ps
+record-conforms-below t =
+    and
+    3
+    record-conforms-kinds.ps
+    (falls 3 record-conforms-kinds.ps _<_ μ-record-conforms t)
+    record-conforms.Pre
+
+-- src/conforms.rt:39:13
+conforms-shared-slice-read-k : (t : ℕ) → conforms-lts.Need-shared-slice-read-k (
+  members-conform-below t,
+  members-conform.Post,
+  record-conforms-below t,
+  record-conforms.Post,
+  u16-at-reads.Asked,
+  u16-at-reads.Learnt,
+  stands-reads.Asked,
+  stands-reads.Learnt,
+  tested-reads.Asked,
+  tested-reads.Learnt,
+  is-action-of-reads.Asked,
+  is-action-of-reads.Learnt,
+  call-returns-reads.Asked,
+  call-returns-reads.Learnt,
+  takes-kind-reads.Asked,
+  takes-kind-reads.Learnt,
+) (conforms-at t) conforms.Post
+conforms-shared-slice-read-k t c = not-empty ((c .before .before .before .before) .args .levels) ((c .before .before .before .before) .args .t .now) ((c .before .before .before .before) .pre .1 .1 .0)
+
+-- src/conforms.rt:40:13
+conforms-shared-slice-read-j : (t : ℕ) → conforms-lts.Need-shared-slice-read-j (
+  members-conform-below t,
+  members-conform.Post,
+  record-conforms-below t,
+  record-conforms.Post,
+  u16-at-reads.Asked,
+  u16-at-reads.Learnt,
+  stands-reads.Asked,
+  stands-reads.Learnt,
+  tested-reads.Asked,
+  tested-reads.Learnt,
+  is-action-of-reads.Asked,
+  is-action-of-reads.Learnt,
+  call-returns-reads.Asked,
+  call-returns-reads.Learnt,
+  takes-kind-reads.Asked,
+  takes-kind-reads.Learnt,
+) (conforms-at t) conforms.Post
+conforms-shared-slice-read-j t c = value-first ((c .before .before .before .before .before) .args .levels) ((c .before .before .before .before .before) .args .v .now) ((c .before .before .before .before .before) .pre .1 .1 .1)
+
+-- src/conforms.rt:44:17
+conforms-returns : (t : ℕ) → conforms-lts.Need-returns (
+  members-conform-below t,
+  members-conform.Post,
+  record-conforms-below t,
+  record-conforms.Post,
+  u16-at-reads.Asked,
+  u16-at-reads.Learnt,
+  stands-reads.Asked,
+  stands-reads.Learnt,
+  tested-reads.Asked,
+  tested-reads.Learnt,
+  is-action-of-reads.Asked,
+  is-action-of-reads.Learnt,
+  call-returns-reads.Asked,
+  call-returns-reads.Learnt,
+  takes-kind-reads.Asked,
+  takes-kind-reads.Learnt,
+) (conforms-at t) conforms.Post
+conforms-returns t c = let s = (c .before .before .before .before .before .before .before) in set-not _ (s .args .levels) (s .args .t .now) (s .args .v .now) (s .pre .1 .1 .0) (s .pre .1 .1 .1) ((c .before) .match .keys1) (c .if1 .taken)
+
+-- src/conforms.rt:46:47
+conforms-sub-members-conform : (t : ℕ) → conforms-lts.Need-sub-members-conform (
+  members-conform-below t,
+  members-conform.Post,
+  record-conforms-below t,
+  record-conforms.Post,
+  u16-at-reads.Asked,
+  u16-at-reads.Learnt,
+  stands-reads.Asked,
+  stands-reads.Learnt,
+  tested-reads.Asked,
+  tested-reads.Learnt,
+  is-action-of-reads.Asked,
+  is-action-of-reads.Learnt,
+  call-returns-reads.Asked,
+  call-returns-reads.Learnt,
+  takes-kind-reads.Asked,
+  takes-kind-reads.Learnt,
+) (conforms-at t) conforms.Post
+conforms-sub-members-conform t c = let s = (c .before .before .before .before .before .before .before) in omega (arith, not-empty (s .args .levels) (s .args .t .now) (s .pre .1 .1 .0))
+
+-- src/conforms.rt:46:47
+conforms-part-members-conform-start : (t : ℕ) → conforms-lts.Need-part-members-conform-start (
+  members-conform-below t,
+  members-conform.Post,
+  record-conforms-below t,
+  record-conforms.Post,
+  u16-at-reads.Asked,
+  u16-at-reads.Learnt,
+  stands-reads.Asked,
+  stands-reads.Learnt,
+  tested-reads.Asked,
+  tested-reads.Learnt,
+  is-action-of-reads.Asked,
+  is-action-of-reads.Learnt,
+  call-returns-reads.Asked,
+  call-returns-reads.Learnt,
+  takes-kind-reads.Asked,
+  takes-kind-reads.Learnt,
+) (conforms-at t) conforms.Post
+conforms-part-members-conform-start t c = let s = (c .before .before .before .before .before .before .before) in omega (arith, not-empty (s .args .levels) (s .args .t .now) (s .pre .1 .1 .0))
+
+-- src/conforms.rt:46:47
+conforms-part-members-conform-end : (t : ℕ) → conforms-lts.Need-part-members-conform-end (
+  members-conform-below t,
+  members-conform.Post,
+  record-conforms-below t,
+  record-conforms.Post,
+  u16-at-reads.Asked,
+  u16-at-reads.Learnt,
+  stands-reads.Asked,
+  stands-reads.Learnt,
+  tested-reads.Asked,
+  tested-reads.Learnt,
+  is-action-of-reads.Asked,
+  is-action-of-reads.Learnt,
+  call-returns-reads.Asked,
+  call-returns-reads.Learnt,
+  takes-kind-reads.Asked,
+  takes-kind-reads.Learnt,
+) (conforms-at t) conforms.Post
+conforms-part-members-conform-end t c = search needs
+
+-- src/conforms.rt:46:59
+conforms-sub-members-conform-2 : (t : ℕ) → conforms-lts.Need-sub-members-conform-2 (
+  members-conform-below t,
+  members-conform.Post,
+  record-conforms-below t,
+  record-conforms.Post,
+  u16-at-reads.Asked,
+  u16-at-reads.Learnt,
+  stands-reads.Asked,
+  stands-reads.Learnt,
+  tested-reads.Asked,
+  tested-reads.Learnt,
+  is-action-of-reads.Asked,
+  is-action-of-reads.Learnt,
+  call-returns-reads.Asked,
+  call-returns-reads.Learnt,
+  takes-kind-reads.Asked,
+  takes-kind-reads.Learnt,
+) (conforms-at t) conforms.Post
+conforms-sub-members-conform-2 t c = let s = (c .before .before .before .before .before .before .before .before) in omega (arith, value-level (s .args .levels) (s .args .v .now) (s .pre .1 .1 .1))
+
+-- src/conforms.rt:46:13
+conforms-members-conform-requires : (t : ℕ) → conforms-lts.Need-members-conform-requires (
+  members-conform-below t,
+  members-conform.Post,
+  record-conforms-below t,
+  record-conforms.Post,
+  u16-at-reads.Asked,
+  u16-at-reads.Learnt,
+  stands-reads.Asked,
+  stands-reads.Learnt,
+  tested-reads.Asked,
+  tested-reads.Learnt,
+  is-action-of-reads.Asked,
+  is-action-of-reads.Learnt,
+  call-returns-reads.Asked,
+  call-returns-reads.Learnt,
+  takes-kind-reads.Asked,
+  takes-kind-reads.Learnt,
+) (conforms-at t) conforms.Post
+conforms-members-conform-requires t c κs = let s = (c .before .before .before .before .before .before .before .before) in (omega (arith, s .pre .0, value-level (s .args .levels) (s .args .v .now) (s .pre .1 .1 .1)), (s .pre .1 .0, (is-set (s .args .levels) (s .args .t .now) (s .pre .1 .1 .0) ((c .before .before) .match .keys1) .good, value-as (s .args .levels) (s .args .v .now) (s .pre .1 .1 .1) 5 ((c .before) .if1 .left))))
+
+-- src/conforms.rt:50:17
+conforms-returns-2 : (t : ℕ) → conforms-lts.Need-returns-2 (
+  members-conform-below t,
+  members-conform.Post,
+  record-conforms-below t,
+  record-conforms.Post,
+  u16-at-reads.Asked,
+  u16-at-reads.Learnt,
+  stands-reads.Asked,
+  stands-reads.Learnt,
+  tested-reads.Asked,
+  tested-reads.Learnt,
+  is-action-of-reads.Asked,
+  is-action-of-reads.Learnt,
+  call-returns-reads.Asked,
+  call-returns-reads.Learnt,
+  takes-kind-reads.Asked,
+  takes-kind-reads.Learnt,
+) (conforms-at t) conforms.Post
+conforms-returns-2 t c = let s = (c .before .before .before .before .before .before .before) in record-not _ (s .args .levels) (s .args .t .now) (s .args .v .now) (s .pre .1 .1 .0) (s .pre .1 .1 .1) ((c .before) .match .keys2) (c .if2 .taken)
+
+-- src/conforms.rt:52:53
+conforms-sub-record-conforms : (t : ℕ) → conforms-lts.Need-sub-record-conforms (
+  members-conform-below t,
+  members-conform.Post,
+  record-conforms-below t,
+  record-conforms.Post,
+  u16-at-reads.Asked,
+  u16-at-reads.Learnt,
+  stands-reads.Asked,
+  stands-reads.Learnt,
+  tested-reads.Asked,
+  tested-reads.Learnt,
+  is-action-of-reads.Asked,
+  is-action-of-reads.Learnt,
+  call-returns-reads.Asked,
+  call-returns-reads.Learnt,
+  takes-kind-reads.Asked,
+  takes-kind-reads.Learnt,
+) (conforms-at t) conforms.Post
+conforms-sub-record-conforms t c = let s = (c .before .before .before .before .before .before .before) in omega (arith, value-level (s .args .levels) (s .args .v .now) (s .pre .1 .1 .1))
+
+-- src/conforms.rt:52:13
+conforms-record-conforms-requires : (t : ℕ) → conforms-lts.Need-record-conforms-requires (
+  members-conform-below t,
+  members-conform.Post,
+  record-conforms-below t,
+  record-conforms.Post,
+  u16-at-reads.Asked,
+  u16-at-reads.Learnt,
+  stands-reads.Asked,
+  stands-reads.Learnt,
+  tested-reads.Asked,
+  tested-reads.Learnt,
+  is-action-of-reads.Asked,
+  is-action-of-reads.Learnt,
+  call-returns-reads.Asked,
+  call-returns-reads.Learnt,
+  takes-kind-reads.Asked,
+  takes-kind-reads.Learnt,
+) (conforms-at t) conforms.Post
+conforms-record-conforms-requires t c κs = let s = (c .before .before .before .before .before .before .before) in (omega (arith, s .pre .0, value-level (s .args .levels) (s .args .v .now) (s .pre .1 .1 .1)), (s .pre .1 .0, (record-parts (s .args .levels) (s .args .t .now) (s .args .v .now) (s .pre .1 .1 .0) (s .pre .1 .1 .1) ((c .before) .match .keys2), value-as (s .args .levels) (s .args .v .now) (s .pre .1 .1 .1) 6 (c .if2 .left))))
+
+-- src/conforms.rt:56:17
+conforms-returns-3 : (t : ℕ) → conforms-lts.Need-returns-3 (
+  members-conform-below t,
+  members-conform.Post,
+  record-conforms-below t,
+  record-conforms.Post,
+  u16-at-reads.Asked,
+  u16-at-reads.Learnt,
+  stands-reads.Asked,
+  stands-reads.Learnt,
+  tested-reads.Asked,
+  tested-reads.Learnt,
+  is-action-of-reads.Asked,
+  is-action-of-reads.Learnt,
+  call-returns-reads.Asked,
+  call-returns-reads.Learnt,
+  takes-kind-reads.Asked,
+  takes-kind-reads.Learnt,
+) (conforms-at t) conforms.Post
+conforms-returns-3 t c = let s = (c .before .before .before .before .before .before .before) in entity-not _ (s .args .levels) (s .args .t .now) (s .args .v .now) (s .pre .1 .1 .0) (s .pre .1 .1 .1) ((c .before) .match .keys3) (c .if3 .taken)
+
+-- src/conforms.rt:58:27
+conforms-sub-stands : (t : ℕ) → conforms-lts.Need-sub-stands (
+  members-conform-below t,
+  members-conform.Post,
+  record-conforms-below t,
+  record-conforms.Post,
+  u16-at-reads.Asked,
+  u16-at-reads.Learnt,
+  stands-reads.Asked,
+  stands-reads.Learnt,
+  tested-reads.Asked,
+  tested-reads.Learnt,
+  is-action-of-reads.Asked,
+  is-action-of-reads.Learnt,
+  call-returns-reads.Asked,
+  call-returns-reads.Learnt,
+  takes-kind-reads.Asked,
+  takes-kind-reads.Learnt,
+) (conforms-at t) conforms.Post
+conforms-sub-stands t c = let s = (c .before .before .before .before .before .before .before) in omega (arith, is-entity (s .args .levels) (s .args .t .now) (s .pre .1 .1 .0) ((c .before) .match .keys3) .some)
+
+-- src/conforms.rt:58:27
+conforms-part-stands-start : (t : ℕ) → conforms-lts.Need-part-stands-start (
+  members-conform-below t,
+  members-conform.Post,
+  record-conforms-below t,
+  record-conforms.Post,
+  u16-at-reads.Asked,
+  u16-at-reads.Learnt,
+  stands-reads.Asked,
+  stands-reads.Learnt,
+  tested-reads.Asked,
+  tested-reads.Learnt,
+  is-action-of-reads.Asked,
+  is-action-of-reads.Learnt,
+  call-returns-reads.Asked,
+  call-returns-reads.Learnt,
+  takes-kind-reads.Asked,
+  takes-kind-reads.Learnt,
+) (conforms-at t) conforms.Post
+conforms-part-stands-start t c = let s = (c .before .before .before .before .before .before .before) in omega (arith, is-entity (s .args .levels) (s .args .t .now) (s .pre .1 .1 .0) ((c .before) .match .keys3) .some)
+
+-- src/conforms.rt:58:27
+conforms-part-stands-end : (t : ℕ) → conforms-lts.Need-part-stands-end (
+  members-conform-below t,
+  members-conform.Post,
+  record-conforms-below t,
+  record-conforms.Post,
+  u16-at-reads.Asked,
+  u16-at-reads.Learnt,
+  stands-reads.Asked,
+  stands-reads.Learnt,
+  tested-reads.Asked,
+  tested-reads.Learnt,
+  is-action-of-reads.Asked,
+  is-action-of-reads.Learnt,
+  call-returns-reads.Asked,
+  call-returns-reads.Learnt,
+  takes-kind-reads.Asked,
+  takes-kind-reads.Learnt,
+) (conforms-at t) conforms.Post
+conforms-part-stands-end t c = search needs
+
+-- src/conforms.rt:58:36
+conforms-u16-at-requires : (t : ℕ) → conforms-lts.Need-u16-at-requires (
+  members-conform-below t,
+  members-conform.Post,
+  record-conforms-below t,
+  record-conforms.Post,
+  u16-at-reads.Asked,
+  u16-at-reads.Learnt,
+  stands-reads.Asked,
+  stands-reads.Learnt,
+  tested-reads.Asked,
+  tested-reads.Learnt,
+  is-action-of-reads.Asked,
+  is-action-of-reads.Learnt,
+  call-returns-reads.Asked,
+  call-returns-reads.Learnt,
+  takes-kind-reads.Asked,
+  takes-kind-reads.Learnt,
+) (conforms-at t) conforms.Post
+conforms-u16-at-requires t c κs = let s = (c .before .before .before .before .before .before .before .before) in omega (arith, is-entity (s .args .levels) (s .args .t .now) (s .pre .1 .1 .0) ((c .before .before) .match .keys3) .some)
+
+-- src/conforms.rt:58:50
+conforms-u16-at-requires-2 : (t : ℕ) → conforms-lts.Need-u16-at-requires-2 (
+  members-conform-below t,
+  members-conform.Post,
+  record-conforms-below t,
+  record-conforms.Post,
+  u16-at-reads.Asked,
+  u16-at-reads.Learnt,
+  stands-reads.Asked,
+  stands-reads.Learnt,
+  tested-reads.Asked,
+  tested-reads.Learnt,
+  is-action-of-reads.Asked,
+  is-action-of-reads.Learnt,
+  call-returns-reads.Asked,
+  call-returns-reads.Learnt,
+  takes-kind-reads.Asked,
+  takes-kind-reads.Learnt,
+) (conforms-at t) conforms.Post
+conforms-u16-at-requires-2 t c κs = let s = (c .before .before .before .before .before .before .before .before .before) in omega (arith, uid-length (s .args .levels) (s .args .t .now) (s .args .v .now) (s .pre .1 .1 .0) (s .pre .1 .1 .1) ((c .before .before) .if3 .left))
+
+-- src/conforms.rt:58:20
+conforms-stands-requires : (t : ℕ) → conforms-lts.Need-stands-requires (
+  members-conform-below t,
+  members-conform.Post,
+  record-conforms-below t,
+  record-conforms.Post,
+  u16-at-reads.Asked,
+  u16-at-reads.Learnt,
+  stands-reads.Asked,
+  stands-reads.Learnt,
+  tested-reads.Asked,
+  tested-reads.Learnt,
+  is-action-of-reads.Asked,
+  is-action-of-reads.Learnt,
+  call-returns-reads.Asked,
+  call-returns-reads.Learnt,
+  takes-kind-reads.Asked,
+  takes-kind-reads.Learnt,
+) (conforms-at t) conforms.Post
+conforms-stands-requires t c κs = let s = (c .before .before .before .before .before .before .before .before .before .before) in omega (arith, length-rest 3 (s .args .t .now), is-entity (s .args .levels) (s .args .t .now) (s .pre .1 .1 .0) ((c .before .before .before .before) .match .keys3) .sized, (c .before) .u16-at .ensures .0)
+
+-- src/conforms.rt:58:13
+conforms-tested-requires : (t : ℕ) → conforms-lts.Need-tested-requires (
+  members-conform-below t,
+  members-conform.Post,
+  record-conforms-below t,
+  record-conforms.Post,
+  u16-at-reads.Asked,
+  u16-at-reads.Learnt,
+  stands-reads.Asked,
+  stands-reads.Learnt,
+  tested-reads.Asked,
+  tested-reads.Learnt,
+  is-action-of-reads.Asked,
+  is-action-of-reads.Learnt,
+  call-returns-reads.Asked,
+  call-returns-reads.Learnt,
+  takes-kind-reads.Asked,
+  takes-kind-reads.Learnt,
+) (conforms-at t) conforms.Post
+conforms-tested-requires t c κs = search needs
+
+-- src/conforms.rt:62:17
+conforms-returns-4 : (t : ℕ) → conforms-lts.Need-returns-4 (
+  members-conform-below t,
+  members-conform.Post,
+  record-conforms-below t,
+  record-conforms.Post,
+  u16-at-reads.Asked,
+  u16-at-reads.Learnt,
+  stands-reads.Asked,
+  stands-reads.Learnt,
+  tested-reads.Asked,
+  tested-reads.Learnt,
+  is-action-of-reads.Asked,
+  is-action-of-reads.Learnt,
+  call-returns-reads.Asked,
+  call-returns-reads.Learnt,
+  takes-kind-reads.Asked,
+  takes-kind-reads.Learnt,
+) (conforms-at t) conforms.Post
+conforms-returns-4 t c = let s = (c .before .before .before .before .before .before .before) in action-not _ (s .args .levels) (s .args .t .now) (s .args .v .now) (s .pre .1 .1 .0) (s .pre .1 .1 .1) ((c .before) .match .keys4) (c .if4 .taken)
+
+-- src/conforms.rt:64:33
+conforms-u16-at-requires-3 : (t : ℕ) → conforms-lts.Need-u16-at-requires-3 (
+  members-conform-below t,
+  members-conform.Post,
+  record-conforms-below t,
+  record-conforms.Post,
+  u16-at-reads.Asked,
+  u16-at-reads.Learnt,
+  stands-reads.Asked,
+  stands-reads.Learnt,
+  tested-reads.Asked,
+  tested-reads.Learnt,
+  is-action-of-reads.Asked,
+  is-action-of-reads.Learnt,
+  call-returns-reads.Asked,
+  call-returns-reads.Learnt,
+  takes-kind-reads.Asked,
+  takes-kind-reads.Learnt,
+) (conforms-at t) conforms.Post
+conforms-u16-at-requires-3 t c κs = let s = (c .before .before .before .before .before .before .before) in omega (arith, uid-length (s .args .levels) (s .args .t .now) (s .args .v .now) (s .pre .1 .1 .0) (s .pre .1 .1 .1) (c .if4 .left))
+
+-- src/conforms.rt:64:47
+conforms-u16-at-requires-4 : (t : ℕ) → conforms-lts.Need-u16-at-requires-4 (
+  members-conform-below t,
+  members-conform.Post,
+  record-conforms-below t,
+  record-conforms.Post,
+  u16-at-reads.Asked,
+  u16-at-reads.Learnt,
+  stands-reads.Asked,
+  stands-reads.Learnt,
+  tested-reads.Asked,
+  tested-reads.Learnt,
+  is-action-of-reads.Asked,
+  is-action-of-reads.Learnt,
+  call-returns-reads.Asked,
+  call-returns-reads.Learnt,
+  takes-kind-reads.Asked,
+  takes-kind-reads.Learnt,
+) (conforms-at t) conforms.Post
+conforms-u16-at-requires-4 t c κs = let s = (c .before .before .before .before .before .before .before .before) in omega (arith, is-action (s .args .levels) (s .args .t .now) (s .pre .1 .1 .0) ((c .before .before) .match .keys4) .some)
+
+-- src/conforms.rt:64:20
+conforms-is-action-of-requires : (t : ℕ) → conforms-lts.Need-is-action-of-requires (
+  members-conform-below t,
+  members-conform.Post,
+  record-conforms-below t,
+  record-conforms.Post,
+  u16-at-reads.Asked,
+  u16-at-reads.Learnt,
+  stands-reads.Asked,
+  stands-reads.Learnt,
+  tested-reads.Asked,
+  tested-reads.Learnt,
+  is-action-of-reads.Asked,
+  is-action-of-reads.Learnt,
+  call-returns-reads.Asked,
+  call-returns-reads.Learnt,
+  takes-kind-reads.Asked,
+  takes-kind-reads.Learnt,
+) (conforms-at t) conforms.Post
+conforms-is-action-of-requires t c κs = search needs
+
+-- src/conforms.rt:64:13
+conforms-tested-requires-2 : (t : ℕ) → conforms-lts.Need-tested-requires-2 (
+  members-conform-below t,
+  members-conform.Post,
+  record-conforms-below t,
+  record-conforms.Post,
+  u16-at-reads.Asked,
+  u16-at-reads.Learnt,
+  stands-reads.Asked,
+  stands-reads.Learnt,
+  tested-reads.Asked,
+  tested-reads.Learnt,
+  is-action-of-reads.Asked,
+  is-action-of-reads.Learnt,
+  call-returns-reads.Asked,
+  call-returns-reads.Learnt,
+  takes-kind-reads.Asked,
+  takes-kind-reads.Learnt,
+) (conforms-at t) conforms.Post
+conforms-tested-requires-2 t c κs = search needs
+
+-- src/conforms.rt:68:17
+conforms-returns-5 : (t : ℕ) → conforms-lts.Need-returns-5 (
+  members-conform-below t,
+  members-conform.Post,
+  record-conforms-below t,
+  record-conforms.Post,
+  u16-at-reads.Asked,
+  u16-at-reads.Learnt,
+  stands-reads.Asked,
+  stands-reads.Learnt,
+  tested-reads.Asked,
+  tested-reads.Learnt,
+  is-action-of-reads.Asked,
+  is-action-of-reads.Learnt,
+  call-returns-reads.Asked,
+  call-returns-reads.Learnt,
+  takes-kind-reads.Asked,
+  takes-kind-reads.Learnt,
+) (conforms-at t) conforms.Post
+conforms-returns-5 t c = let s = (c .before .before .before .before .before .before .before) in extension-not _ (s .args .levels) (s .args .t .now) (s .args .v .now) (s .pre .1 .1 .0) (s .pre .1 .1 .1) ((c .before) .match .keys5) (c .if5 .taken)
+
+-- src/conforms.rt:70:47
+conforms-u16-at-requires-5 : (t : ℕ) → conforms-lts.Need-u16-at-requires-5 (
+  members-conform-below t,
+  members-conform.Post,
+  record-conforms-below t,
+  record-conforms.Post,
+  u16-at-reads.Asked,
+  u16-at-reads.Learnt,
+  stands-reads.Asked,
+  stands-reads.Learnt,
+  tested-reads.Asked,
+  tested-reads.Learnt,
+  is-action-of-reads.Asked,
+  is-action-of-reads.Learnt,
+  call-returns-reads.Asked,
+  call-returns-reads.Learnt,
+  takes-kind-reads.Asked,
+  takes-kind-reads.Learnt,
+) (conforms-at t) conforms.Post
+conforms-u16-at-requires-5 t c κs = let s = (c .before .before .before .before .before .before .before) in omega (arith, is-extension (s .args .levels) (s .args .t .now) (s .pre .1 .1 .0) ((c .before) .match .keys5) .sized)
+
+-- src/conforms.rt:70:61
+conforms-sub-call-returns : (t : ℕ) → conforms-lts.Need-sub-call-returns (
+  members-conform-below t,
+  members-conform.Post,
+  record-conforms-below t,
+  record-conforms.Post,
+  u16-at-reads.Asked,
+  u16-at-reads.Learnt,
+  stands-reads.Asked,
+  stands-reads.Learnt,
+  tested-reads.Asked,
+  tested-reads.Learnt,
+  is-action-of-reads.Asked,
+  is-action-of-reads.Learnt,
+  call-returns-reads.Asked,
+  call-returns-reads.Learnt,
+  takes-kind-reads.Asked,
+  takes-kind-reads.Learnt,
+) (conforms-at t) conforms.Post
+conforms-sub-call-returns t c = let s = (c .before .before .before .before .before .before .before .before) in omega (arith, value-level (s .args .levels) (s .args .v .now) (s .pre .1 .1 .1))
+
+-- src/conforms.rt:70:13
+conforms-call-returns-requires : (t : ℕ) → conforms-lts.Need-call-returns-requires (
+  members-conform-below t,
+  members-conform.Post,
+  record-conforms-below t,
+  record-conforms.Post,
+  u16-at-reads.Asked,
+  u16-at-reads.Learnt,
+  stands-reads.Asked,
+  stands-reads.Learnt,
+  tested-reads.Asked,
+  tested-reads.Learnt,
+  is-action-of-reads.Asked,
+  is-action-of-reads.Learnt,
+  call-returns-reads.Asked,
+  call-returns-reads.Learnt,
+  takes-kind-reads.Asked,
+  takes-kind-reads.Learnt,
+) (conforms-at t) conforms.Post
+conforms-call-returns-requires t c κs = let s = (c .before .before .before .before .before .before .before .before) in (s .pre .1 .0, value-as (s .args .levels) (s .args .v .now) (s .pre .1 .1 .1) 7 ((c .before) .if5 .left))
+
+-- src/conforms.rt:72:21
+conforms-takes-kind-requires : (t : ℕ) → conforms-lts.Need-takes-kind-requires (
+  members-conform-below t,
+  members-conform.Post,
+  record-conforms-below t,
+  record-conforms.Post,
+  u16-at-reads.Asked,
+  u16-at-reads.Learnt,
+  stands-reads.Asked,
+  stands-reads.Learnt,
+  tested-reads.Asked,
+  tested-reads.Learnt,
+  is-action-of-reads.Asked,
+  is-action-of-reads.Learnt,
+  call-returns-reads.Asked,
+  call-returns-reads.Learnt,
+  takes-kind-reads.Asked,
+  takes-kind-reads.Learnt,
+) (conforms-at t) conforms.Post
+conforms-takes-kind-requires t c κs = search needs
+
+-- src/conforms.rt:72:14
+conforms-tested-requires-3 : (t : ℕ) → conforms-lts.Need-tested-requires-3 (
+  members-conform-below t,
+  members-conform.Post,
+  record-conforms-below t,
+  record-conforms.Post,
+  u16-at-reads.Asked,
+  u16-at-reads.Learnt,
+  stands-reads.Asked,
+  stands-reads.Learnt,
+  tested-reads.Asked,
+  tested-reads.Learnt,
+  is-action-of-reads.Asked,
+  is-action-of-reads.Learnt,
+  call-returns-reads.Asked,
+  call-returns-reads.Learnt,
+  takes-kind-reads.Asked,
+  takes-kind-reads.Learnt,
+) (conforms-at t) conforms.Post
+conforms-tested-requires-3 t c κs = search needs
+
+-- src/conforms.rt:33:1
+conforms-returns-6 : (t : ℕ) → conforms-lts.Need-returns-6 (
+  members-conform-below t,
+  members-conform.Post,
+  record-conforms-below t,
+  record-conforms.Post,
+  u16-at-reads.Asked,
+  u16-at-reads.Learnt,
+  stands-reads.Asked,
+  stands-reads.Learnt,
+  tested-reads.Asked,
+  tested-reads.Learnt,
+  is-action-of-reads.Asked,
+  is-action-of-reads.Learnt,
+  call-returns-reads.Asked,
+  call-returns-reads.Learnt,
+  takes-kind-reads.Asked,
+  takes-kind-reads.Learnt,
+) (conforms-at t) conforms.Post
+conforms-returns-6 t c = let s = (c .before .before .before .before .before .before .before .before .before) in c .members-conform .ensures ∙ set-members _ (s .args .levels) (s .args .t .now) (s .args .v .now) (s .pre .1 .1 .0) (s .pre .1 .1 .1) ((c .before .before .before) .match .keys1) ((c .before .before) .if1 .left)
+
+-- src/conforms.rt:33:1
+conforms-returns-7 : (t : ℕ) → conforms-lts.Need-returns-7 (
+  members-conform-below t,
+  members-conform.Post,
+  record-conforms-below t,
+  record-conforms.Post,
+  u16-at-reads.Asked,
+  u16-at-reads.Learnt,
+  stands-reads.Asked,
+  stands-reads.Learnt,
+  tested-reads.Asked,
+  tested-reads.Learnt,
+  is-action-of-reads.Asked,
+  is-action-of-reads.Learnt,
+  call-returns-reads.Asked,
+  call-returns-reads.Learnt,
+  takes-kind-reads.Asked,
+  takes-kind-reads.Learnt,
+) (conforms-at t) conforms.Post
+conforms-returns-7 t c = let s = (c .before .before .before .before .before .before .before .before) in c .record-conforms .ensures ∙ record-pairs _ (s .args .levels) (s .args .t .now) (s .args .v .now) (s .pre .1 .1 .0) (s .pre .1 .1 .1) ((c .before .before) .match .keys2) ((c .before) .if2 .left)
+
+-- src/conforms.rt:33:1
+conforms-returns-8 : (t : ℕ) → conforms-lts.Need-returns-8 (
+  members-conform-below t,
+  members-conform.Post,
+  record-conforms-below t,
+  record-conforms.Post,
+  u16-at-reads.Asked,
+  u16-at-reads.Learnt,
+  stands-reads.Asked,
+  stands-reads.Learnt,
+  tested-reads.Asked,
+  tested-reads.Learnt,
+  is-action-of-reads.Asked,
+  is-action-of-reads.Learnt,
+  call-returns-reads.Asked,
+  call-returns-reads.Learnt,
+  takes-kind-reads.Asked,
+  takes-kind-reads.Learnt,
+) (conforms-at t) conforms.Post
+conforms-returns-8 t c = let s = (c .before .before .before .before .before .before .before .before .before .before .before .before) in c .tested .ensures ∙ ap (λ (b : Bool). verdictOf (verdict b)) ((c .before) .stands .ensures) ∙ entity-names _ (s .args .levels) (s .args .t .now) (s .args .v .now) (s .pre .1 .1 .0) (s .pre .1 .1 .1) ((c .before .before .before .before .before .before) .match .keys3) ((c .before .before .before .before .before) .if3 .left) ((c .before .before .before) .u16-at .result) ((c .before .before) .u16-at2 .result) ((c .before .before .before) .u16-at .ensures .0) ((c .before .before) .u16-at2 .ensures .0)
+
+-- src/conforms.rt:33:1
+conforms-returns-9 : (t : ℕ) → conforms-lts.Need-returns-9 (
+  members-conform-below t,
+  members-conform.Post,
+  record-conforms-below t,
+  record-conforms.Post,
+  u16-at-reads.Asked,
+  u16-at-reads.Learnt,
+  stands-reads.Asked,
+  stands-reads.Learnt,
+  tested-reads.Asked,
+  tested-reads.Learnt,
+  is-action-of-reads.Asked,
+  is-action-of-reads.Learnt,
+  call-returns-reads.Asked,
+  call-returns-reads.Learnt,
+  takes-kind-reads.Asked,
+  takes-kind-reads.Learnt,
+) (conforms-at t) conforms.Post
+conforms-returns-9 t c = let s = (c .before .before .before .before .before .before .before .before .before .before .before) in c .tested2 .ensures ∙ ap (λ (b : Bool). verdictOf (verdict b)) ((c .before) .is-action-of .ensures) ∙ action-name _ (s .args .levels) (s .args .t .now) (s .args .v .now) (s .pre .1 .1 .0) (s .pre .1 .1 .1) ((c .before .before .before .before .before) .match .keys4) ((c .before .before .before .before) .if4 .left) ((c .before .before .before) .u16-at3 .result) ((c .before .before) .u16-at4 .result) ((c .before .before .before) .u16-at3 .ensures .0) ((c .before .before) .u16-at4 .ensures .0)
+
+-- src/conforms.rt:33:1
+conforms-returns-10 : (t : ℕ) → conforms-lts.Need-returns-10 (
+  members-conform-below t,
+  members-conform.Post,
+  record-conforms-below t,
+  record-conforms.Post,
+  u16-at-reads.Asked,
+  u16-at-reads.Learnt,
+  stands-reads.Asked,
+  stands-reads.Learnt,
+  tested-reads.Asked,
+  tested-reads.Learnt,
+  is-action-of-reads.Asked,
+  is-action-of-reads.Learnt,
+  call-returns-reads.Asked,
+  call-returns-reads.Learnt,
+  takes-kind-reads.Asked,
+  takes-kind-reads.Learnt,
+) (conforms-at t) conforms.Post
+conforms-returns-10 t c = let s = (c .before .before .before .before .before .before .before .before .before) in c .call-returns .ensures ∙ extension-call _ (s .args .levels) (s .args .t .now) (s .args .v .now) (s .pre .1 .1 .0) (s .pre .1 .1 .1) ((c .before .before .before) .match .keys5) ((c .before .before) .if5 .left) ((c .before) .u16-at5 .result) ((c .before) .u16-at5 .ensures .0)
+
+-- src/conforms.rt:33:1
+conforms-returns-11 : (t : ℕ) → conforms-lts.Need-returns-11 (
+  members-conform-below t,
+  members-conform.Post,
+  record-conforms-below t,
+  record-conforms.Post,
+  u16-at-reads.Asked,
+  u16-at-reads.Learnt,
+  stands-reads.Asked,
+  stands-reads.Learnt,
+  tested-reads.Asked,
+  tested-reads.Learnt,
+  is-action-of-reads.Asked,
+  is-action-of-reads.Learnt,
+  call-returns-reads.Asked,
+  call-returns-reads.Learnt,
+  takes-kind-reads.Asked,
+  takes-kind-reads.Learnt,
+) (conforms-at t) conforms.Post
+conforms-returns-11 t c = let s = (c .before .before .before .before .before .before .before .before) in let m = (c .before .before) .match .rest in c .tested3 .ensures ∙ ap (λ (b : Bool). verdictOf (verdict b)) ((c .before) .takes-kind .ensures) ∙ atom-kinds _ (s .args .levels) (s .args .t .now) (s .args .v .now) (s .pre .1 .1 .0) (s .pre .1 .1 .1) (m .0 .0 .0 .0 .1) (m .0 .0 .0 .1) (m .0 .0 .1) (m .0 .1) (m .1)
+
+abbrev members-conform-Inv-loop : members-conform-lts.InvT-loop
+members-conform-Inv-loop schema sections t v levels n end e₀ b₀ left₀ e b left = MembersAhead levels (λ x. has shorter (decS standard schema) (dec levels t) x) (eachValue (λ x. has shorter (decS standard schema) (dec levels t) x) (membersOf levels v)) left e b
+
+abbrev members-conform-μ-loop : members-conform-lts.MeasureT-loop
+members-conform-μ-loop schema sections t v levels n end e₀ b₀ left₀ e b left = left
+
+-- src/conforms.rt:83:9
+members-conform-u16-at-requires : (t : ℕ) → members-conform-lts.Need-u16-at-requires (
+  u16-at-reads.Asked,
+  u16-at-reads.Learnt,
+  conforms-below t,
+  conforms.Post,
+) (members-conform-at t) members-conform.Post members-conform-Inv-loop members-conform-μ-loop
+members-conform-u16-at-requires t c κs = let s = (c .before .before .before) in omega (arith, table-count memberRow (λ _. wholeV (s .args .levels)) tt 1 (s .args .v .now) (s .pre .1 .1 .1))
+
+-- src/conforms.rt:84:19
+members-conform-mul-end : (t : ℕ) → members-conform-lts.Need-mul-end (
+  u16-at-reads.Asked,
+  u16-at-reads.Learnt,
+  conforms-below t,
+  conforms.Post,
+) (members-conform-at t) members-conform.Post members-conform-Inv-loop members-conform-μ-loop
+members-conform-mul-end t c = search needs
+
+-- src/conforms.rt:84:15
+members-conform-add-end : (t : ℕ) → members-conform-lts.Need-add-end (
+  u16-at-reads.Asked,
+  u16-at-reads.Learnt,
+  conforms-below t,
+  conforms.Post,
+) (members-conform-at t) members-conform.Post members-conform-Inv-loop members-conform-μ-loop
+members-conform-add-end t c = search needs
+
+-- src/conforms.rt:85:17
+members-conform-sub-e : (t : ℕ) → members-conform-lts.Need-sub-e (
+  u16-at-reads.Asked,
+  u16-at-reads.Learnt,
+  conforms-below t,
+  conforms.Post,
+) (members-conform-at t) members-conform.Post members-conform-Inv-loop members-conform-μ-loop
+members-conform-sub-e t c = let s = (c .before .before .before .before) in omega (arith, table-entries memberRow (λ _. wholeV (s .args .levels)) tt 1 (s .args .v .now) (s .pre .1 .1 .1) (c .u16-at .result) (c .u16-at .ensures .0))
+
+-- src/conforms.rt:85:17
+members-conform-part-e-start : (t : ℕ) → members-conform-lts.Need-part-e-start (
+  u16-at-reads.Asked,
+  u16-at-reads.Learnt,
+  conforms-below t,
+  conforms.Post,
+) (members-conform-at t) members-conform.Post members-conform-Inv-loop members-conform-μ-loop
+members-conform-part-e-start t c = search needs
+
+-- src/conforms.rt:85:17
+members-conform-part-e-end : (t : ℕ) → members-conform-lts.Need-part-e-end (
+  u16-at-reads.Asked,
+  u16-at-reads.Learnt,
+  conforms-below t,
+  conforms.Post,
+) (members-conform-at t) members-conform.Post members-conform-Inv-loop members-conform-μ-loop
+members-conform-part-e-end t c = let s = (c .before .before .before .before) in omega (arith, table-entries memberRow (λ _. wholeV (s .args .levels)) tt 1 (s .args .v .now) (s .pre .1 .1 .1) (c .u16-at .result) (c .u16-at .ensures .0))
+
+-- src/conforms.rt:86:17
+members-conform-sub-b : (t : ℕ) → members-conform-lts.Need-sub-b (
+  u16-at-reads.Asked,
+  u16-at-reads.Learnt,
+  conforms-below t,
+  conforms.Post,
+) (members-conform-at t) members-conform.Post members-conform-Inv-loop members-conform-μ-loop
+members-conform-sub-b t c = let s = (c .before .before .before .before .before) in omega (arith, table-entries memberRow (λ _. wholeV (s .args .levels)) tt 1 (s .args .v .now) (s .pre .1 .1 .1) ((c .before) .u16-at .result) ((c .before) .u16-at .ensures .0))
+
+-- src/conforms.rt:86:17
+members-conform-part-b-start : (t : ℕ) → members-conform-lts.Need-part-b-start (
+  u16-at-reads.Asked,
+  u16-at-reads.Learnt,
+  conforms-below t,
+  conforms.Post,
+) (members-conform-at t) members-conform.Post members-conform-Inv-loop members-conform-μ-loop
+members-conform-part-b-start t c = let s = (c .before .before .before .before .before) in omega (arith, table-entries memberRow (λ _. wholeV (s .args .levels)) tt 1 (s .args .v .now) (s .pre .1 .1 .1) ((c .before) .u16-at .result) ((c .before) .u16-at .ensures .0))
+
+-- src/conforms.rt:86:17
+members-conform-part-b-end : (t : ℕ) → members-conform-lts.Need-part-b-end (
+  u16-at-reads.Asked,
+  u16-at-reads.Learnt,
+  conforms-below t,
+  conforms.Post,
+) (members-conform-at t) members-conform.Post members-conform-Inv-loop members-conform-μ-loop
+members-conform-part-b-end t c = search needs
+
+-- src/conforms.rt:88:5
+members-conform-loop-holds : (t : ℕ) → members-conform-lts.Need-loop-holds (
+  u16-at-reads.Asked,
+  u16-at-reads.Learnt,
+  conforms-below t,
+  conforms.Post,
+) (members-conform-at t) members-conform.Post members-conform-Inv-loop members-conform-μ-loop
+members-conform-loop-holds t c = let s = (c .before .before .before .before .before .before) in members-start (s .args .levels) _ (s .args .v .now) (s .pre .1 .1 .1) ((c .before .before) .u16-at .result) ((c .before .before) .u16-at .ensures .0)
+
+-- src/conforms.rt:89:13
+members-conform-u16-at-requires-2 : (t : ℕ) → members-conform-lts.Need-u16-at-requires-2 (
+  u16-at-reads.Asked,
+  u16-at-reads.Learnt,
+  conforms-below t,
+  conforms.Post,
+) (members-conform-at t) members-conform.Post members-conform-Inv-loop members-conform-μ-loop
+members-conform-u16-at-requires-2 t c κs = omega (arith, ahead-room ((c .before) .loop .inv .rows) (c .loop-test .taken))
+
+-- src/conforms.rt:90:50
+members-conform-sub-conforms : (t : ℕ) → members-conform-lts.Need-sub-conforms (
+  u16-at-reads.Asked,
+  u16-at-reads.Learnt,
+  conforms-below t,
+  conforms.Post,
+) (members-conform-at t) members-conform.Post members-conform-Inv-loop members-conform-μ-loop
+members-conform-sub-conforms t c = search needs
+
+-- src/conforms.rt:90:50
+members-conform-part-conforms-start : (t : ℕ) → members-conform-lts.Need-part-conforms-start (
+  u16-at-reads.Asked,
+  u16-at-reads.Learnt,
+  conforms-below t,
+  conforms.Post,
+) (members-conform-at t) members-conform.Post members-conform-Inv-loop members-conform-μ-loop
+members-conform-part-conforms-start t c = search needs
+
+-- src/conforms.rt:90:50
+members-conform-part-conforms-end : (t : ℕ) → members-conform-lts.Need-part-conforms-end (
+  u16-at-reads.Asked,
+  u16-at-reads.Learnt,
+  conforms-below t,
+  conforms.Post,
+) (members-conform-at t) members-conform.Post members-conform-Inv-loop members-conform-μ-loop
+members-conform-part-conforms-end t c = omega (arith, ahead-inside ((c .before .before) .loop .inv .rows) ((c .before) .loop-test .taken) (c .u16-at2 .result) (c .u16-at2 .ensures .0))
+
+-- src/conforms.rt:90:13
+members-conform-conforms-requires : (t : ℕ) → members-conform-lts.Need-conforms-requires (
+  u16-at-reads.Asked,
+  u16-at-reads.Learnt,
+  conforms-below t,
+  conforms.Post,
+) (members-conform-at t) members-conform.Post members-conform-Inv-loop members-conform-μ-loop
+members-conform-conforms-requires t c κs = let s = (c .before .before .before .before .before .before .before .before .before .before) in (omega (arith, s .pre .0), (s .pre .1 .0, (s .pre .1 .1 .0, ahead-body ((c .before .before .before) .loop .inv .rows) ((c .before .before) .loop-test .taken) ((c .before) .u16-at2 .result) ((c .before) .u16-at2 .ensures .0))))
+
+members-conform-enum-told : (t : ℕ) → members-conform-lts.Need-enum-told (
+  u16-at-reads.Asked,
+  u16-at-reads.Learnt,
+  conforms-below t,
+  conforms.Post,
+) (members-conform-at t) members-conform.Post members-conform-Inv-loop members-conform-μ-loop
+members-conform-enum-told t c = search needs
+
+-- src/conforms.rt:92:13
+members-conform-returns : (t : ℕ) → members-conform-lts.Need-returns (
+  u16-at-reads.Asked,
+  u16-at-reads.Learnt,
+  conforms-below t,
+  conforms.Post,
+) (members-conform-at t) members-conform.Post members-conform-Inv-loop members-conform-μ-loop
+members-conform-returns t c = let f = (c .before) .conforms in members-stop ((c .before .before .before .before .before) .loop .inv) ((c .before .before .before .before) .loop-test .taken) ((c .before .before .before) .u16-at2 .result) ((c .before .before .before) .u16-at2 .ensures .0) (f .result) (f .ensures) (no-yes (f .result) (c .match .keys2))
+
+-- src/conforms.rt:94:13
+members-conform-sub-e-2 : (t : ℕ) → members-conform-lts.Need-sub-e-2 (
+  u16-at-reads.Asked,
+  u16-at-reads.Learnt,
+  conforms-below t,
+  conforms.Post,
+) (members-conform-at t) members-conform.Post members-conform-Inv-loop members-conform-μ-loop
+members-conform-sub-e-2 t c = omega (arith, ahead-room ((c .before .before .before .before .before .before) .loop .inv .rows) ((c .before .before .before .before .before) .loop-test .taken))
+
+-- src/conforms.rt:94:13
+members-conform-part-e-start-2 : (t : ℕ) → members-conform-lts.Need-part-e-start-2 (
+  u16-at-reads.Asked,
+  u16-at-reads.Learnt,
+  conforms-below t,
+  conforms.Post,
+) (members-conform-at t) members-conform.Post members-conform-Inv-loop members-conform-μ-loop
+members-conform-part-e-start-2 t c = omega (arith, ahead-room ((c .before .before .before .before .before .before) .loop .inv .rows) ((c .before .before .before .before .before) .loop-test .taken))
+
+-- src/conforms.rt:94:13
+members-conform-part-e-end-2 : (t : ℕ) → members-conform-lts.Need-part-e-end-2 (
+  u16-at-reads.Asked,
+  u16-at-reads.Learnt,
+  conforms-below t,
+  conforms.Post,
+) (members-conform-at t) members-conform.Post members-conform-Inv-loop members-conform-μ-loop
+members-conform-part-e-end-2 t c = search needs
+
+-- src/conforms.rt:95:13
+members-conform-sub-b-2 : (t : ℕ) → members-conform-lts.Need-sub-b-2 (
+  u16-at-reads.Asked,
+  u16-at-reads.Learnt,
+  conforms-below t,
+  conforms.Post,
+) (members-conform-at t) members-conform.Post members-conform-Inv-loop members-conform-μ-loop
+members-conform-sub-b-2 t c = omega (arith, ahead-inside ((c .before .before .before .before .before .before .before) .loop .inv .rows) ((c .before .before .before .before .before .before) .loop-test .taken) ((c .before .before .before .before .before) .u16-at2 .result) ((c .before .before .before .before .before) .u16-at2 .ensures .0))
+
+-- src/conforms.rt:95:13
+members-conform-part-b-start-2 : (t : ℕ) → members-conform-lts.Need-part-b-start-2 (
+  u16-at-reads.Asked,
+  u16-at-reads.Learnt,
+  conforms-below t,
+  conforms.Post,
+) (members-conform-at t) members-conform.Post members-conform-Inv-loop members-conform-μ-loop
+members-conform-part-b-start-2 t c = omega (arith, ahead-inside ((c .before .before .before .before .before .before .before) .loop .inv .rows) ((c .before .before .before .before .before .before) .loop-test .taken) ((c .before .before .before .before .before) .u16-at2 .result) ((c .before .before .before .before .before) .u16-at2 .ensures .0))
+
+-- src/conforms.rt:95:13
+members-conform-part-b-end-2 : (t : ℕ) → members-conform-lts.Need-part-b-end-2 (
+  u16-at-reads.Asked,
+  u16-at-reads.Learnt,
+  conforms-below t,
+  conforms.Post,
+) (members-conform-at t) members-conform.Post members-conform-Inv-loop members-conform-μ-loop
+members-conform-part-b-end-2 t c = search needs
+
+-- src/conforms.rt:96:9
+members-conform-sub-left : (t : ℕ) → members-conform-lts.Need-sub-left (
+  u16-at-reads.Asked,
+  u16-at-reads.Learnt,
+  conforms-below t,
+  conforms.Post,
+) (members-conform-at t) members-conform.Post members-conform-Inv-loop members-conform-μ-loop
+members-conform-sub-left t c = search needs
+
+-- src/conforms.rt:88:5
+members-conform-loop-less : (t : ℕ) → members-conform-lts.Need-loop-less (
+  u16-at-reads.Asked,
+  u16-at-reads.Learnt,
+  conforms-below t,
+  conforms.Post,
+) (members-conform-at t) members-conform.Post members-conform-Inv-loop members-conform-μ-loop
+members-conform-loop-less t c = search needs
+
+-- src/conforms.rt:88:5
+members-conform-loop-again : (t : ℕ) → members-conform-lts.Need-loop-again (
+  u16-at-reads.Asked,
+  u16-at-reads.Learnt,
+  conforms-below t,
+  conforms.Post,
+) (members-conform-at t) members-conform.Post members-conform-Inv-loop members-conform-μ-loop
+members-conform-loop-again t c = let f = (c .before .before .before .before) .conforms in members-again ((c .before .before .before .before .before .before .before .before) .loop .inv) ((c .before .before .before .before .before .before .before) .loop-test .taken) ((c .before .before .before .before .before .before) .u16-at2 .result) ((c .before .before .before .before .before .before) .u16-at2 .ensures .0) (f .result) (f .ensures) ((c .before .before) .enum-told .given .1)
+
+-- src/conforms.rt:77:1
+members-conform-returns-2 : (t : ℕ) → members-conform-lts.Need-returns-2 (
+  u16-at-reads.Asked,
+  u16-at-reads.Learnt,
+  conforms-below t,
+  conforms.Post,
+) (members-conform-at t) members-conform.Post members-conform-Inv-loop members-conform-μ-loop
+members-conform-returns-2 t c = members-end ((c .before) .loop .inv) (c .loop-test .left)
+
+-- src/conforms.rt:147:31
+pair-conforms-find-requires : (t : ℕ) → pair-conforms-lts.Need-find-requires (
+  find-reads.Asked,
+  find-reads.Learnt,
+  tested-reads.Asked,
+  tested-reads.Learnt,
+  u16-at-reads.Asked,
+  u16-at-reads.Learnt,
+  conforms-below t,
+  conforms.Post,
+) (pair-conforms-at t) pair-conforms.Post
+pair-conforms-find-requires t c κs = laid ((c .before .before .before .before) .pre .1 .1 .0)
+
+-- src/conforms.rt:147:19
+pair-conforms-enum-known-i : (t : ℕ) → pair-conforms-lts.Need-enum-known-i (
+  find-reads.Asked,
+  find-reads.Learnt,
+  tested-reads.Asked,
+  tested-reads.Learnt,
+  u16-at-reads.Asked,
+  u16-at-reads.Learnt,
+  conforms-below t,
+  conforms.Post,
+) (pair-conforms-at t) pair-conforms.Post
+pair-conforms-enum-known-i t c = search needs
+
+-- src/conforms.rt:148:23
+pair-conforms-enum-told : (t : ℕ) → pair-conforms-lts.Need-enum-told (
+  find-reads.Asked,
+  find-reads.Learnt,
+  tested-reads.Asked,
+  tested-reads.Learnt,
+  u16-at-reads.Asked,
+  u16-at-reads.Learnt,
+  conforms-below t,
+  conforms.Post,
+) (pair-conforms-at t) pair-conforms.Post
+pair-conforms-enum-told t c = search needs
+
+-- src/conforms.rt:148:9
+pair-conforms-tested-requires : (t : ℕ) → pair-conforms-lts.Need-tested-requires (
+  find-reads.Asked,
+  find-reads.Learnt,
+  tested-reads.Asked,
+  tested-reads.Learnt,
+  u16-at-reads.Asked,
+  u16-at-reads.Learnt,
+  conforms-below t,
+  conforms.Post,
+) (pair-conforms-at t) pair-conforms.Post
+pair-conforms-tested-requires t c κs = search needs
+
+-- src/conforms.rt:148:9
+pair-conforms-returns : (t : ℕ) → pair-conforms-lts.Need-returns (
+  find-reads.Asked,
+  find-reads.Learnt,
+  tested-reads.Asked,
+  tested-reads.Learnt,
+  u16-at-reads.Asked,
+  u16-at-reads.Learnt,
+  conforms-below t,
+  conforms.Post,
+) (pair-conforms-at t) pair-conforms.Post
+pair-conforms-returns t c = let s = (c .before .before .before .before .before .before .before .before) in let f = (c .before .before .before) .find in c .tested .ensures ∙ pair-absent _ _ (s .args .levels) (s .args .n) (s .args .name) (s .args .f .now) (s .args .c .now) _ (s .pre .1 .1 .0) (f .result) (f .ensures) ((c .before) .enum-told .given .1)
+
+-- src/conforms.rt:150:14
+pair-conforms-mul-at : (t : ℕ) → pair-conforms-lts.Need-mul-at (
+  find-reads.Asked,
+  find-reads.Learnt,
+  tested-reads.Asked,
+  tested-reads.Learnt,
+  u16-at-reads.Asked,
+  u16-at-reads.Learnt,
+  conforms-below t,
+  conforms.Post,
+) (pair-conforms-at t) pair-conforms.Post
+pair-conforms-mul-at t c = let s = (c .before .before .before .before .before .before .before .before) in let f = (c .before .before .before) .find in let g = (c .before) .i .given in omega (arith, pair-room (s .args .levels) (s .args .n) (s .args .name) (s .args .f .now) (s .args .c .now) (s .pre .1 .1 .0) (f .result) (f .ensures) (g .0 .0) (g .0 .1 .0) (g .1))
+
+-- src/conforms.rt:151:21
+pair-conforms-sub-attribute : (t : ℕ) → pair-conforms-lts.Need-sub-attribute (
+  find-reads.Asked,
+  find-reads.Learnt,
+  tested-reads.Asked,
+  tested-reads.Learnt,
+  u16-at-reads.Asked,
+  u16-at-reads.Learnt,
+  conforms-below t,
+  conforms.Post,
+) (pair-conforms-at t) pair-conforms.Post
+pair-conforms-sub-attribute t c = let s = (c .before .before .before .before .before .before .before .before) in let f = (c .before .before .before) .find in let g = (c .before) .i .given in omega (arith, pair-room (s .args .levels) (s .args .n) (s .args .name) (s .args .f .now) (s .args .c .now) (s .pre .1 .1 .0) (f .result) (f .ensures) (g .0 .0) (g .0 .1 .0) (g .1))
+
+-- src/conforms.rt:151:21
+pair-conforms-part-attribute-start : (t : ℕ) → pair-conforms-lts.Need-part-attribute-start (
+  find-reads.Asked,
+  find-reads.Learnt,
+  tested-reads.Asked,
+  tested-reads.Learnt,
+  u16-at-reads.Asked,
+  u16-at-reads.Learnt,
+  conforms-below t,
+  conforms.Post,
+) (pair-conforms-at t) pair-conforms.Post
+pair-conforms-part-attribute-start t c = let s = (c .before .before .before .before .before .before .before .before) in let f = (c .before .before .before) .find in let g = (c .before) .i .given in omega (arith, pair-room (s .args .levels) (s .args .n) (s .args .name) (s .args .f .now) (s .args .c .now) (s .pre .1 .1 .0) (f .result) (f .ensures) (g .0 .0) (g .0 .1 .0) (g .1))
+
+-- src/conforms.rt:151:21
+pair-conforms-part-attribute-end : (t : ℕ) → pair-conforms-lts.Need-part-attribute-end (
+  find-reads.Asked,
+  find-reads.Learnt,
+  tested-reads.Asked,
+  tested-reads.Learnt,
+  u16-at-reads.Asked,
+  u16-at-reads.Learnt,
+  conforms-below t,
+  conforms.Post,
+) (pair-conforms-at t) pair-conforms.Post
+pair-conforms-part-attribute-end t c = search needs
+
+-- src/conforms.rt:152:23
+pair-conforms-u16-at-requires : (t : ℕ) → pair-conforms-lts.Need-u16-at-requires (
+  find-reads.Asked,
+  find-reads.Learnt,
+  tested-reads.Asked,
+  tested-reads.Learnt,
+  u16-at-reads.Asked,
+  u16-at-reads.Learnt,
+  conforms-below t,
+  conforms.Post,
+) (pair-conforms-at t) pair-conforms.Post
+pair-conforms-u16-at-requires t c κs = let s = (c .before .before .before .before .before .before .before .before .before) in let f = (c .before .before .before .before) .find in let g = (c .before .before) .i .given in omega (arith, length-rest (5 * g .0 .0) (s .args .f .now), pair-room (s .args .levels) (s .args .n) (s .args .name) (s .args .f .now) (s .args .c .now) (s .pre .1 .1 .0) (f .result) (f .ensures) (g .0 .0) (g .0 .1 .0) (g .1))
+
+-- src/conforms.rt:152:15
+pair-conforms-add-end : (t : ℕ) → pair-conforms-lts.Need-add-end (
+  find-reads.Asked,
+  find-reads.Learnt,
+  tested-reads.Asked,
+  tested-reads.Learnt,
+  u16-at-reads.Asked,
+  u16-at-reads.Learnt,
+  conforms-below t,
+  conforms.Post,
+) (pair-conforms-at t) pair-conforms.Post
+pair-conforms-add-end t c = let s = (c .before .before .before .before .before .before .before .before .before .before) in let f = (c .before .before .before .before .before) .find in let g = (c .before .before .before) .i .given in omega (arith, pair-inside (s .args .levels) (s .args .n) (s .args .name) (s .args .f .now) (s .args .c .now) (s .pre .1 .1 .0) (f .result) (f .ensures) (g .0 .0) (g .0 .1 .0) (g .1) (c .u16-at .result) (c .u16-at .ensures .0))
+
+-- src/conforms.rt:153:32
+pair-conforms-sub-conforms : (t : ℕ) → pair-conforms-lts.Need-sub-conforms (
+  find-reads.Asked,
+  find-reads.Learnt,
+  tested-reads.Asked,
+  tested-reads.Learnt,
+  u16-at-reads.Asked,
+  u16-at-reads.Learnt,
+  conforms-below t,
+  conforms.Post,
+) (pair-conforms-at t) pair-conforms.Post
+pair-conforms-sub-conforms t c = let s = (c .before .before .before .before .before .before .before .before .before .before) in let f = (c .before .before .before .before .before) .find in let g = (c .before .before .before) .i .given in omega (arith, pair-inside (s .args .levels) (s .args .n) (s .args .name) (s .args .f .now) (s .args .c .now) (s .pre .1 .1 .0) (f .result) (f .ensures) (g .0 .0) (g .0 .1 .0) (g .1) (c .u16-at .result) (c .u16-at .ensures .0))
+
+-- src/conforms.rt:153:32
+pair-conforms-part-conforms-start : (t : ℕ) → pair-conforms-lts.Need-part-conforms-start (
+  find-reads.Asked,
+  find-reads.Learnt,
+  tested-reads.Asked,
+  tested-reads.Learnt,
+  u16-at-reads.Asked,
+  u16-at-reads.Learnt,
+  conforms-below t,
+  conforms.Post,
+) (pair-conforms-at t) pair-conforms.Post
+pair-conforms-part-conforms-start t c = search needs
+
+-- src/conforms.rt:153:32
+pair-conforms-part-conforms-end : (t : ℕ) → pair-conforms-lts.Need-part-conforms-end (
+  find-reads.Asked,
+  find-reads.Learnt,
+  tested-reads.Asked,
+  tested-reads.Learnt,
+  u16-at-reads.Asked,
+  u16-at-reads.Learnt,
+  conforms-below t,
+  conforms.Post,
+) (pair-conforms-at t) pair-conforms.Post
+pair-conforms-part-conforms-end t c = let s = (c .before .before .before .before .before .before .before .before .before .before) in let f = (c .before .before .before .before .before) .find in let g = (c .before .before .before) .i .given in omega (arith, pair-inside (s .args .levels) (s .args .n) (s .args .name) (s .args .f .now) (s .args .c .now) (s .pre .1 .1 .0) (f .result) (f .ensures) (g .0 .0) (g .0 .1 .0) (g .1) (c .u16-at .result) (c .u16-at .ensures .0))
+
+-- src/conforms.rt:153:5
+pair-conforms-conforms-requires : (t : ℕ) → pair-conforms-lts.Need-conforms-requires (
+  find-reads.Asked,
+  find-reads.Learnt,
+  tested-reads.Asked,
+  tested-reads.Learnt,
+  u16-at-reads.Asked,
+  u16-at-reads.Learnt,
+  conforms-below t,
+  conforms.Post,
+) (pair-conforms-at t) pair-conforms.Post
+pair-conforms-conforms-requires t c κs = let s = (c .before .before .before .before .before .before .before .before .before .before .before) in let f = (c .before .before .before .before .before .before) .find in let g = (c .before .before .before .before) .i .given in (omega (arith, s .pre .0), (s .pre .1 .0, (pair-whole (s .args .levels) (s .args .n) (s .args .name) (s .args .f .now) (s .args .c .now) (s .pre .1 .1 .0) (f .result) (f .ensures) (g .0 .0) (g .0 .1 .0) (g .1) ((c .before) .u16-at .result) ((c .before) .u16-at .ensures .0), s .pre .1 .1 .1)))
+
+-- src/conforms.rt:141:1
+pair-conforms-returns-2 : (t : ℕ) → pair-conforms-lts.Need-returns-2 (
+  find-reads.Asked,
+  find-reads.Learnt,
+  tested-reads.Asked,
+  tested-reads.Learnt,
+  u16-at-reads.Asked,
+  u16-at-reads.Learnt,
+  conforms-below t,
+  conforms.Post,
+) (pair-conforms-at t) pair-conforms.Post
+pair-conforms-returns-2 t c = let s = (c .before .before .before .before .before .before .before .before .before .before .before .before) in let f = (c .before .before .before .before .before .before .before) .find in let g = (c .before .before .before .before .before) .i .given in c .conforms .ensures ∙ pair-found (s .args .levels) (s .args .n) (s .args .name) (s .args .f .now) (s .args .c .now) (s .pre .1 .1 .0) (f .result) (f .ensures) (g .0 .0) (g .0 .1 .0) (g .1) ((c .before .before) .u16-at .result) ((c .before .before) .u16-at .ensures .0) _ _ _
+
+abbrev record-conforms-Inv-loop : record-conforms-lts.InvT-loop
+record-conforms-Inv-loop schema sections t v levels m n p q f₀ c₀ e₀ b₀ ahead₀ left₀ f c e b ahead left =
+    RecordAhead levels (decS standard schema) (isOpen t) (andThen (eachPair (λ n x. conformsAt shorter (decS standard schema) (isOpen t) (attributesOf levels t) n x) (pairsOf levels v)) (verdict (hasRequired (attributesOf levels t) (pairsOf levels v)))) (verdict (hasRequired (attributesOf levels t) (pairsOf levels v))) ahead f c left e b
+
+abbrev record-conforms-μ-loop : record-conforms-lts.MeasureT-loop
+record-conforms-μ-loop schema sections t v levels m n p q f₀ c₀ e₀ b₀ ahead₀ left₀ f c e b ahead left =
+    left
+
+-- src/conforms.rt:109:9
+record-conforms-u16-at-requires : (t : ℕ) → record-conforms-lts.Need-u16-at-requires (
+  u16-at-reads.Asked,
+  u16-at-reads.Learnt,
+  skip-below-reads.Asked,
+  skip-below-reads.Learnt,
+  pair-conforms-below t,
+  pair-conforms.Post,
+  has-required-reads.Asked,
+  has-required-reads.Learnt,
+  tested-reads.Asked,
+  tested-reads.Learnt,
+) (record-conforms-at t) record-conforms.Post record-conforms-Inv-loop record-conforms-μ-loop
+record-conforms-u16-at-requires t c κs = let s = (c .before .before .before) in omega (arith, table-count attrRow (λ _. whole (s .args .levels)) 0 2 (s .args .t .now) (records-table (s .args .levels) (s .args .t .now) (s .pre .1 .1 .0)))
+
+-- src/conforms.rt:110:9
+record-conforms-u16-at-requires-2 : (t : ℕ) → record-conforms-lts.Need-u16-at-requires-2 (
+  u16-at-reads.Asked,
+  u16-at-reads.Learnt,
+  skip-below-reads.Asked,
+  skip-below-reads.Learnt,
+  pair-conforms-below t,
+  pair-conforms.Post,
+  has-required-reads.Asked,
+  has-required-reads.Learnt,
+  tested-reads.Asked,
+  tested-reads.Learnt,
+) (record-conforms-at t) record-conforms.Post record-conforms-Inv-loop record-conforms-μ-loop
+record-conforms-u16-at-requires-2 t c κs = let s = (c .before .before .before .before) in omega (arith, table-count pairRow (λ _. wholeV (s .args .levels)) 0 1 (s .args .v .now) (s .pre .1 .1 .1))
+
+-- src/conforms.rt:111:17
+record-conforms-mul-p : (t : ℕ) → record-conforms-lts.Need-mul-p (
+  u16-at-reads.Asked,
+  u16-at-reads.Learnt,
+  skip-below-reads.Asked,
+  skip-below-reads.Learnt,
+  pair-conforms-below t,
+  pair-conforms.Post,
+  has-required-reads.Asked,
+  has-required-reads.Learnt,
+  tested-reads.Asked,
+  tested-reads.Learnt,
+) (record-conforms-at t) record-conforms.Post record-conforms-Inv-loop record-conforms-μ-loop
+record-conforms-mul-p t c = search needs
+
+-- src/conforms.rt:111:13
+record-conforms-add-p : (t : ℕ) → record-conforms-lts.Need-add-p (
+  u16-at-reads.Asked,
+  u16-at-reads.Learnt,
+  skip-below-reads.Asked,
+  skip-below-reads.Learnt,
+  pair-conforms-below t,
+  pair-conforms.Post,
+  has-required-reads.Asked,
+  has-required-reads.Learnt,
+  tested-reads.Asked,
+  tested-reads.Learnt,
+) (record-conforms-at t) record-conforms.Post record-conforms-Inv-loop record-conforms-μ-loop
+record-conforms-add-p t c = search needs
+
+-- src/conforms.rt:112:17
+record-conforms-mul-q : (t : ℕ) → record-conforms-lts.Need-mul-q (
+  u16-at-reads.Asked,
+  u16-at-reads.Learnt,
+  skip-below-reads.Asked,
+  skip-below-reads.Learnt,
+  pair-conforms-below t,
+  pair-conforms.Post,
+  has-required-reads.Asked,
+  has-required-reads.Learnt,
+  tested-reads.Asked,
+  tested-reads.Learnt,
+) (record-conforms-at t) record-conforms.Post record-conforms-Inv-loop record-conforms-μ-loop
+record-conforms-mul-q t c = search needs
+
+-- src/conforms.rt:112:13
+record-conforms-add-q : (t : ℕ) → record-conforms-lts.Need-add-q (
+  u16-at-reads.Asked,
+  u16-at-reads.Learnt,
+  skip-below-reads.Asked,
+  skip-below-reads.Learnt,
+  pair-conforms-below t,
+  pair-conforms.Post,
+  has-required-reads.Asked,
+  has-required-reads.Learnt,
+  tested-reads.Asked,
+  tested-reads.Learnt,
+) (record-conforms-at t) record-conforms.Post record-conforms-Inv-loop record-conforms-μ-loop
+record-conforms-add-q t c = search needs
+
+-- src/conforms.rt:113:17
+record-conforms-sub-f : (t : ℕ) → record-conforms-lts.Need-sub-f (
+  u16-at-reads.Asked,
+  u16-at-reads.Learnt,
+  skip-below-reads.Asked,
+  skip-below-reads.Learnt,
+  pair-conforms-below t,
+  pair-conforms.Post,
+  has-required-reads.Asked,
+  has-required-reads.Learnt,
+  tested-reads.Asked,
+  tested-reads.Learnt,
+) (record-conforms-at t) record-conforms.Post record-conforms-Inv-loop record-conforms-μ-loop
+record-conforms-sub-f t c = let s = (c .before .before .before .before .before) in omega (arith, table-entries attrRow (λ _. whole (s .args .levels)) 0 2 (s .args .t .now) (records-table (s .args .levels) (s .args .t .now) (s .pre .1 .1 .0)) ((c .before) .u16-at .result) ((c .before) .u16-at .ensures .0))
+
+-- src/conforms.rt:113:17
+record-conforms-part-f-start : (t : ℕ) → record-conforms-lts.Need-part-f-start (
+  u16-at-reads.Asked,
+  u16-at-reads.Learnt,
+  skip-below-reads.Asked,
+  skip-below-reads.Learnt,
+  pair-conforms-below t,
+  pair-conforms.Post,
+  has-required-reads.Asked,
+  has-required-reads.Learnt,
+  tested-reads.Asked,
+  tested-reads.Learnt,
+) (record-conforms-at t) record-conforms.Post record-conforms-Inv-loop record-conforms-μ-loop
+record-conforms-part-f-start t c = search needs
+
+-- src/conforms.rt:113:17
+record-conforms-part-f-end : (t : ℕ) → record-conforms-lts.Need-part-f-end (
+  u16-at-reads.Asked,
+  u16-at-reads.Learnt,
+  skip-below-reads.Asked,
+  skip-below-reads.Learnt,
+  pair-conforms-below t,
+  pair-conforms.Post,
+  has-required-reads.Asked,
+  has-required-reads.Learnt,
+  tested-reads.Asked,
+  tested-reads.Learnt,
+) (record-conforms-at t) record-conforms.Post record-conforms-Inv-loop record-conforms-μ-loop
+record-conforms-part-f-end t c = let s = (c .before .before .before .before .before) in omega (arith, table-entries attrRow (λ _. whole (s .args .levels)) 0 2 (s .args .t .now) (records-table (s .args .levels) (s .args .t .now) (s .pre .1 .1 .0)) ((c .before) .u16-at .result) ((c .before) .u16-at .ensures .0))
+
+-- src/conforms.rt:114:17
+record-conforms-sub-c : (t : ℕ) → record-conforms-lts.Need-sub-c (
+  u16-at-reads.Asked,
+  u16-at-reads.Learnt,
+  skip-below-reads.Asked,
+  skip-below-reads.Learnt,
+  pair-conforms-below t,
+  pair-conforms.Post,
+  has-required-reads.Asked,
+  has-required-reads.Learnt,
+  tested-reads.Asked,
+  tested-reads.Learnt,
+) (record-conforms-at t) record-conforms.Post record-conforms-Inv-loop record-conforms-μ-loop
+record-conforms-sub-c t c = let s = (c .before .before .before .before .before .before) in omega (arith, table-entries attrRow (λ _. whole (s .args .levels)) 0 2 (s .args .t .now) (records-table (s .args .levels) (s .args .t .now) (s .pre .1 .1 .0)) ((c .before .before) .u16-at .result) ((c .before .before) .u16-at .ensures .0))
+
+-- src/conforms.rt:114:17
+record-conforms-part-c-start : (t : ℕ) → record-conforms-lts.Need-part-c-start (
+  u16-at-reads.Asked,
+  u16-at-reads.Learnt,
+  skip-below-reads.Asked,
+  skip-below-reads.Learnt,
+  pair-conforms-below t,
+  pair-conforms.Post,
+  has-required-reads.Asked,
+  has-required-reads.Learnt,
+  tested-reads.Asked,
+  tested-reads.Learnt,
+) (record-conforms-at t) record-conforms.Post record-conforms-Inv-loop record-conforms-μ-loop
+record-conforms-part-c-start t c = let s = (c .before .before .before .before .before .before) in omega (arith, table-entries attrRow (λ _. whole (s .args .levels)) 0 2 (s .args .t .now) (records-table (s .args .levels) (s .args .t .now) (s .pre .1 .1 .0)) ((c .before .before) .u16-at .result) ((c .before .before) .u16-at .ensures .0))
+
+-- src/conforms.rt:114:17
+record-conforms-part-c-end : (t : ℕ) → record-conforms-lts.Need-part-c-end (
+  u16-at-reads.Asked,
+  u16-at-reads.Learnt,
+  skip-below-reads.Asked,
+  skip-below-reads.Learnt,
+  pair-conforms-below t,
+  pair-conforms.Post,
+  has-required-reads.Asked,
+  has-required-reads.Learnt,
+  tested-reads.Asked,
+  tested-reads.Learnt,
+) (record-conforms-at t) record-conforms.Post record-conforms-Inv-loop record-conforms-μ-loop
+record-conforms-part-c-end t c = search needs
+
+-- src/conforms.rt:115:17
+record-conforms-sub-e : (t : ℕ) → record-conforms-lts.Need-sub-e (
+  u16-at-reads.Asked,
+  u16-at-reads.Learnt,
+  skip-below-reads.Asked,
+  skip-below-reads.Learnt,
+  pair-conforms-below t,
+  pair-conforms.Post,
+  has-required-reads.Asked,
+  has-required-reads.Learnt,
+  tested-reads.Asked,
+  tested-reads.Learnt,
+) (record-conforms-at t) record-conforms.Post record-conforms-Inv-loop record-conforms-μ-loop
+record-conforms-sub-e t c = let s = (c .before .before .before .before .before .before .before) in omega (arith, table-entries pairRow (λ _. wholeV (s .args .levels)) 0 1 (s .args .v .now) (s .pre .1 .1 .1) ((c .before .before) .u16-at2 .result) ((c .before .before) .u16-at2 .ensures .0))
+
+-- src/conforms.rt:115:17
+record-conforms-part-e-start : (t : ℕ) → record-conforms-lts.Need-part-e-start (
+  u16-at-reads.Asked,
+  u16-at-reads.Learnt,
+  skip-below-reads.Asked,
+  skip-below-reads.Learnt,
+  pair-conforms-below t,
+  pair-conforms.Post,
+  has-required-reads.Asked,
+  has-required-reads.Learnt,
+  tested-reads.Asked,
+  tested-reads.Learnt,
+) (record-conforms-at t) record-conforms.Post record-conforms-Inv-loop record-conforms-μ-loop
+record-conforms-part-e-start t c = search needs
+
+-- src/conforms.rt:115:17
+record-conforms-part-e-end : (t : ℕ) → record-conforms-lts.Need-part-e-end (
+  u16-at-reads.Asked,
+  u16-at-reads.Learnt,
+  skip-below-reads.Asked,
+  skip-below-reads.Learnt,
+  pair-conforms-below t,
+  pair-conforms.Post,
+  has-required-reads.Asked,
+  has-required-reads.Learnt,
+  tested-reads.Asked,
+  tested-reads.Learnt,
+) (record-conforms-at t) record-conforms.Post record-conforms-Inv-loop record-conforms-μ-loop
+record-conforms-part-e-end t c = let s = (c .before .before .before .before .before .before .before) in omega (arith, table-entries pairRow (λ _. wholeV (s .args .levels)) 0 1 (s .args .v .now) (s .pre .1 .1 .1) ((c .before .before) .u16-at2 .result) ((c .before .before) .u16-at2 .ensures .0))
+
+-- src/conforms.rt:116:17
+record-conforms-sub-b : (t : ℕ) → record-conforms-lts.Need-sub-b (
+  u16-at-reads.Asked,
+  u16-at-reads.Learnt,
+  skip-below-reads.Asked,
+  skip-below-reads.Learnt,
+  pair-conforms-below t,
+  pair-conforms.Post,
+  has-required-reads.Asked,
+  has-required-reads.Learnt,
+  tested-reads.Asked,
+  tested-reads.Learnt,
+) (record-conforms-at t) record-conforms.Post record-conforms-Inv-loop record-conforms-μ-loop
+record-conforms-sub-b t c = let s = (c .before .before .before .before .before .before .before .before) in omega (arith, table-entries pairRow (λ _. wholeV (s .args .levels)) 0 1 (s .args .v .now) (s .pre .1 .1 .1) ((c .before .before .before) .u16-at2 .result) ((c .before .before .before) .u16-at2 .ensures .0))
+
+-- src/conforms.rt:116:17
+record-conforms-part-b-start : (t : ℕ) → record-conforms-lts.Need-part-b-start (
+  u16-at-reads.Asked,
+  u16-at-reads.Learnt,
+  skip-below-reads.Asked,
+  skip-below-reads.Learnt,
+  pair-conforms-below t,
+  pair-conforms.Post,
+  has-required-reads.Asked,
+  has-required-reads.Learnt,
+  tested-reads.Asked,
+  tested-reads.Learnt,
+) (record-conforms-at t) record-conforms.Post record-conforms-Inv-loop record-conforms-μ-loop
+record-conforms-part-b-start t c = let s = (c .before .before .before .before .before .before .before .before) in omega (arith, table-entries pairRow (λ _. wholeV (s .args .levels)) 0 1 (s .args .v .now) (s .pre .1 .1 .1) ((c .before .before .before) .u16-at2 .result) ((c .before .before .before) .u16-at2 .ensures .0))
+
+-- src/conforms.rt:116:17
+record-conforms-part-b-end : (t : ℕ) → record-conforms-lts.Need-part-b-end (
+  u16-at-reads.Asked,
+  u16-at-reads.Learnt,
+  skip-below-reads.Asked,
+  skip-below-reads.Learnt,
+  pair-conforms-below t,
+  pair-conforms.Post,
+  has-required-reads.Asked,
+  has-required-reads.Learnt,
+  tested-reads.Asked,
+  tested-reads.Learnt,
+) (record-conforms-at t) record-conforms.Post record-conforms-Inv-loop record-conforms-μ-loop
+record-conforms-part-b-end t c = search needs
+
+-- src/conforms.rt:119:5
+record-conforms-loop-holds : (t : ℕ) → record-conforms-lts.Need-loop-holds (
+  u16-at-reads.Asked,
+  u16-at-reads.Learnt,
+  skip-below-reads.Asked,
+  skip-below-reads.Learnt,
+  pair-conforms-below t,
+  pair-conforms.Post,
+  has-required-reads.Asked,
+  has-required-reads.Learnt,
+  tested-reads.Asked,
+  tested-reads.Learnt,
+) (record-conforms-at t) record-conforms.Post record-conforms-Inv-loop record-conforms-μ-loop
+record-conforms-loop-holds t c = let s = (c .before .before .before .before .before .before .before .before .before) in record-start (s .args .levels) _ (s .args .t .now) (s .args .v .now) (s .pre .1 .1 .0) (s .pre .1 .1 .1) ((c .before .before .before .before .before) .u16-at .result) ((c .before .before .before .before) .u16-at2 .result) ((c .before .before .before .before .before) .u16-at .ensures .0) ((c .before .before .before .before) .u16-at2 .ensures .0) ((c .before .before .before .before .before) .u16-at .ensures .1) _
+
+-- src/conforms.rt:120:13
+record-conforms-u16-at-requires-3 : (t : ℕ) → record-conforms-lts.Need-u16-at-requires-3 (
+  u16-at-reads.Asked,
+  u16-at-reads.Learnt,
+  skip-below-reads.Asked,
+  skip-below-reads.Learnt,
+  pair-conforms-below t,
+  pair-conforms.Post,
+  has-required-reads.Asked,
+  has-required-reads.Learnt,
+  tested-reads.Asked,
+  tested-reads.Learnt,
+) (record-conforms-at t) record-conforms.Post record-conforms-Inv-loop record-conforms-μ-loop
+record-conforms-u16-at-requires-3 t c κs = omega (arith, ahead-room ((c .before) .loop .inv .rows) (c .loop-test .taken))
+
+-- src/conforms.rt:121:13
+record-conforms-u16-at-requires-4 : (t : ℕ) → record-conforms-lts.Need-u16-at-requires-4 (
+  u16-at-reads.Asked,
+  u16-at-reads.Learnt,
+  skip-below-reads.Asked,
+  skip-below-reads.Learnt,
+  pair-conforms-below t,
+  pair-conforms.Post,
+  has-required-reads.Asked,
+  has-required-reads.Learnt,
+  tested-reads.Asked,
+  tested-reads.Learnt,
+) (record-conforms-at t) record-conforms.Post record-conforms-Inv-loop record-conforms-μ-loop
+record-conforms-u16-at-requires-4 t c κs = omega (arith, ahead-room ((c .before .before) .loop .inv .rows) ((c .before) .loop-test .taken))
+
+-- src/conforms.rt:122:13
+record-conforms-skip-below-requires : (t : ℕ) → record-conforms-lts.Need-skip-below-requires (
+  u16-at-reads.Asked,
+  u16-at-reads.Learnt,
+  skip-below-reads.Asked,
+  skip-below-reads.Learnt,
+  pair-conforms-below t,
+  pair-conforms.Post,
+  has-required-reads.Asked,
+  has-required-reads.Learnt,
+  tested-reads.Asked,
+  tested-reads.Learnt,
+) (record-conforms-at t) record-conforms.Post record-conforms-Inv-loop record-conforms-μ-loop
+record-conforms-skip-below-requires t c κs = laid ((c .before .before .before) .loop .inv .attrs)
+
+-- src/conforms.rt:125:18
+record-conforms-mul-at : (t : ℕ) → record-conforms-lts.Need-mul-at (
+  u16-at-reads.Asked,
+  u16-at-reads.Learnt,
+  skip-below-reads.Asked,
+  skip-below-reads.Learnt,
+  pair-conforms-below t,
+  pair-conforms.Post,
+  has-required-reads.Asked,
+  has-required-reads.Learnt,
+  tested-reads.Asked,
+  tested-reads.Learnt,
+) (record-conforms-at t) record-conforms.Post record-conforms-Inv-loop record-conforms-μ-loop
+record-conforms-mul-at t c = let k = c .skip-below in let g = past ((c .before .before .before .before) .loop .inv .attrs) ((c .before .before) .u16-at3 .result) (k .result .entries) (k .result .bytes) (k .ensures .0) (k .ensures .1) in omega (arith, g .most, (c .before .before .before .before) .loop .inv .few)
+
+-- src/conforms.rt:126:13
+record-conforms-sub-f-2 : (t : ℕ) → record-conforms-lts.Need-sub-f-2 (
+  u16-at-reads.Asked,
+  u16-at-reads.Learnt,
+  skip-below-reads.Asked,
+  skip-below-reads.Learnt,
+  pair-conforms-below t,
+  pair-conforms.Post,
+  has-required-reads.Asked,
+  has-required-reads.Learnt,
+  tested-reads.Asked,
+  tested-reads.Learnt,
+) (record-conforms-at t) record-conforms.Post record-conforms-Inv-loop record-conforms-μ-loop
+record-conforms-sub-f-2 t c = let k = c .skip-below in let g = past ((c .before .before .before .before) .loop .inv .attrs) ((c .before .before) .u16-at3 .result) (k .result .entries) (k .result .bytes) (k .ensures .0) (k .ensures .1) in omega (arith, g .room)
+
+-- src/conforms.rt:126:13
+record-conforms-part-f-start-2 : (t : ℕ) → record-conforms-lts.Need-part-f-start-2 (
+  u16-at-reads.Asked,
+  u16-at-reads.Learnt,
+  skip-below-reads.Asked,
+  skip-below-reads.Learnt,
+  pair-conforms-below t,
+  pair-conforms.Post,
+  has-required-reads.Asked,
+  has-required-reads.Learnt,
+  tested-reads.Asked,
+  tested-reads.Learnt,
+) (record-conforms-at t) record-conforms.Post record-conforms-Inv-loop record-conforms-μ-loop
+record-conforms-part-f-start-2 t c = let k = c .skip-below in let g = past ((c .before .before .before .before) .loop .inv .attrs) ((c .before .before) .u16-at3 .result) (k .result .entries) (k .result .bytes) (k .ensures .0) (k .ensures .1) in omega (arith, g .room)
+
+-- src/conforms.rt:126:13
+record-conforms-part-f-end-2 : (t : ℕ) → record-conforms-lts.Need-part-f-end-2 (
+  u16-at-reads.Asked,
+  u16-at-reads.Learnt,
+  skip-below-reads.Asked,
+  skip-below-reads.Learnt,
+  pair-conforms-below t,
+  pair-conforms.Post,
+  has-required-reads.Asked,
+  has-required-reads.Learnt,
+  tested-reads.Asked,
+  tested-reads.Learnt,
+) (record-conforms-at t) record-conforms.Post record-conforms-Inv-loop record-conforms-μ-loop
+record-conforms-part-f-end-2 t c = search needs
+
+-- src/conforms.rt:127:13
+record-conforms-sub-c-2 : (t : ℕ) → record-conforms-lts.Need-sub-c-2 (
+  u16-at-reads.Asked,
+  u16-at-reads.Learnt,
+  skip-below-reads.Asked,
+  skip-below-reads.Learnt,
+  pair-conforms-below t,
+  pair-conforms.Post,
+  has-required-reads.Asked,
+  has-required-reads.Learnt,
+  tested-reads.Asked,
+  tested-reads.Learnt,
+) (record-conforms-at t) record-conforms.Post record-conforms-Inv-loop record-conforms-μ-loop
+record-conforms-sub-c-2 t c = let k = (c .before) .skip-below in let g = past ((c .before .before .before .before .before) .loop .inv .attrs) ((c .before .before .before) .u16-at3 .result) (k .result .entries) (k .result .bytes) (k .ensures .0) (k .ensures .1) in omega (arith, g .inside)
+
+-- src/conforms.rt:127:13
+record-conforms-part-c-start-2 : (t : ℕ) → record-conforms-lts.Need-part-c-start-2 (
+  u16-at-reads.Asked,
+  u16-at-reads.Learnt,
+  skip-below-reads.Asked,
+  skip-below-reads.Learnt,
+  pair-conforms-below t,
+  pair-conforms.Post,
+  has-required-reads.Asked,
+  has-required-reads.Learnt,
+  tested-reads.Asked,
+  tested-reads.Learnt,
+) (record-conforms-at t) record-conforms.Post record-conforms-Inv-loop record-conforms-μ-loop
+record-conforms-part-c-start-2 t c = let k = (c .before) .skip-below in let g = past ((c .before .before .before .before .before) .loop .inv .attrs) ((c .before .before .before) .u16-at3 .result) (k .result .entries) (k .result .bytes) (k .ensures .0) (k .ensures .1) in omega (arith, g .inside)
+
+-- src/conforms.rt:127:13
+record-conforms-part-c-end-2 : (t : ℕ) → record-conforms-lts.Need-part-c-end-2 (
+  u16-at-reads.Asked,
+  u16-at-reads.Learnt,
+  skip-below-reads.Asked,
+  skip-below-reads.Learnt,
+  pair-conforms-below t,
+  pair-conforms.Post,
+  has-required-reads.Asked,
+  has-required-reads.Learnt,
+  tested-reads.Asked,
+  tested-reads.Learnt,
+) (record-conforms-at t) record-conforms.Post record-conforms-Inv-loop record-conforms-μ-loop
+record-conforms-part-c-end-2 t c = search needs
+
+-- src/conforms.rt:128:9
+record-conforms-sub-ahead : (t : ℕ) → record-conforms-lts.Need-sub-ahead (
+  u16-at-reads.Asked,
+  u16-at-reads.Learnt,
+  skip-below-reads.Asked,
+  skip-below-reads.Learnt,
+  pair-conforms-below t,
+  pair-conforms.Post,
+  has-required-reads.Asked,
+  has-required-reads.Learnt,
+  tested-reads.Asked,
+  tested-reads.Learnt,
+) (record-conforms-at t) record-conforms.Post record-conforms-Inv-loop record-conforms-μ-loop
+record-conforms-sub-ahead t c = let k = (c .before .before) .skip-below in let g = past ((c .before .before .before .before .before .before) .loop .inv .attrs) ((c .before .before .before .before) .u16-at3 .result) (k .result .entries) (k .result .bytes) (k .ensures .0) (k .ensures .1) in omega (arith, g .most)
+
+-- src/conforms.rt:129:52
+record-conforms-shared-slice-read-pair-conforms :
+    (t : ℕ) → record-conforms-lts.Need-shared-slice-read-pair-conforms (
+      u16-at-reads.Asked,
+      u16-at-reads.Learnt,
+      skip-below-reads.Asked,
+      skip-below-reads.Learnt,
+      pair-conforms-below t,
+      pair-conforms.Post,
+      has-required-reads.Asked,
+      has-required-reads.Learnt,
+      tested-reads.Asked,
+      tested-reads.Learnt,
+    ) (record-conforms-at t) record-conforms.Post record-conforms-Inv-loop record-conforms-μ-loop
+record-conforms-shared-slice-read-pair-conforms t c = let s = (c .before .before .before .before .before .before .before .before .before .before .before .before .before .before .before .before .before) in omega (arith, table-count attrRow (λ _. whole (s .args .levels)) 0 2 (s .args .t .now) (records-table (s .args .levels) (s .args .t .now) (s .pre .1 .1 .0)))
+
+-- src/conforms.rt:129:77
+record-conforms-sub-pair-conforms : (t : ℕ) → record-conforms-lts.Need-sub-pair-conforms (
+  u16-at-reads.Asked,
+  u16-at-reads.Learnt,
+  skip-below-reads.Asked,
+  skip-below-reads.Learnt,
+  pair-conforms-below t,
+  pair-conforms.Post,
+  has-required-reads.Asked,
+  has-required-reads.Learnt,
+  tested-reads.Asked,
+  tested-reads.Learnt,
+) (record-conforms-at t) record-conforms.Post record-conforms-Inv-loop record-conforms-μ-loop
+record-conforms-sub-pair-conforms t c = search needs
+
+-- src/conforms.rt:129:77
+record-conforms-part-pair-conforms-start :
+    (t : ℕ) → record-conforms-lts.Need-part-pair-conforms-start (
+      u16-at-reads.Asked,
+      u16-at-reads.Learnt,
+      skip-below-reads.Asked,
+      skip-below-reads.Learnt,
+      pair-conforms-below t,
+      pair-conforms.Post,
+      has-required-reads.Asked,
+      has-required-reads.Learnt,
+      tested-reads.Asked,
+      tested-reads.Learnt,
+    ) (record-conforms-at t) record-conforms.Post record-conforms-Inv-loop record-conforms-μ-loop
+record-conforms-part-pair-conforms-start t c = search needs
+
+-- src/conforms.rt:129:77
+record-conforms-part-pair-conforms-end : (t : ℕ) → record-conforms-lts.Need-part-pair-conforms-end (
+  u16-at-reads.Asked,
+  u16-at-reads.Learnt,
+  skip-below-reads.Asked,
+  skip-below-reads.Learnt,
+  pair-conforms-below t,
+  pair-conforms.Post,
+  has-required-reads.Asked,
+  has-required-reads.Learnt,
+  tested-reads.Asked,
+  tested-reads.Learnt,
+) (record-conforms-at t) record-conforms.Post record-conforms-Inv-loop record-conforms-μ-loop
+record-conforms-part-pair-conforms-end t c = omega (arith, ahead-inside ((c .before .before .before .before .before .before .before) .loop .inv .rows) ((c .before .before .before .before .before .before) .loop-test .taken) ((c .before .before .before .before) .u16-at4 .result) ((c .before .before .before .before) .u16-at4 .ensures .0))
+
+-- src/conforms.rt:129:13
+record-conforms-pair-conforms-requires : (t : ℕ) → record-conforms-lts.Need-pair-conforms-requires (
+  u16-at-reads.Asked,
+  u16-at-reads.Learnt,
+  skip-below-reads.Asked,
+  skip-below-reads.Learnt,
+  pair-conforms-below t,
+  pair-conforms.Post,
+  has-required-reads.Asked,
+  has-required-reads.Learnt,
+  tested-reads.Asked,
+  tested-reads.Learnt,
+) (record-conforms-at t) record-conforms.Post record-conforms-Inv-loop record-conforms-μ-loop
+record-conforms-pair-conforms-requires t c κs = let s = (c .before .before .before .before .before .before .before .before .before .before .before .before .before .before .before .before .before .before) in let k = (c .before .before .before .before) .skip-below in let i = record-skip ((c .before .before .before .before .before .before .before .before) .loop .inv) ((c .before .before .before .before .before .before .before) .loop-test .taken) ((c .before .before .before .before .before .before) .u16-at3 .result) (k .result .entries) (k .result .bytes) ((c .before .before .before .before .before .before) .u16-at3 .ensures .0) (k .ensures .0) (k .ensures .1) in (omega (arith, s .pre .0), (s .pre .1 .0, (i .attrs, ahead-body (i .rows) ((c .before .before .before .before .before .before .before) .loop-test .taken) ((c .before .before .before .before .before) .u16-at4 .result) ((c .before .before .before .before .before) .u16-at4 .ensures .0))))
+
+record-conforms-enum-told : (t : ℕ) → record-conforms-lts.Need-enum-told (
+  u16-at-reads.Asked,
+  u16-at-reads.Learnt,
+  skip-below-reads.Asked,
+  skip-below-reads.Learnt,
+  pair-conforms-below t,
+  pair-conforms.Post,
+  has-required-reads.Asked,
+  has-required-reads.Learnt,
+  tested-reads.Asked,
+  tested-reads.Learnt,
+) (record-conforms-at t) record-conforms.Post record-conforms-Inv-loop record-conforms-μ-loop
+record-conforms-enum-told t c = search needs
+
+-- src/conforms.rt:131:13
+record-conforms-returns : (t : ℕ) → record-conforms-lts.Need-returns (
+  u16-at-reads.Asked,
+  u16-at-reads.Learnt,
+  skip-below-reads.Asked,
+  skip-below-reads.Learnt,
+  pair-conforms-below t,
+  pair-conforms.Post,
+  has-required-reads.Asked,
+  has-required-reads.Learnt,
+  tested-reads.Asked,
+  tested-reads.Learnt,
+) (record-conforms-at t) record-conforms.Post record-conforms-Inv-loop record-conforms-μ-loop
+record-conforms-returns t c = let k = (c .before .before .before .before .before .before) .skip-below in let i = record-skip ((c .before .before .before .before .before .before .before .before .before .before) .loop .inv) ((c .before .before .before .before .before .before .before .before .before) .loop-test .taken) ((c .before .before .before .before .before .before .before .before) .u16-at3 .result) (k .result .entries) (k .result .bytes) ((c .before .before .before .before .before .before .before .before) .u16-at3 .ensures .0) (k .ensures .0) (k .ensures .1) in let p = (c .before) .pair-conforms in record-stop i ((c .before .before .before .before .before .before .before .before .before) .loop-test .taken) ((c .before .before .before .before .before .before .before .before) .u16-at3 .result) ((c .before .before .before .before .before .before .before .before) .u16-at3 .ensures .0) ((c .before .before .before .before .before .before .before) .u16-at4 .result) ((c .before .before .before .before .before .before .before) .u16-at4 .ensures .0) (p .result) (p .ensures) (no-yes (p .result) (c .match .keys2))
+
+-- src/conforms.rt:133:13
+record-conforms-sub-e-2 : (t : ℕ) → record-conforms-lts.Need-sub-e-2 (
+  u16-at-reads.Asked,
+  u16-at-reads.Learnt,
+  skip-below-reads.Asked,
+  skip-below-reads.Learnt,
+  pair-conforms-below t,
+  pair-conforms.Post,
+  has-required-reads.Asked,
+  has-required-reads.Learnt,
+  tested-reads.Asked,
+  tested-reads.Learnt,
+) (record-conforms-at t) record-conforms.Post record-conforms-Inv-loop record-conforms-μ-loop
+record-conforms-sub-e-2 t c = omega (arith, ahead-room ((c .before .before .before .before .before .before .before .before .before .before .before) .loop .inv .rows) ((c .before .before .before .before .before .before .before .before .before .before) .loop-test .taken))
+
+-- src/conforms.rt:133:13
+record-conforms-part-e-start-2 : (t : ℕ) → record-conforms-lts.Need-part-e-start-2 (
+  u16-at-reads.Asked,
+  u16-at-reads.Learnt,
+  skip-below-reads.Asked,
+  skip-below-reads.Learnt,
+  pair-conforms-below t,
+  pair-conforms.Post,
+  has-required-reads.Asked,
+  has-required-reads.Learnt,
+  tested-reads.Asked,
+  tested-reads.Learnt,
+) (record-conforms-at t) record-conforms.Post record-conforms-Inv-loop record-conforms-μ-loop
+record-conforms-part-e-start-2 t c = omega (arith, ahead-room ((c .before .before .before .before .before .before .before .before .before .before .before) .loop .inv .rows) ((c .before .before .before .before .before .before .before .before .before .before) .loop-test .taken))
+
+-- src/conforms.rt:133:13
+record-conforms-part-e-end-2 : (t : ℕ) → record-conforms-lts.Need-part-e-end-2 (
+  u16-at-reads.Asked,
+  u16-at-reads.Learnt,
+  skip-below-reads.Asked,
+  skip-below-reads.Learnt,
+  pair-conforms-below t,
+  pair-conforms.Post,
+  has-required-reads.Asked,
+  has-required-reads.Learnt,
+  tested-reads.Asked,
+  tested-reads.Learnt,
+) (record-conforms-at t) record-conforms.Post record-conforms-Inv-loop record-conforms-μ-loop
+record-conforms-part-e-end-2 t c = search needs
+
+-- src/conforms.rt:134:13
+record-conforms-sub-b-2 : (t : ℕ) → record-conforms-lts.Need-sub-b-2 (
+  u16-at-reads.Asked,
+  u16-at-reads.Learnt,
+  skip-below-reads.Asked,
+  skip-below-reads.Learnt,
+  pair-conforms-below t,
+  pair-conforms.Post,
+  has-required-reads.Asked,
+  has-required-reads.Learnt,
+  tested-reads.Asked,
+  tested-reads.Learnt,
+) (record-conforms-at t) record-conforms.Post record-conforms-Inv-loop record-conforms-μ-loop
+record-conforms-sub-b-2 t c = omega (arith, ahead-inside ((c .before .before .before .before .before .before .before .before .before .before .before .before) .loop .inv .rows) ((c .before .before .before .before .before .before .before .before .before .before .before) .loop-test .taken) ((c .before .before .before .before .before .before .before .before .before) .u16-at4 .result) ((c .before .before .before .before .before .before .before .before .before) .u16-at4 .ensures .0))
+
+-- src/conforms.rt:134:13
+record-conforms-part-b-start-2 : (t : ℕ) → record-conforms-lts.Need-part-b-start-2 (
+  u16-at-reads.Asked,
+  u16-at-reads.Learnt,
+  skip-below-reads.Asked,
+  skip-below-reads.Learnt,
+  pair-conforms-below t,
+  pair-conforms.Post,
+  has-required-reads.Asked,
+  has-required-reads.Learnt,
+  tested-reads.Asked,
+  tested-reads.Learnt,
+) (record-conforms-at t) record-conforms.Post record-conforms-Inv-loop record-conforms-μ-loop
+record-conforms-part-b-start-2 t c = omega (arith, ahead-inside ((c .before .before .before .before .before .before .before .before .before .before .before .before) .loop .inv .rows) ((c .before .before .before .before .before .before .before .before .before .before .before) .loop-test .taken) ((c .before .before .before .before .before .before .before .before .before) .u16-at4 .result) ((c .before .before .before .before .before .before .before .before .before) .u16-at4 .ensures .0))
+
+-- src/conforms.rt:134:13
+record-conforms-part-b-end-2 : (t : ℕ) → record-conforms-lts.Need-part-b-end-2 (
+  u16-at-reads.Asked,
+  u16-at-reads.Learnt,
+  skip-below-reads.Asked,
+  skip-below-reads.Learnt,
+  pair-conforms-below t,
+  pair-conforms.Post,
+  has-required-reads.Asked,
+  has-required-reads.Learnt,
+  tested-reads.Asked,
+  tested-reads.Learnt,
+) (record-conforms-at t) record-conforms.Post record-conforms-Inv-loop record-conforms-μ-loop
+record-conforms-part-b-end-2 t c = search needs
+
+-- src/conforms.rt:135:9
+record-conforms-sub-left : (t : ℕ) → record-conforms-lts.Need-sub-left (
+  u16-at-reads.Asked,
+  u16-at-reads.Learnt,
+  skip-below-reads.Asked,
+  skip-below-reads.Learnt,
+  pair-conforms-below t,
+  pair-conforms.Post,
+  has-required-reads.Asked,
+  has-required-reads.Learnt,
+  tested-reads.Asked,
+  tested-reads.Learnt,
+) (record-conforms-at t) record-conforms.Post record-conforms-Inv-loop record-conforms-μ-loop
+record-conforms-sub-left t c = search needs
+
+-- src/conforms.rt:119:5
+record-conforms-loop-less : (t : ℕ) → record-conforms-lts.Need-loop-less (
+  u16-at-reads.Asked,
+  u16-at-reads.Learnt,
+  skip-below-reads.Asked,
+  skip-below-reads.Learnt,
+  pair-conforms-below t,
+  pair-conforms.Post,
+  has-required-reads.Asked,
+  has-required-reads.Learnt,
+  tested-reads.Asked,
+  tested-reads.Learnt,
+) (record-conforms-at t) record-conforms.Post record-conforms-Inv-loop record-conforms-μ-loop
+record-conforms-loop-less t c = search needs
+
+-- src/conforms.rt:119:5
+record-conforms-loop-again : (t : ℕ) → record-conforms-lts.Need-loop-again (
+  u16-at-reads.Asked,
+  u16-at-reads.Learnt,
+  skip-below-reads.Asked,
+  skip-below-reads.Learnt,
+  pair-conforms-below t,
+  pair-conforms.Post,
+  has-required-reads.Asked,
+  has-required-reads.Learnt,
+  tested-reads.Asked,
+  tested-reads.Learnt,
+) (record-conforms-at t) record-conforms.Post record-conforms-Inv-loop record-conforms-μ-loop
+record-conforms-loop-again t c = let k = (c .before .before .before .before .before .before .before .before .before) .skip-below in let i = record-skip ((c .before .before .before .before .before .before .before .before .before .before .before .before .before) .loop .inv) ((c .before .before .before .before .before .before .before .before .before .before .before .before) .loop-test .taken) ((c .before .before .before .before .before .before .before .before .before .before .before) .u16-at3 .result) (k .result .entries) (k .result .bytes) ((c .before .before .before .before .before .before .before .before .before .before .before) .u16-at3 .ensures .0) (k .ensures .0) (k .ensures .1) in let p = (c .before .before .before .before) .pair-conforms in record-again i ((c .before .before .before .before .before .before .before .before .before .before .before .before) .loop-test .taken) ((c .before .before .before .before .before .before .before .before .before .before .before) .u16-at3 .result) ((c .before .before .before .before .before .before .before .before .before .before .before) .u16-at3 .ensures .0) ((c .before .before .before .before .before .before .before .before .before .before) .u16-at4 .result) ((c .before .before .before .before .before .before .before .before .before .before) .u16-at4 .ensures .0) (p .result) (p .ensures) ((c .before .before) .enum-told .given .1)
+
+-- src/conforms.rt:137:12
+record-conforms-has-required-requires : (t : ℕ) → record-conforms-lts.Need-has-required-requires (
+  u16-at-reads.Asked,
+  u16-at-reads.Learnt,
+  skip-below-reads.Asked,
+  skip-below-reads.Learnt,
+  pair-conforms-below t,
+  pair-conforms.Post,
+  has-required-reads.Asked,
+  has-required-reads.Learnt,
+  tested-reads.Asked,
+  tested-reads.Learnt,
+) (record-conforms-at t) record-conforms.Post record-conforms-Inv-loop record-conforms-μ-loop
+record-conforms-has-required-requires t c κs = let s = (c .before .before .before .before .before .before .before .before .before .before .before) in record { level = s .args .levels; type = s .pre .1 .1 .0; value = s .pre .1 .1 .1 }
+
+-- src/conforms.rt:137:5
+record-conforms-tested-requires : (t : ℕ) → record-conforms-lts.Need-tested-requires (
+  u16-at-reads.Asked,
+  u16-at-reads.Learnt,
+  skip-below-reads.Asked,
+  skip-below-reads.Learnt,
+  pair-conforms-below t,
+  pair-conforms.Post,
+  has-required-reads.Asked,
+  has-required-reads.Learnt,
+  tested-reads.Asked,
+  tested-reads.Learnt,
+) (record-conforms-at t) record-conforms.Post record-conforms-Inv-loop record-conforms-μ-loop
+record-conforms-tested-requires t c κs = search needs
+
+-- src/conforms.rt:103:1
+record-conforms-returns-2 : (t : ℕ) → record-conforms-lts.Need-returns-2 (
+  u16-at-reads.Asked,
+  u16-at-reads.Learnt,
+  skip-below-reads.Asked,
+  skip-below-reads.Learnt,
+  pair-conforms-below t,
+  pair-conforms.Post,
+  has-required-reads.Asked,
+  has-required-reads.Learnt,
+  tested-reads.Asked,
+  tested-reads.Learnt,
+) (record-conforms-at t) record-conforms.Post record-conforms-Inv-loop record-conforms-μ-loop
+record-conforms-returns-2 t c = c .tested .ensures ∙ ap (λ (b : Bool). verdictOf (verdict b)) ((c .before) .has-required .ensures ((c .before .before .before .before .before .before .before .before .before .before .before .before .before) .args .levels)) ∙ record-end ((c .before .before .before) .loop .inv) ((c .before .before) .loop-test .left)
+
+pub +conforms+members-conform+pair-conforms+record-conforms-spec : {M : Type 1} → statement M
++conforms+members-conform+pair-conforms+record-conforms-spec =
+    close μ-conforms μ-members-conform μ-pair-conforms μ-record-conforms (λ t. conforms-lts.spec (
+      members-conform-below t,
+      members-conform.Post,
+      record-conforms-below t,
+      record-conforms.Post,
+      u16-at-reads.Asked,
+      u16-at-reads.Learnt,
+      stands-reads.Asked,
+      stands-reads.Learnt,
+      tested-reads.Asked,
+      tested-reads.Learnt,
+      is-action-of-reads.Asked,
+      is-action-of-reads.Learnt,
+      call-returns-reads.Asked,
+      call-returns-reads.Learnt,
+      takes-kind-reads.Asked,
+      takes-kind-reads.Learnt,
+    )
+    (conforms-at t)
+    conforms.Post
+    (conforms-shared-slice-read-k t)
+    (conforms-shared-slice-read-j t)
+    (conforms-returns t)
+    (conforms-sub-members-conform t)
+    (conforms-part-members-conform-start t)
+    (conforms-part-members-conform-end t)
+    (conforms-sub-members-conform-2 t)
+    (conforms-members-conform-requires t)
+    (conforms-returns-2 t)
+    (conforms-sub-record-conforms t)
+    (conforms-record-conforms-requires t)
+    (conforms-returns-3 t)
+    (conforms-sub-stands t)
+    (conforms-part-stands-start t)
+    (conforms-part-stands-end t)
+    (conforms-u16-at-requires t)
+    (conforms-u16-at-requires-2 t)
+    (conforms-stands-requires t)
+    (conforms-tested-requires t)
+    (conforms-returns-4 t)
+    (conforms-u16-at-requires-3 t)
+    (conforms-u16-at-requires-4 t)
+    (conforms-is-action-of-requires t)
+    (conforms-tested-requires-2 t)
+    (conforms-returns-5 t)
+    (conforms-u16-at-requires-5 t)
+    (conforms-sub-call-returns t)
+    (conforms-call-returns-requires t)
+    (conforms-takes-kind-requires t)
+    (conforms-tested-requires-3 t)
+    (conforms-returns-6 t)
+    (conforms-returns-7 t)
+    (conforms-returns-8 t)
+    (conforms-returns-9 t)
+    (conforms-returns-10 t)
+    (conforms-returns-11 t))
+    (λ t. members-conform-lts.spec (
+      u16-at-reads.Asked,
+      u16-at-reads.Learnt,
+      conforms-below t,
+      conforms.Post,
+    )
+    (members-conform-at t)
+    members-conform.Post
+    members-conform-Inv-loop
+    members-conform-μ-loop
+    (members-conform-u16-at-requires t)
+    (members-conform-mul-end t)
+    (members-conform-add-end t)
+    (members-conform-sub-e t)
+    (members-conform-part-e-start t)
+    (members-conform-part-e-end t)
+    (members-conform-sub-b t)
+    (members-conform-part-b-start t)
+    (members-conform-part-b-end t)
+    (members-conform-loop-holds t)
+    (members-conform-u16-at-requires-2 t)
+    (members-conform-sub-conforms t)
+    (members-conform-part-conforms-start t)
+    (members-conform-part-conforms-end t)
+    (members-conform-conforms-requires t)
+    (members-conform-enum-told t)
+    (members-conform-returns t)
+    (members-conform-sub-e-2 t)
+    (members-conform-part-e-start-2 t)
+    (members-conform-part-e-end-2 t)
+    (members-conform-sub-b-2 t)
+    (members-conform-part-b-start-2 t)
+    (members-conform-part-b-end-2 t)
+    (members-conform-sub-left t)
+    (members-conform-loop-less t)
+    (members-conform-loop-again t)
+    (members-conform-returns-2 t))
+    (λ t. pair-conforms-lts.spec (
+      find-reads.Asked,
+      find-reads.Learnt,
+      tested-reads.Asked,
+      tested-reads.Learnt,
+      u16-at-reads.Asked,
+      u16-at-reads.Learnt,
+      conforms-below t,
+      conforms.Post,
+    )
+    (pair-conforms-at t)
+    pair-conforms.Post
+    (pair-conforms-find-requires t)
+    (pair-conforms-enum-known-i t)
+    (pair-conforms-enum-told t)
+    (pair-conforms-tested-requires t)
+    (pair-conforms-returns t)
+    (pair-conforms-mul-at t)
+    (pair-conforms-sub-attribute t)
+    (pair-conforms-part-attribute-start t)
+    (pair-conforms-part-attribute-end t)
+    (pair-conforms-u16-at-requires t)
+    (pair-conforms-add-end t)
+    (pair-conforms-sub-conforms t)
+    (pair-conforms-part-conforms-start t)
+    (pair-conforms-part-conforms-end t)
+    (pair-conforms-conforms-requires t)
+    (pair-conforms-returns-2 t))
+    λ t. record-conforms-lts.spec (
+      u16-at-reads.Asked,
+      u16-at-reads.Learnt,
+      skip-below-reads.Asked,
+      skip-below-reads.Learnt,
+      pair-conforms-below t,
+      pair-conforms.Post,
+      has-required-reads.Asked,
+      has-required-reads.Learnt,
+      tested-reads.Asked,
+      tested-reads.Learnt,
+    )
+    (record-conforms-at t)
+    record-conforms.Post
+    record-conforms-Inv-loop
+    record-conforms-μ-loop
+    (record-conforms-u16-at-requires t)
+    (record-conforms-u16-at-requires-2 t)
+    (record-conforms-mul-p t)
+    (record-conforms-add-p t)
+    (record-conforms-mul-q t)
+    (record-conforms-add-q t)
+    (record-conforms-sub-f t)
+    (record-conforms-part-f-start t)
+    (record-conforms-part-f-end t)
+    (record-conforms-sub-c t)
+    (record-conforms-part-c-start t)
+    (record-conforms-part-c-end t)
+    (record-conforms-sub-e t)
+    (record-conforms-part-e-start t)
+    (record-conforms-part-e-end t)
+    (record-conforms-sub-b t)
+    (record-conforms-part-b-start t)
+    (record-conforms-part-b-end t)
+    (record-conforms-loop-holds t)
+    (record-conforms-u16-at-requires-3 t)
+    (record-conforms-u16-at-requires-4 t)
+    (record-conforms-skip-below-requires t)
+    (record-conforms-mul-at t)
+    (record-conforms-sub-f-2 t)
+    (record-conforms-part-f-start-2 t)
+    (record-conforms-part-f-end-2 t)
+    (record-conforms-sub-c-2 t)
+    (record-conforms-part-c-start-2 t)
+    (record-conforms-part-c-end-2 t)
+    (record-conforms-sub-ahead t)
+    (record-conforms-shared-slice-read-pair-conforms t)
+    (record-conforms-sub-pair-conforms t)
+    (record-conforms-part-pair-conforms-start t)
+    (record-conforms-part-pair-conforms-end t)
+    (record-conforms-pair-conforms-requires t)
+    (record-conforms-enum-told t)
+    (record-conforms-returns t)
+    (record-conforms-sub-e-2 t)
+    (record-conforms-part-e-start-2 t)
+    (record-conforms-part-e-end-2 t)
+    (record-conforms-sub-b-2 t)
+    (record-conforms-part-b-start-2 t)
+    (record-conforms-part-b-end-2 t)
+    (record-conforms-sub-left t)
+    (record-conforms-loop-less t)
+    (record-conforms-loop-again t)
+    (record-conforms-has-required-requires t)
+    (record-conforms-tested-requires t)
+    (record-conforms-returns-2 t)

@@ -1,0 +1,202 @@
+use Rattle.conformance.specs.Laws.Required.{RequiredAhead, records-type, records-value, records-attrs, records-pairs, required-start, required-end, required-skip, required-not, required-again}
+use Rattle.conformance.specs.Laws.Pairs.{pairs-laid, passed}
+use Rattle.conformance.specs.Laws.Ahead.{ahead-room}
+use Rattle.forms.specs.Parts.{rd, rest}
+use Prim.Native.Nat.{_<_, _≤_, _*_, _-_}
+use native.Mathlib.Omega.{arith}
+use borrow.Author.Needs.{needs}
+use Rattle.conformance.proofs.required.has_required.Statement.{statement}
+use Rattle.conformance.proofs.required.has_required.Tie as tie
+use Rattle.conformance.proofs.required.has_required.Reads as reads
+use Rattle.conformance.proofs.required.has_required.Lts as lts
+use Rattle.conformance.proofs.required.is_met.Reads as is-met-reads
+use Rattle.forms.proofs.numbers.u16_at.Reads as u16-at-reads
+use Rattle.forms.proofs.search.skip_below.Reads as skip-below-reads
+
+abbrev Inv-loop : tie.InvT-loop
+Inv-loop t v m n p q f₀ e₀ b₀ ahead₀ left₀ f e b ahead left = RequiredAhead t v ahead f left e b
+
+abbrev μ-loop : tie.MeasureT-loop
+μ-loop t v m n p q f₀ e₀ b₀ ahead₀ left₀ f e b ahead left = ahead
+
+-- src/required.rt:33:9
+u16-at-requires : tie.Need-u16-at-requires Inv-loop μ-loop
+u16-at-requires c κs = let s = (c .before .before) in omega (arith, records-type (s .args .t .now) (s .args .v .now) (s .pre))
+
+-- src/required.rt:34:9
+u16-at-requires-2 : tie.Need-u16-at-requires-2 Inv-loop μ-loop
+u16-at-requires-2 c κs = let s = (c .before .before .before) in omega (arith, records-value (s .args .t .now) (s .args .v .now) (s .pre))
+
+-- src/required.rt:35:17
+mul-p : tie.Need-mul-p Inv-loop μ-loop
+mul-p c = search needs
+
+-- src/required.rt:35:13
+add-p : tie.Need-add-p Inv-loop μ-loop
+add-p c = search needs
+
+-- src/required.rt:36:17
+mul-q : tie.Need-mul-q Inv-loop μ-loop
+mul-q c = search needs
+
+-- src/required.rt:36:13
+add-q : tie.Need-add-q Inv-loop μ-loop
+add-q c = search needs
+
+-- src/required.rt:37:17
+sub-f : tie.Need-sub-f Inv-loop μ-loop
+sub-f c = let s = (c .before .before .before .before) in omega (arith, records-attrs (s .args .t .now) (s .args .v .now) (s .pre) ((c .before) .u16-at .result) (c .u16-at2 .result) ((c .before) .u16-at .ensures .0) (c .u16-at2 .ensures .0))
+
+-- src/required.rt:37:17
+part-f-start : tie.Need-part-f-start Inv-loop μ-loop
+part-f-start c = search needs
+
+-- src/required.rt:37:17
+part-f-end : tie.Need-part-f-end Inv-loop μ-loop
+part-f-end c = let s = (c .before .before .before .before) in omega (arith, records-attrs (s .args .t .now) (s .args .v .now) (s .pre) ((c .before) .u16-at .result) (c .u16-at2 .result) ((c .before) .u16-at .ensures .0) (c .u16-at2 .ensures .0))
+
+-- src/required.rt:38:17
+sub-e : tie.Need-sub-e Inv-loop μ-loop
+sub-e c = let s = (c .before .before .before .before .before) in omega (arith, records-pairs (s .args .t .now) (s .args .v .now) (s .pre) ((c .before .before) .u16-at .result) ((c .before) .u16-at2 .result) ((c .before .before) .u16-at .ensures .0) ((c .before) .u16-at2 .ensures .0))
+
+-- src/required.rt:38:17
+part-e-start : tie.Need-part-e-start Inv-loop μ-loop
+part-e-start c = search needs
+
+-- src/required.rt:38:17
+part-e-end : tie.Need-part-e-end Inv-loop μ-loop
+part-e-end c = let s = (c .before .before .before .before .before) in omega (arith, records-pairs (s .args .t .now) (s .args .v .now) (s .pre) ((c .before .before) .u16-at .result) ((c .before) .u16-at2 .result) ((c .before .before) .u16-at .ensures .0) ((c .before) .u16-at2 .ensures .0))
+
+-- src/required.rt:39:17
+sub-b : tie.Need-sub-b Inv-loop μ-loop
+sub-b c = let s = (c .before .before .before .before .before .before) in omega (arith, records-pairs (s .args .t .now) (s .args .v .now) (s .pre) ((c .before .before .before) .u16-at .result) ((c .before .before) .u16-at2 .result) ((c .before .before .before) .u16-at .ensures .0) ((c .before .before) .u16-at2 .ensures .0))
+
+-- src/required.rt:39:17
+part-b-start : tie.Need-part-b-start Inv-loop μ-loop
+part-b-start c = let s = (c .before .before .before .before .before .before) in omega (arith, records-pairs (s .args .t .now) (s .args .v .now) (s .pre) ((c .before .before .before) .u16-at .result) ((c .before .before) .u16-at2 .result) ((c .before .before .before) .u16-at .ensures .0) ((c .before .before) .u16-at2 .ensures .0))
+
+-- src/required.rt:39:17
+part-b-end : tie.Need-part-b-end Inv-loop μ-loop
+part-b-end c = search needs
+
+-- src/required.rt:42:5
+loop-holds : tie.Need-loop-holds Inv-loop μ-loop
+loop-holds c = let s = (c .before .before .before .before .before .before .before) in required-start (s .args .t .now) (s .args .v .now) (s .pre) ((c .before .before .before .before) .u16-at .result) ((c .before .before .before) .u16-at2 .result) ((c .before .before .before .before) .u16-at .ensures .0) ((c .before .before .before) .u16-at2 .ensures .0) ((c .before .before .before) .u16-at2 .ensures .1)
+
+-- src/required.rt:43:53
+u16-at-requires-3 : tie.Need-u16-at-requires-3 Inv-loop μ-loop
+u16-at-requires-3 c κs = omega (arith, ahead-room ((c .before) .loop .inv .attrs) (c .loop-test .taken))
+
+-- src/required.rt:43:13
+skip-below-requires : tie.Need-skip-below-requires Inv-loop μ-loop
+skip-below-requires c κs = pairs-laid ((c .before .before) .loop .inv .rows)
+
+-- src/required.rt:46:18
+mul-at : tie.Need-mul-at Inv-loop μ-loop
+mul-at c = let k = c .skip-below in let g = passed ((c .before .before .before) .loop .inv .rows) ((c .before) .u16-at3 .result) (k .result .entries) (k .result .bytes) (k .ensures .0) (k .ensures .1) in omega (arith, g .most, (c .before .before .before) .loop .inv .few)
+
+-- src/required.rt:47:13
+sub-e-2 : tie.Need-sub-e-2 Inv-loop μ-loop
+sub-e-2 c = let k = c .skip-below in let g = passed ((c .before .before .before) .loop .inv .rows) ((c .before) .u16-at3 .result) (k .result .entries) (k .result .bytes) (k .ensures .0) (k .ensures .1) in omega (arith, g .room)
+
+-- src/required.rt:47:13
+part-e-start-2 : tie.Need-part-e-start-2 Inv-loop μ-loop
+part-e-start-2 c = let k = c .skip-below in let g = passed ((c .before .before .before) .loop .inv .rows) ((c .before) .u16-at3 .result) (k .result .entries) (k .result .bytes) (k .ensures .0) (k .ensures .1) in omega (arith, g .room)
+
+-- src/required.rt:47:13
+part-e-end-2 : tie.Need-part-e-end-2 Inv-loop μ-loop
+part-e-end-2 c = search needs
+
+-- src/required.rt:48:13
+sub-b-2 : tie.Need-sub-b-2 Inv-loop μ-loop
+sub-b-2 c = let k = (c .before) .skip-below in let g = passed ((c .before .before .before .before) .loop .inv .rows) ((c .before .before) .u16-at3 .result) (k .result .entries) (k .result .bytes) (k .ensures .0) (k .ensures .1) in omega (arith, g .inside)
+
+-- src/required.rt:48:13
+part-b-start-2 : tie.Need-part-b-start-2 Inv-loop μ-loop
+part-b-start-2 c = let k = (c .before) .skip-below in let g = passed ((c .before .before .before .before) .loop .inv .rows) ((c .before .before) .u16-at3 .result) (k .result .entries) (k .result .bytes) (k .ensures .0) (k .ensures .1) in omega (arith, g .inside)
+
+-- src/required.rt:48:13
+part-b-end-2 : tie.Need-part-b-end-2 Inv-loop μ-loop
+part-b-end-2 c = search needs
+
+-- src/required.rt:49:9
+sub-left : tie.Need-sub-left Inv-loop μ-loop
+sub-left c = let k = (c .before .before) .skip-below in let g = passed ((c .before .before .before .before .before) .loop .inv .rows) ((c .before .before .before) .u16-at3 .result) (k .result .entries) (k .result .bytes) (k .ensures .0) (k .ensures .1) in omega (arith, g .most)
+
+-- src/required.rt:50:13
+is-met-requires : tie.Need-is-met-requires Inv-loop μ-loop
+is-met-requires c κs = let k = (c .before .before) .skip-below in let g = passed ((c .before .before .before .before .before) .loop .inv .rows) ((c .before .before .before) .u16-at3 .result) (k .result .entries) (k .result .bytes) (k .ensures .0) (k .ensures .1) in (ahead-room ((c .before .before .before .before .before) .loop .inv .attrs) ((c .before .before .before .before) .loop-test .taken), g .rows .sized)
+
+-- src/required.rt:51:13
+returns : tie.Need-returns Inv-loop μ-loop
+returns c = let k = (c .before .before .before .before) .skip-below in let g = passed ((c .before .before .before .before .before .before .before) .loop .inv .rows) ((c .before .before .before .before .before) .u16-at3 .result) (k .result .entries) (k .result .bytes) (k .ensures .0) (k .ensures .1) in let i = required-skip ((c .before .before .before .before .before .before .before) .loop .inv) ((c .before .before .before .before .before .before) .loop-test .taken) ((c .before .before .before .before .before) .u16-at3 .result) (k .result .entries) (k .result .bytes) ((c .before .before .before .before .before) .u16-at3 .ensures .0) (k .ensures .0) (k .ensures .1) in let a : 0 < (c .before .before .before .before .before .before .before) .loop .left - k .result .entries → rd ((c .before .before .before .before .before .before .before) .loop .f .now) 0 ≤ rd (rest (4 * k .result .entries) ((c .before .before .before .before .before .before .before) .loop .e .now)) 0 = (λ h. omega (arith, g .above h, (c .before .before .before .before .before) .u16-at3 .ensures .0)) in required-not i ((c .before .before .before .before .before .before) .loop-test .taken) a ((c .before) .is-met .result) ((c .before) .is-met .ensures) (c .if1 .taken)
+
+-- src/required.rt:53:13
+sub-f-2 : tie.Need-sub-f-2 Inv-loop μ-loop
+sub-f-2 c = omega (arith, ahead-room ((c .before .before .before .before .before .before .before) .loop .inv .attrs) ((c .before .before .before .before .before .before) .loop-test .taken))
+
+-- src/required.rt:53:13
+part-f-start-2 : tie.Need-part-f-start-2 Inv-loop μ-loop
+part-f-start-2 c = omega (arith, ahead-room ((c .before .before .before .before .before .before .before) .loop .inv .attrs) ((c .before .before .before .before .before .before) .loop-test .taken))
+
+-- src/required.rt:53:13
+part-f-end-2 : tie.Need-part-f-end-2 Inv-loop μ-loop
+part-f-end-2 c = search needs
+
+-- src/required.rt:54:9
+sub-ahead : tie.Need-sub-ahead Inv-loop μ-loop
+sub-ahead c = search needs
+
+-- src/required.rt:42:5
+loop-less : tie.Need-loop-less Inv-loop μ-loop
+loop-less c = search needs
+
+-- src/required.rt:42:5
+loop-again : tie.Need-loop-again Inv-loop μ-loop
+loop-again c = let k = (c .before .before .before .before .before) .skip-below in let g = passed ((c .before .before .before .before .before .before .before .before) .loop .inv .rows) ((c .before .before .before .before .before .before) .u16-at3 .result) (k .result .entries) (k .result .bytes) (k .ensures .0) (k .ensures .1) in let i = required-skip ((c .before .before .before .before .before .before .before .before) .loop .inv) ((c .before .before .before .before .before .before .before) .loop-test .taken) ((c .before .before .before .before .before .before) .u16-at3 .result) (k .result .entries) (k .result .bytes) ((c .before .before .before .before .before .before) .u16-at3 .ensures .0) (k .ensures .0) (k .ensures .1) in let a : 0 < (c .before .before .before .before .before .before .before .before) .loop .left - k .result .entries → rd ((c .before .before .before .before .before .before .before .before) .loop .f .now) 0 ≤ rd (rest (4 * k .result .entries) ((c .before .before .before .before .before .before .before .before) .loop .e .now)) 0 = (λ h. omega (arith, g .above h, (c .before .before .before .before .before .before) .u16-at3 .ensures .0)) in required-again i ((c .before .before .before .before .before .before .before) .loop-test .taken) a ((c .before .before) .is-met .result) ((c .before .before) .is-met .ensures) ((c .before) .if1 .left)
+
+-- src/required.rt:29:1
+returns-2 : tie.Need-returns-2 Inv-loop μ-loop
+returns-2 c = required-end ((c .before) .loop .inv) (c .loop-test .left)
+
+pub has-required-spec : {M : Type 1} → statement M
+has-required-spec =
+    tie.close
+    (tie.spec
+    Inv-loop
+    μ-loop
+    u16-at-requires
+    u16-at-requires-2
+    mul-p
+    add-p
+    mul-q
+    add-q
+    sub-f
+    part-f-start
+    part-f-end
+    sub-e
+    part-e-start
+    part-e-end
+    sub-b
+    part-b-start
+    part-b-end
+    loop-holds
+    u16-at-requires-3
+    skip-below-requires
+    mul-at
+    sub-e-2
+    part-e-start-2
+    part-e-end-2
+    sub-b-2
+    part-b-start-2
+    part-b-end-2
+    sub-left
+    is-met-requires
+    returns
+    sub-f-2
+    part-f-start-2
+    part-f-end-2
+    sub-ahead
+    loop-less
+    loop-again
+    returns-2)

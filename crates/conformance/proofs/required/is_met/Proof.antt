@@ -1,0 +1,44 @@
+use Rattle.forms.specs.Laws.Parts.{pos}
+use Rattle.forms.specs.Parts.{rd}
+use borrow.Author.Tests.{eq-eqb, ne-eqb, lt-ltb, le-ltb}
+use lib.ListN.{getD}
+use lib.Dec.{eqb, ltb}
+use Prim.Native.Nat.{ℕ}
+use mathlib.Core.Bool.{Bool, not, _||_, _&&_}
+use mathlib.Core.Path.{refl, ap₂, sym, _∙_}
+use native.Mathlib.Omega.{arith}
+use borrow.Author.Needs.{needs}
+use Rattle.conformance.proofs.required.is_met.Statement.{statement}
+use Rattle.conformance.proofs.required.is_met.Tie as tie
+use Rattle.conformance.proofs.required.is_met.Reads as reads
+use Rattle.conformance.proofs.required.is_met.Lts as lts
+use Rattle.forms.proofs.numbers.u16_at.Reads as u16-at-reads
+
+-- src/required.rt:19:8
+shared-slice-read-if1 : tie.Need-shared-slice-read-if1
+shared-slice-read-if1 c = search needs
+
+-- src/required.rt:20:9
+returns : tie.Need-returns
+returns c = sym (rw (ne-eqb (getD ((c .before .before .before .before) .args .attribute .now) 2 0) 1 (c .if1 .taken)) refl)
+
+-- src/required.rt:23:9
+returns-2 : tie.Need-returns-2
+returns-2 c = sym (rw (eq-eqb (getD ((c .before .before .before .before .before) .args .attribute .now) 2 0) 1 ((c .before) .if1 .left), le-ltb 0 ((c .before .before .before .before .before) .args .n) (omega arith)) refl)
+
+-- src/required.rt:25:5
+u16-at-requires : tie.Need-u16-at-requires
+u16-at-requires c κs = search needs
+
+-- src/required.rt:25:29
+u16-at-requires-2 : tie.Need-u16-at-requires-2
+u16-at-requires-2 c κs = search needs
+
+-- src/required.rt:15:1
+returns-3 : tie.Need-returns-3
+returns-3 c = ap₂ (λ (x y : ℕ). eqb x y) ((c .before) .u16-at .ensures .0) (c .u16-at2 .ensures .0) ∙ sym (rw (eq-eqb (getD ((c .before .before .before .before .before .before .before) .args .attribute .now) 2 0) 1 ((c .before .before .before) .if1 .left), lt-ltb 0 ((c .before .before .before .before .before .before .before) .args .n) (pos ((c .before .before .before .before .before .before .before) .args .n) ((c .before .before) .if2 .left))) refl)
+
+pub is-met-spec : {M : Type 1} → statement M
+is-met-spec =
+    tie.close
+    (tie.spec shared-slice-read-if1 returns returns-2 u16-at-requires u16-at-requires-2 returns-3)

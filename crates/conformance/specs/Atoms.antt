@@ -1,0 +1,30 @@
+-- Which kinds of value a type without parts takes, by the first bytes of their forms. Assumes nothing: these are definitions.
+use Prim.Native.Nat.{ℕ}
+use mathlib.Core.List.{[], _∷_}
+use mathlib.Core.Bool.{Bool, true, false}
+use lib.Dec.{eqb, leb}
+use lib.ListN.{getD}
+use Rattle.cedar.specs.Types.{Atom, never, true′, false′, bool, long, string, anyset, anyent}
+use Rattle.cedar.specs.TypeForm.{Kind, one, setKind, recKind, entKind, actKind, extKind, noKind, kindOf}
+
+abbrev pub atomTakes : Atom → ℕ → Bool
+atomTakes never j = false
+atomTakes true′ j = eqb j 1
+atomTakes false′ j = eqb j 0
+atomTakes bool j = leb j 1
+atomTakes long j = eqb j 2
+atomTakes string j = eqb j 3
+atomTakes anyset j = eqb j 5
+atomTakes anyent j = eqb j 4
+
+abbrev pub kindTakes : Kind → ℕ → Bool
+kindTakes (one a) j = atomTakes a j
+kindTakes setKind j = false
+kindTakes recKind j = false
+kindTakes entKind j = false
+kindTakes actKind j = false
+kindTakes extKind j = false
+kindTakes noKind j = false
+
+abbrev pub takes : ℕ → ℕ → Bool
+takes k j = kindTakes (kindOf k) j

@@ -1,0 +1,4 @@
+pub mod Verdicts
+pub mod Atoms
+pub mod Walks
+pub mod Laws

@@ -1,0 +1,174 @@
+// Whether a value has a type: `typecheck_restricted_expr`, element by element, by falling level.
+use crate::atoms::takes_kind;
+use crate::calls::call_returns;
+use crate::entities::is_action_of;
+use crate::entities::stands;
+use crate::required::has_required;
+use crate::verdicts::Verdict;
+use crate::verdicts::tested;
+use forms::kinds::Kind;
+use forms::kinds::Openness;
+use forms::kinds::ValueKind;
+use forms::numbers::u16_at;
+use forms::search::Found;
+use forms::search::find;
+use forms::search::skip_below;
+use forms::widths::Width;
+use schemas::sections::Sections;
+ghost use mathlib.Core.Path.{_≡_};
+ghost use mathlib.Core.Bool.{true};
+ghost use lib.Dec.{eqb};
+ghost use Rattle.cedar.specs.Limits.{standard};
+ghost use Rattle.cedar.specs.TypeForm.{recKind};
+ghost use Rattle.cedar.specs.ValueForm.{setKind, recordKind};
+ghost use Rattle.cedar.specs.Conformance.{shorter, verdict, andThen, eachValue, eachPair, hasRequired, conforms as has, conformsAt};
+ghost use Rattle.forms.specs.TypeBytes.{wholeAs, whole, dec, decA, Sound};
+ghost use Rattle.schemas.specs.SchemaBytes.{decS};
+ghost use Rattle.schemas.specs.Entries.{Kept};
+ghost use Rattle.forms.specs.ValueBytes.{wholeVAs, wholeV, decV};
+ghost use Rattle.conformance.specs.Walks.{isOpen, attributesOf, membersOf, pairsOf};
+ghost use Rattle.conformance.specs.Verdicts.{verdictOf};
+
+// Whether v has the type t.
+pub fn conforms(schema: &[u8], sections: Sections, t: &[u8], v: &[u8], levels: usize) -> Verdict
+    requires { ⌜ Kept (now schema) sections ⌝ }
+    requires { ⌜ whole levels (now t) ≡ true ⌝ }
+    requires { ⌜ wholeV levels (now v) ≡ true ⌝ }
+    ensures { λ r. ⌜ r ≡ verdictOf (has shorter (decS standard (now (schema .entry))) (dec levels (now (t .entry))) (decV levels (now (v .entry)))) ⌝ }
+{
+    let k = t[0];
+    let j = v[0];
+    match k {
+        Kind::SET => {
+            if j != ValueKind::SET {
+                return Verdict::Fails;
+            }
+            members_conform(schema, sections, &t[1..], v, levels - 1)
+        }
+        Kind::RECORD => {
+            if j != ValueKind::RECORD {
+                return Verdict::Fails;
+            }
+            record_conforms(schema, sections, t, v, levels - 1)
+        }
+        Kind::ENTITY => {
+            if j != ValueKind::UID {
+                return Verdict::Fails;
+            }
+            tested(stands(&t[3..], u16_at(t, 1), u16_at(v, 1)))
+        }
+        Kind::ACTION => {
+            if j != ValueKind::UID {
+                return Verdict::Fails;
+            }
+            tested(is_action_of(u16_at(v, 1), u16_at(t, 1)))
+        }
+        Kind::EXTENSION => {
+            if j != ValueKind::CALL {
+                return Verdict::Fails;
+            }
+            call_returns(schema, sections, v, u16_at(t, 1), levels - 1)
+        }
+        _ => tested(takes_kind(k, j)),
+    }
+}
+
+// Whether each member of the set v has the type t.
+fn members_conform(schema: &[u8], sections: Sections, t: &[u8], v: &[u8], levels: usize) -> Verdict
+    requires { ⌜ Kept (now schema) sections ⌝ }
+    requires { ⌜ whole levels (now t) ≡ true ⌝ }
+    requires { ⌜ wholeVAs (wholeV levels) setKind (now v) ≡ true ⌝ }
+    ensures { λ r. ⌜ r ≡ verdictOf (eachValue (λ x. has shorter (decS standard (now (schema .entry))) (dec levels (now (t .entry))) x) (membersOf levels (now (v .entry)))) ⌝ }
+{
+    let n = u16_at(v, 1);
+    let end = 3 + Width::MEMBER * n;
+    let mut e = &v[3..end];
+    let mut b = &v[end..];
+    let mut left = n;
+    while 0 < left {
+        let len = u16_at(e, 0);
+        let said = conforms(schema, sections, t, &b[0..len], levels);
+        let Verdict::Holds = said else {
+            return said;
+        };
+        e = &e[Width::MEMBER..];
+        b = &b[len..];
+        left -= 1;
+    }
+    Verdict::Holds
+}
+
+// Whether the record v has the record type t: each pair first, then the required names. Names ascend in both: attributes that are
+// passed for one pair are passed for the next.
+fn record_conforms(schema: &[u8], sections: Sections, t: &[u8], v: &[u8], levels: usize) -> Verdict
+    requires { ⌜ Kept (now schema) sections ⌝ }
+    requires { ⌜ wholeAs (whole levels) recKind (now t) ≡ true ⌝ }
+    requires { ⌜ wholeVAs (wholeV levels) recordKind (now v) ≡ true ⌝ }
+    ensures { λ r. ⌜ r ≡ verdictOf (andThen (eachPair (λ n x. conformsAt shorter (decS standard (now (schema .entry))) (isOpen (now (t .entry))) (attributesOf levels (now (t .entry))) n x) (pairsOf levels (now (v .entry)))) (verdict (hasRequired (attributesOf levels (now (t .entry))) (pairsOf levels (now (v .entry)))))) ⌝ }
+{
+    let m = u16_at(t, 2);
+    let n = u16_at(v, 1);
+    let p = 4 + Width::ATTRIBUTE * m;
+    let q = 3 + Width::PAIR * n;
+    let mut f = &t[4..p];
+    let mut c = &t[p..];
+    let mut e = &v[3..q];
+    let mut b = &v[q..];
+    let mut ahead = m;
+    let mut left = n;
+    while 0 < left {
+        let name = u16_at(e, 0);
+        let len = u16_at(e, 2);
+        let s = skip_below(Width::ATTRIBUTE, f, c, ahead, name);
+        let passed = s.entries;
+        let bytes = s.bytes;
+        let at = Width::ATTRIBUTE * passed;
+        f = &f[at..];
+        c = &c[bytes..];
+        ahead -= passed;
+        let said = pair_conforms(
+            schema,
+            sections,
+            t[1],
+            f,
+            c,
+            ahead,
+            name,
+            &b[0..len],
+            levels,
+        );
+        let Verdict::Holds = said else {
+            return said;
+        };
+        e = &e[Width::PAIR..];
+        b = &b[len..];
+        left -= 1;
+    }
+    tested(has_required(t, v))
+}
+
+// Whether a name's value has the name's type. Where the type lacks the name, an open record takes any value.
+fn pair_conforms(
+    schema: &[u8],
+    sections: Sections,
+    openness: u8,
+    f: &[u8],
+    c: &[u8],
+    n: usize,
+    name: usize,
+    v: &[u8],
+    levels: usize,
+) -> Verdict
+    requires { ⌜ Kept (now schema) sections ⌝ }
+    requires { ⌜ Sound levels n 0 (now f) (now c) ⌝ }
+    requires { ⌜ wholeV levels (now v) ≡ true ⌝ }
+    ensures { λ r. ⌜ r ≡ verdictOf (conformsAt shorter (decS standard (now (schema .entry))) (eqb openness 1) (decA (dec levels) n (now (f .entry)) (now (c .entry))) name (decV levels (now (v .entry)))) ⌝ }
+{
+    let Found::At(i, start) = find(Width::ATTRIBUTE, f, c, n, name) else {
+        return tested(openness == Openness::OPEN);
+    };
+    let at = Width::ATTRIBUTE * i;
+    let attribute = &f[at..];
+    let end = start + u16_at(attribute, 3);
+    conforms(schema, sections, &c[start..end], v, levels)
+}

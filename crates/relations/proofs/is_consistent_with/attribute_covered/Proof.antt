@@ -1,0 +1,81 @@
+use mathlib.Core.Path.{refl}
+use lib.Dec.{eqb}
+use borrow.Author.Tests.{eq-eqb, ne-eqb}
+use Rattle.forms.specs.Laws.Attributes.{laid}
+use Rattle.relations.specs.Names.{entryNames}
+use Rattle.relations.specs.Laws.Covered.{covered-open, covered-optional, covered-not, covered-found}
+use borrow.Author.Needs.{needs}
+use Rattle.relations.proofs.is_consistent_with.attribute_covered.Statement.{statement}
+use Rattle.relations.proofs.is_consistent_with.attribute_covered.Tie as tie
+use Rattle.relations.proofs.is_consistent_with.attribute_covered.Reads as reads
+use Rattle.relations.proofs.is_consistent_with.attribute_covered.Lts as lts
+use Rattle.forms.proofs.numbers.u16_at.Reads as u16-at-reads
+use Rattle.forms.proofs.search.find.Reads as find-reads
+
+-- src/is_consistent_with.rt:61:9
+returns : tie.Need-returns
+returns c =
+    let start = c .before .before .before .before in
+    covered-open (eqb (start .args .openness) 1) (entryNames (start .args .m) (start .args .fs .now)) (start .args .e .now) (eq-eqb (start .args .openness) 1 (c .if1 .taken))
+
+-- src/is_consistent_with.rt:63:8
+shared-slice-read-if2 : tie.Need-shared-slice-read-if2
+shared-slice-read-if2 c = search needs
+
+-- src/is_consistent_with.rt:64:9
+returns-2 : tie.Need-returns-2
+returns-2 c =
+    let start = c .before .before .before .before .before .before in
+    covered-optional (eqb (start .args .openness) 1) (entryNames (start .args .m) (start .args .fs .now)) (start .args .e .now) (ne-eqb (start .args .openness) 1 (c .before .before .if1 .left)) (c .if2 .taken)
+
+-- src/is_consistent_with.rt:66:61
+u16-at-requires : tie.Need-u16-at-requires
+u16-at-requires c κs = search needs
+
+-- src/is_consistent_with.rt:66:27
+find-requires : tie.Need-find-requires
+find-requires c κs =
+    let start = c .before .before .before .before .before .before .before in
+    laid (start .pre .1 .sound)
+
+enum-told : tie.Need-enum-told
+enum-told c = search needs
+
+-- src/is_consistent_with.rt:67:9
+enum-told-2 : tie.Need-enum-told-2
+enum-told-2 c = search needs
+
+-- src/is_consistent_with.rt:67:9
+returns-3 : tie.Need-returns-3
+returns-3 c =
+    let start = c .before .before .before .before .before .before .before .before .before .before in
+    let else1 = c .before .before .before .before .before .before in
+    let else2 = c .before .before .before .before in
+    let after-u16-at = c .before .before .before in
+    let after-find = c .before .before in
+    covered-not (eqb (start .args .openness) 1) (entryNames (start .args .m) (start .args .fs .now)) (start .args .e .now) (ne-eqb (start .args .openness) 1 (else1 .if1 .left)) (start .args .m) (start .args .fs .now) (start .args .cs .now) (start .pre .1) refl (after-u16-at .u16-at .result) (after-u16-at .u16-at .ensures .0) (after-find .find .result) (after-find .find .ensures) (else2 .if2 .left) (c .enum-told2 .given .1)
+
+-- src/is_consistent_with.rt:55:1
+returns-4 : tie.Need-returns-4
+returns-4 c =
+    let start = c .before .before .before .before .before .before .before .before .before .before in
+    let else1 = c .before .before .before .before .before .before in
+    let else2 = c .before .before .before .before in
+    let after-u16-at = c .before .before .before in
+    let after-find = c .before .before in
+    let g = c .enum-told .given in
+    covered-found (eqb (start .args .openness) 1) (entryNames (start .args .m) (start .args .fs .now)) (start .args .e .now) (ne-eqb (start .args .openness) 1 (else1 .if1 .left)) (start .args .m) (start .args .fs .now) (start .args .cs .now) (start .pre .1) refl (after-u16-at .u16-at .result) (after-u16-at .u16-at .ensures .0) (after-find .find .result) (after-find .find .ensures) (else2 .if2 .left) (g .0 .0) (g .0 .1 .0) (g .1)
+
+pub attribute-covered-spec : {M : Type 1} → statement M
+attribute-covered-spec =
+    tie.close
+    (tie.spec
+    returns
+    shared-slice-read-if2
+    returns-2
+    u16-at-requires
+    find-requires
+    enum-told
+    enum-told-2
+    returns-3
+    returns-4)

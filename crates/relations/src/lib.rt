@@ -1,0 +1,9 @@
+// How two whole types relate: disjoint, subtype, consistent.
+pub mod are_types_disjoint;
+pub mod is_consistent_with;
+pub mod is_plain;
+pub mod is_subtype;
+pub mod modes;
+pub mod names;
+pub mod places;
+pub mod same_bytes;

@@ -1,0 +1,19 @@
+// How the number of a mode is read.
+use forms::modes::Mode;
+ghost use mathlib.Core.Path.{_≡_};
+ghost use Rattle.cedar.specs.Types.{isPermissive, present};
+ghost use Rattle.cedar.specs.Calls.{modeOf};
+ghost use Rattle.relations.specs.Modes.{modeAs};
+
+// Whether it is strict or permissive.
+pub fn is_mode(mode: u8) -> bool
+    ensures { λ r. ⌜ r ≡ present (modeOf mode) ⌝ }
+{
+    mode <= Mode::PERMISSIVE
+}
+
+pub fn is_permissive(mode: u8) -> bool
+    ensures { λ r. ⌜ r ≡ isPermissive (modeAs mode) ⌝ }
+{
+    mode == Mode::PERMISSIVE
+}

@@ -1,0 +1,27 @@
+use Rattle.validator.specs.Laws.Uids.{uid-not-whole, value-some, uid-by-kind}
+use borrow.Author.Needs.{needs}
+use Rattle.validator.proofs.euid_literal.whole_uid.Statement.{statement}
+use Rattle.validator.proofs.euid_literal.whole_uid.Tie as tie
+use Rattle.validator.proofs.euid_literal.whole_uid.Reads as reads
+use Rattle.validator.proofs.euid_literal.whole_uid.Lts as lts
+use Rattle.forms.proofs.values.whole_value.Reads as whole-value-reads
+
+-- src/euid_literal.rt:25:9
+whole-value-requires : tie.Need-whole-value-requires
+whole-value-requires c κs = search needs
+
+-- src/euid_literal.rt:26:9
+returns : tie.Need-returns
+returns c = uid-not-whole ((c .before .before .before) .args .v .now) ((c .before) .whole-value .result) ((c .before) .whole-value .ensures) (c .if1 .taken)
+
+-- src/euid_literal.rt:28:5
+shared-slice-read-result : tie.Need-shared-slice-read-result
+shared-slice-read-result c = value-some ((c .before .before .before .before) .args .v .now) ((c .before .before) .whole-value .result) ((c .before .before) .whole-value .ensures) ((c .before) .if1 .left)
+
+-- src/euid_literal.rt:22:1
+returns-2 : tie.Need-returns-2
+returns-2 c = uid-by-kind ((c .before .before .before .before) .args .v .now) ((c .before .before) .whole-value .result) ((c .before .before) .whole-value .ensures) ((c .before) .if1 .left)
+
+pub whole-uid-spec : {M : Type 1} → statement M
+whole-uid-spec =
+    tie.close (tie.spec whole-value-requires returns shared-slice-read-result returns-2)

@@ -1,0 +1,11 @@
+-- Laws for the entries' proofs.
+pub mod Questions
+pub mod Schemas
+pub mod Values
+pub mod Uids
+pub mod Writing
+pub mod MayHave
+pub mod Handed
+pub mod Literal
+pub mod Conversion
+pub mod Conformance

@@ -1,0 +1,92 @@
+-- The value's question, for a literal: is it whole, and a uid? Assumes nothing.
+use Prim.Native.Nat.{ℕ, zero, suc, _≤_, _<_}
+use native.Mathlib.Omega.{arith}
+use mathlib.Core.List.{List}
+use mathlib.Core.Bool.{Bool, true, false, not, _&&_}
+use mathlib.Core.Option.{Option, none, some}
+use mathlib.Core.Path.{_≡_, refl, ap, sym, _∙_}
+use lib.Dec.{eqb, leb, ltb}
+use lib.ListN.{length}
+use borrow.Author.Tests.{not-true, not-false, eqb-true, ltb-true, eq-eqb, ne-eqb}
+use Rattle.cedar.specs.Types.{Value, uid, present}
+use Rattle.cedar.specs.Bytes.{_>>=_}
+use Rattle.cedar.specs.Limits.{standard}
+use Rattle.cedar.specs.ValueForm.{valueKind}
+use Rattle.cedar.specs.Whole.{wholeValue}
+use Rattle.cedar.specs.Conformance.{asUid}
+use Rattle.cedar.specs.Laws.Tests.{none-of}
+use Rattle.forms.specs.Parts.{rd, kind}
+use Rattle.forms.specs.ValueBytes.{wholeV, wholeVAs, decV, decVAs}
+use Rattle.forms.specs.Laws.Parts.{and-l, and-r}
+use Rattle.forms.specs.Laws.Sure.{sure-present, sure-yes}
+use Rattle.forms.specs.Laws.ValueTwin.{whole-value-twin}
+use Rattle.validator.specs.Uids.{uidOf}
+
+-- Only kind 4 is a uid.
+not-uid : (d : List ℕ → Value) (b : List ℕ) (k : ℕ) → (k ≡ 4 → ⊥) → asUid (decVAs d (valueKind k) b) ≡ none
+not-uid d b zero p = refl
+not-uid d b (suc zero) p = refl
+not-uid d b (suc (suc zero)) p = refl
+not-uid d b (suc (suc (suc zero))) p = refl
+not-uid d b (suc (suc (suc (suc zero)))) p = absurd (p refl)
+not-uid d b (suc (suc (suc (suc (suc zero))))) p = refl
+not-uid d b (suc (suc (suc (suc (suc (suc zero)))))) p = refl
+not-uid d b (suc (suc (suc (suc (suc (suc (suc zero))))))) p = refl
+not-uid d b (suc (suc (suc (suc (suc (suc (suc (suc k)))))))) p = refl
+
+module _ (b : List ℕ) (both : leb (length b) 4096 && wholeV 16 b ≡ true) where
+  there : wholeValue standard b ≡ some (decV 16 b)
+  there = sure-yes (whole-value-twin standard b) both
+
+  good : wholeV 16 b ≡ true
+  good = and-r (leb (length b) 4096) (wholeV 16 b) both
+
+  some-bytes : 0 < length b
+  unfolding wholeV
+  some-bytes = ltb-true 0 (length b) (and-l (ltb 0 (length b)) (wholeVAs (wholeV 15) (valueKind (kind b)) b) good)
+
+  uid-when : (y : Bool) → y ≡ eqb (kind b) 4 → y ≡ present (asUid (decV 16 b))
+  unfolding decV
+  uid-when true e = rw (eqb-true (kind b) 4 (sym e)) refl
+  uid-when false e = rw (not-uid (decV 15) b (kind b) (λ z. absurd (let f : _≡_ {A = Bool} false true = e ∙ eq-eqb (kind b) 4 z in let g : _≡_ {A = ℕ} 0 1 = cc in omega arith))) refl
+
+  by-kind : eqb (kind b) 4 ≡ present (uidOf b)
+  by-kind = uid-when (eqb (kind b) 4) refl ∙ rw there refl
+
+  is-uid : kind b ≡ 4 → (length b ≡ 5) × (uidOf b ≡ some (rd b 1, rd b 3))
+  unfolding wholeV decV
+  is-uid k = (eqb-true (length b) 5 (rw k at (and-r (ltb 0 (length b)) (wholeVAs (wholeV 15) (valueKind (kind b)) b) good)), rw (there, k) refl)
+
+-- The answer of `whole_value`.
+module _ (b : List ℕ) (r : Bool) (q : r ≡ present (wholeValue standard b)) where
+  pub uid-not-whole : not r ≡ true → false ≡ present (uidOf b)
+  uid-not-whole h = rw (none-of (wholeValue standard b) (sym q ∙ not-true r h)) refl
+
+  module _ (h : not r ≡ false) where
+    both-tests : leb (length b) 4096 && wholeV 16 b ≡ true
+    both-tests = sym (sure-present (whole-value-twin standard b)) ∙ sym q ∙ not-false r h
+
+    pub value-some : 0 < length b
+    value-some = some-bytes b both-tests
+
+    pub uid-by-kind : eqb (kind b) 4 ≡ present (uidOf b)
+    uid-by-kind = by-kind b both-tests
+
+-- What is there after a step was there before it.
+step-present : {A B : Type 0} (o : Option A) (f : A → Option B) → present (o >>= f) ≡ true → present o ≡ true
+step-present none f h = h
+step-present (some a) f h = refl
+
+-- The answer of `whole_uid`.
+module _ (b : List ℕ) (r : Bool) (q : r ≡ present (uidOf b)) where
+  pub uid-missing : not r ≡ true → uidOf b ≡ none
+  uid-missing h = none-of (uidOf b) (sym q ∙ not-true r h)
+
+  pub uid-there : not r ≡ false → (length b ≡ 5) × (uidOf b ≡ some (rd b 1, rd b 3))
+  uid-there h =
+      let p : present (uidOf b) ≡ true = sym q ∙ not-false r h in
+      let both = sym (sure-present (whole-value-twin standard b)) ∙ step-present (wholeValue standard b) asUid p in
+      is-uid b both (eqb-true (kind b) 4 (by-kind b both ∙ p))
+
+  pub uid-read : not r ≡ false → (k i : ℕ) → k ≡ rd b 1 → i ≡ rd b 3 → uidOf b ≡ some (k, i)
+  uid-read h k i p s = uid-there h .1 ∙ rw (p, s) refl

@@ -1,0 +1,79 @@
+-- The answer of a call that writes a type, by the length that its length pass told. Assumes nothing.
+use mathlib.Core.Path.{_≡_, refl, ap, sym, _∙_}
+use mathlib.Core.List.{List, []}
+use mathlib.Core.Bool.{Bool, true, false, not, _&&_, cond}
+use mathlib.Core.Option.{Option, none, some}
+use Prim.Native.Nat.{ℕ, _≤_, _<_, min}
+use native.Mathlib.Omega.{arith}
+use lib.Dec.{leb}
+use lib.ListN.{length}
+use borrow.Author.Tests.{leb-true, leb-false, le-leb, lt-leb, not-true, not-false}
+use Rattle.cedar.specs.Types.{Ty, present}
+use Rattle.cedar.specs.TypeForm.{enc}
+use Rattle.cedar.specs.Result.{Result, ok, err}
+use Rattle.cedar.specs.Limits.{standard}
+use Rattle.cedar.specs.Whole.{wholeType}
+use Rattle.cedar.specs.Outcome.{Outcome, refused, typed, over}
+use Rattle.cedar.specs.Calls.{writeType}
+use Rattle.forms.specs.TypeBytes.{whole, dec}
+use Rattle.forms.specs.Laws.Parts.{and-r}
+use Rattle.forms.specs.Laws.Sure.{sure-present, sure-yes}
+use Rattle.forms.specs.Laws.TypeTwin.{whole-type-twin}
+use Rattle.bounds.specs.declared.extents.Extent.{Extent}
+use Rattle.bounds.specs.declared.extents.Extent.the-variants.{Of, Not}
+use Rattle.bounds.specs.Written.{Written}
+use Rattle.bounds.specs.Extents.{cap, extentOf, formOf, Ready}
+use Rattle.bounds.specs.Laws.Extents.{of-ok, not-err, ready}
+use Rattle.validator.specs.declared.answers.Answer.{Answer}
+use Rattle.validator.specs.declared.answers.Answer.the-variants.{Refused, Wrote}
+use Rattle.validator.specs.Answers.{Answered}
+
+-- Whether a type is whole, as the code asks it.
+module _ (b : List ℕ) (r : Bool) (told : r ≡ present (wholeType standard b)) where
+  pub type-is : not r ≡ false → (wholeType standard b ≡ some (dec 16 b)) × (whole 16 b ≡ true)
+  type-is h =
+      let t = whole-type-twin standard b in
+      let y = sym (sure-present t) ∙ sym told ∙ not-false r h in
+      (sure-yes t y, and-r (leb (length b) 4096) (whole 16 b) y)
+
+  pub type-not : not r ≡ true → wholeType standard b ≡ none
+  type-not h = go (wholeType standard b) (sym told ∙ not-true r h)
+    where
+      go : (o : Option Ty) → present o ≡ false → o ≡ none
+      go none e = refl
+      go (some t) e = absurd (let z : _≡_ {A = ℕ} 0 1 = cc in omega arith)
+
+-- A refusal leaves the buffer as it was.
+pub refuses : {c : Outcome} {o : List ℕ} (n : ℕ) → c ≡ refused n → Answered c o o (Refused n)
+refuses n e = rw e record { answer = refl; result = refl }
+
+-- An answer fills the first bytes.
+fills : {c : Outcome} {o xs : List ℕ} (t : Ty) (n : ℕ) → c ≡ typed t → length (enc t) ≡ n → xs ≡ over (enc t) o → Answered c o xs (Wrote n)
+fills t n e l q = rw e record { answer = ap Wrote (sym l); result = q }
+
+module _ (r : Result Ty) (o : List ℕ) (c : Outcome) (e : c ≡ writeType standard (length o) r) (x : Extent) (told : x ≡ extentOf enc r) where
+  pub writes-not : (d : ℕ) → x ≡ Not d → Answered c o o (Refused d)
+  writes-not d q = refuses d (e ∙ rw (not-err enc r x d told q) refl)
+
+  module _ (n : ℕ) (q : x ≡ Of n) (f : Bool) (fits : f ≡ leb n (min (length o) 4096)) where
+    of-type : (t : Ty) × ((r ≡ ok t) × (n ≡ cap (length (enc t))))
+    of-type = of-ok enc r x n told q
+
+    pub writes-over : not f ≡ true → Answered c o o (Refused 10)
+    writes-over h =
+        let s = leb-false n (min (length o) 4096) (sym fits ∙ not-true f h) in
+        refuses 10 (e ∙ rw (of-type .1 .0, lt-leb (length (enc (of-type .0))) (min (length o) 4096) (omega (arith, of-type .1 .1))) refl)
+
+    module _ (h : not f ≡ false) where
+      small : n ≤ min (length o) 4096
+      small = leb-true n (min (length o) 4096) (sym fits ∙ not-false f h)
+
+      pub writes-ready : Ready enc r o
+      writes-ready = ready enc r x n o told q (omega (arith, small)) (omega (arith, small))
+
+      pub writes : (xs : List ℕ) (k : ℕ) → Written (formOf enc r) o xs k → Answered c o xs (Wrote n)
+      writes xs k w =
+          let t = of-type .0 in
+          let l : length (enc t) ≡ n = omega (arith, of-type .1 .1, small) in
+          let y : c ≡ typed t = e ∙ ap (writeType standard (length o)) (of-type .1 .0) ∙ rw (le-leb (length (enc t)) (min (length o) 4096) (omega (arith, small))) refl in
+          fills t n y l (w .bytes ∙ ap (λ (z : Result Ty). over (formOf enc z) o) (of-type .1 .0))

@@ -1,0 +1,4 @@
+pub mod Answers
+pub mod Handed
+pub mod Uids
+pub mod Laws

@@ -1,0 +1,51 @@
+// The type of a uid.
+use crate::answers::Answer;
+use crate::rooms::answer_fits;
+use attributes::euid_literal::find_literal;
+use attributes::euid_literal::literal_length;
+use attributes::euid_literal::write_literal;
+use forms::kinds::ValueKind;
+use forms::numbers::u16_at;
+use forms::refusals::Refusal;
+use forms::values::whole_value;
+use schemas::whole::Checked;
+use schemas::whole::check_schema;
+ghost use mathlib.Core.Path.{_≡_};
+ghost use lib.ListN.{length};
+ghost use Rattle.cedar.specs.Types.{present};
+ghost use Rattle.cedar.specs.Limits.{standard};
+ghost use Rattle.cedar.specs.Calls.{literalCall};
+ghost use Rattle.validator.specs.Answers.{Answered};
+ghost use Rattle.validator.specs.Uids.{uidOf};
+
+// Whether v is a whole value form, of a uid.
+fn whole_uid(v: &[u8]) -> bool
+    ensures { λ r. ⌜ r ≡ present (uidOf (now (v .entry))) ⌝ }
+{
+    if !whole_value(v) {
+        return false;
+    }
+    v[0] == ValueKind::UID
+}
+
+pub fn euid_literal(schema: &[u8], v: &[u8], out: &mut [u8]) -> Answer
+    ensures { λ r. ⌜ Answered (literalCall standard (now (schema .entry)) (now (v .entry)) (length (now (out .entry)))) (now (out .entry)) (now (out .exit)) r ⌝ }
+{
+    let Checked::Whole(at) = check_schema(schema) else {
+        return Answer::Refused(Refusal::SCHEMA);
+    };
+    if !whole_uid(v) {
+        return Answer::Refused(Refusal::VALUE);
+    }
+    let entity = u16_at(v, 1);
+    let found = find_literal(schema, at, entity, u16_at(v, 3));
+    let n = literal_length(schema, found);
+    if n == 0 {
+        return Answer::Nothing;
+    }
+    if !answer_fits(n, out.len()) {
+        return Answer::Refused(Refusal::RESULT);
+    }
+    write_literal(schema, found, entity, out);
+    Answer::Wrote(n)
+}

@@ -1,0 +1,26 @@
+// Whether a type and a core type may have a value in common.
+use crate::answers::Answer;
+use crate::answers::yes_or_no;
+use forms::limits::Limits;
+use forms::refusals::Refusal;
+use forms::types::whole_type;
+use relations::is_plain::is_plain;
+ghost use mathlib.Core.Path.{_≡_};
+ghost use Rattle.cedar.specs.Limits.{standard};
+ghost use Rattle.cedar.specs.Calls.{consistentCall};
+ghost use Rattle.validator.specs.Answers.{answerOf};
+
+pub fn is_consistent_with(t0: &[u8], t1: &[u8]) -> Answer
+    ensures { λ r. ⌜ r ≡ answerOf (consistentCall standard (now (t0 .entry)) (now (t1 .entry))) ⌝ }
+{
+    if !whole_type(t0) {
+        return Answer::Refused(Refusal::FIRST);
+    }
+    if !whole_type(t1) {
+        return Answer::Refused(Refusal::SECOND);
+    }
+    if !is_plain(t1, Limits::LEVELS) {
+        return Answer::Refused(Refusal::PLAIN);
+    }
+    yes_or_no(relations::is_consistent_with::is_consistent_with(t0, t1, Limits::LEVELS))
+}

@@ -1,0 +1,30 @@
+// Whether a type is a subtype of another.
+use crate::answers::Answer;
+use crate::answers::yes_or_no;
+use forms::limits::Limits;
+use forms::refusals::Refusal;
+use forms::types::whole_type;
+use relations::modes::is_mode;
+use schemas::whole::whole_schema;
+ghost use mathlib.Core.Path.{_≡_};
+ghost use Rattle.cedar.specs.Limits.{standard};
+ghost use Rattle.cedar.specs.Calls.{subtypeCall};
+ghost use Rattle.validator.specs.Answers.{answerOf};
+
+pub fn is_subtype(mode: u8, schema: &[u8], t0: &[u8], t1: &[u8]) -> Answer
+    ensures { λ r. ⌜ r ≡ answerOf (subtypeCall standard mode (now (schema .entry)) (now (t0 .entry)) (now (t1 .entry))) ⌝ }
+{
+    if !is_mode(mode) {
+        return Answer::Refused(Refusal::MODE);
+    }
+    if !whole_schema(schema) {
+        return Answer::Refused(Refusal::SCHEMA);
+    }
+    if !whole_type(t0) {
+        return Answer::Refused(Refusal::FIRST);
+    }
+    if !whole_type(t1) {
+        return Answer::Refused(Refusal::SECOND);
+    }
+    yes_or_no(relations::is_subtype::is_subtype(mode, t0, t1, Limits::LEVELS))
+}

@@ -1,0 +1,11 @@
+// The public entries: each asks the questions of its call in order, and answers or refuses by number.
+pub mod answers;
+pub mod are_types_disjoint;
+pub mod convert;
+pub mod euid_literal;
+pub mod is_consistent_with;
+pub mod is_subtype;
+pub mod may_have_attr;
+pub mod own_attribute_type;
+pub mod rooms;
+pub mod typecheck_restricted_expr;

@@ -1,0 +1,45 @@
+// The second entry of attribute lookup: a record's or action's attribute as a part of the caller's own form.
+use attributes::own_attribute::Place;
+use attributes::own_attribute::own_attribute;
+use forms::limits::Limits;
+use forms::refusals::Refusal;
+use forms::types::whole_type;
+use schemas::whole::whole_schema;
+ghost use Rattle.cedar.specs.Limits.{standard};
+ghost use Rattle.cedar.specs.Calls.{ownAttributeCall};
+ghost use Rattle.validator.specs.Handed.{Handed};
+
+// What the entry says beside the part, where it is no refusal's number.
+pub struct Told;
+
+impl Told {
+    pub const NOTHING: u8 = 0;
+
+    pub const OPTIONAL: u8 = b'o';
+
+    pub const REQUIRED: u8 = b'r';
+}
+
+// The attribute's type, as a part of t: empty for none or a refusal. `told` is the refusal's number, none, optional or required.
+pub fn own_attribute_type<'a>(schema: &[u8], attr: u16, t: &'a [u8], told: &mut u8) -> &'a [u8]
+    ensures { λ r. ⌜ Handed (ownAttributeCall standard (now (schema .entry)) attr (now (t .entry))) (now r) (now (told .exit)) ⌝ }
+{
+    if !whole_schema(schema) {
+        *told = Refusal::SCHEMA;
+        return &t[..0];
+    }
+    if !whole_type(t) {
+        *told = Refusal::FIRST;
+        return &t[..0];
+    }
+    let Place::At(start, end, required) = own_attribute(t, attr as usize, Limits::LEVELS) else {
+        *told = Told::NOTHING;
+        return &t[..0];
+    };
+    if required {
+        *told = Told::REQUIRED;
+        return &t[start..end];
+    }
+    *told = Told::OPTIONAL;
+    &t[start..end]
+}

@@ -1,0 +1,15 @@
+// The room for an answer.
+use forms::limits::Limits;
+ghost use mathlib.Core.Path.{_≡_};
+ghost use Prim.Native.Nat.{min};
+ghost use lib.Dec.{leb};
+
+// Whether an answer of so many bytes is within a result buffer and the largest form.
+pub fn answer_fits(n: usize, room: usize) -> bool
+    ensures { λ r. ⌜ r ≡ leb n (min room 4096) ⌝ }
+{
+    if Limits::BYTES < n {
+        return false;
+    }
+    n <= room
+}
