@@ -1,6 +1,6 @@
 -- Laws of the definitions, for the proofs of this crate.
 pub mod Tables
-pub mod Atoms
+pub mod Kinds
 pub mod Names
 pub mod Values
 pub mod Ahead

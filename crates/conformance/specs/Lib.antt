@@ -1,4 +1,4 @@
 pub mod Verdicts
-pub mod Atoms
+pub mod Kinds
 pub mod Walks
 pub mod Laws

@@ -1,14 +1,13 @@
 // Whether a value has a type: `typecheck_restricted_expr`, element by element, by falling level.
-use crate::atoms::takes_kind;
 use crate::calls::call_returns;
 use crate::entities::is_action_of;
 use crate::entities::stands;
+use crate::kinds::takes_kind;
 use crate::required::has_required;
 use crate::verdicts::Verdict;
 use crate::verdicts::tested;
 use forms::kinds::Kind;
 use forms::kinds::Openness;
-use forms::kinds::ValueKind;
 use forms::numbers::u16_at;
 use forms::search::Found;
 use forms::search::find;
@@ -21,12 +20,12 @@ ghost use lib.Dec.{eqb};
 ghost use Rattle.cedar.specs.Limits.{standard};
 ghost use Rattle.cedar.specs.TypeForm.{recKind};
 ghost use Rattle.cedar.specs.ValueForm.{setKind, recordKind};
-ghost use Rattle.cedar.specs.Conformance.{shorter, verdict, andThen, eachValue, eachPair, hasRequired, conforms as has, conformsAt};
+ghost use Rattle.cedar.specs.Conformance.{shorter, eachValue, conforms as has, conformsAt};
 ghost use Rattle.forms.specs.TypeBytes.{wholeAs, whole, dec, decA, Sound};
 ghost use Rattle.schemas.specs.SchemaBytes.{decS};
 ghost use Rattle.schemas.specs.Entries.{Kept};
 ghost use Rattle.forms.specs.ValueBytes.{wholeVAs, wholeV, decV};
-ghost use Rattle.conformance.specs.Walks.{isOpen, attributesOf, membersOf, pairsOf};
+ghost use Rattle.conformance.specs.Walks.{isOpen, attributesOf, membersOf, pairsOf, recordSaid};
 ghost use Rattle.conformance.specs.Verdicts.{verdictOf};
 
 // Whether v has the type t.
@@ -37,39 +36,16 @@ pub fn conforms(schema: &[u8], sections: Sections, t: &[u8], v: &[u8], levels: u
     ensures { λ r. ⌜ r ≡ verdictOf (has shorter (decS standard (now (schema .entry))) (dec levels (now (t .entry))) (decV levels (now (v .entry)))) ⌝ }
 {
     let k = t[0];
-    let j = v[0];
+    if !takes_kind(k, v[0]) {
+        return Verdict::Fails;
+    }
     match k {
-        Kind::SET => {
-            if j != ValueKind::SET {
-                return Verdict::Fails;
-            }
-            members_conform(schema, sections, &t[1..], v, levels - 1)
-        }
-        Kind::RECORD => {
-            if j != ValueKind::RECORD {
-                return Verdict::Fails;
-            }
-            record_conforms(schema, sections, t, v, levels - 1)
-        }
-        Kind::ENTITY => {
-            if j != ValueKind::UID {
-                return Verdict::Fails;
-            }
-            tested(stands(&t[3..], u16_at(t, 1), u16_at(v, 1)))
-        }
-        Kind::ACTION => {
-            if j != ValueKind::UID {
-                return Verdict::Fails;
-            }
-            tested(is_action_of(u16_at(v, 1), u16_at(t, 1)))
-        }
-        Kind::EXTENSION => {
-            if j != ValueKind::CALL {
-                return Verdict::Fails;
-            }
-            call_returns(schema, sections, v, u16_at(t, 1), levels - 1)
-        }
-        _ => tested(takes_kind(k, j)),
+        Kind::SET => members_conform(schema, sections, &t[1..], v, levels - 1),
+        Kind::RECORD => record_conforms(schema, sections, t, v, levels - 1),
+        Kind::ENTITY => tested(stands(&t[3..], u16_at(t, 1), u16_at(v, 1))),
+        Kind::ACTION => tested(is_action_of(u16_at(v, 1), u16_at(t, 1))),
+        Kind::EXTENSION => call_returns(schema, sections, v, u16_at(t, 1), levels - 1),
+        _ => Verdict::Holds,
     }
 }
 
@@ -104,7 +80,7 @@ fn record_conforms(schema: &[u8], sections: Sections, t: &[u8], v: &[u8], levels
     requires { ⌜ Kept (now schema) sections ⌝ }
     requires { ⌜ wholeAs (whole levels) recKind (now t) ≡ true ⌝ }
     requires { ⌜ wholeVAs (wholeV levels) recordKind (now v) ≡ true ⌝ }
-    ensures { λ r. ⌜ r ≡ verdictOf (andThen (eachPair (λ n x. conformsAt shorter (decS standard (now (schema .entry))) (isOpen (now (t .entry))) (attributesOf levels (now (t .entry))) n x) (pairsOf levels (now (v .entry)))) (verdict (hasRequired (attributesOf levels (now (t .entry))) (pairsOf levels (now (v .entry)))))) ⌝ }
+    ensures { λ r. ⌜ r ≡ verdictOf (recordSaid (decS standard (now (schema .entry))) (isOpen (now (t .entry))) (attributesOf levels (now (t .entry))) (pairsOf levels (now (v .entry)))) ⌝ }
 {
     let m = u16_at(t, 2);
     let n = u16_at(v, 1);
@@ -126,17 +102,8 @@ fn record_conforms(schema: &[u8], sections: Sections, t: &[u8], v: &[u8], levels
         f = &f[at..];
         c = &c[bytes..];
         ahead -= passed;
-        let said = pair_conforms(
-            schema,
-            sections,
-            t[1],
-            f,
-            c,
-            ahead,
-            name,
-            &b[0..len],
-            levels,
-        );
+        let x = &b[0..len];
+        let said = pair_conforms(schema, sections, t[1], f, c, ahead, name, x, levels);
         let Verdict::Holds = said else {
             return said;
         };

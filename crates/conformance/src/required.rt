@@ -11,12 +11,19 @@ ghost use Rattle.cedar.specs.Conformance.{hasRequired};
 ghost use Rattle.forms.specs.Parts.{rd};
 ghost use Rattle.conformance.specs.Walks.{Records, attributesOf, pairsOf};
 
+// The required byte of an attribute.
+pub struct Requirement;
+
+impl Requirement {
+    pub const REQUIRED: u8 = 1;
+}
+
 // Whether an attribute is optional, or the first of n pairs has its name.
 fn is_met(attribute: &[u8], pairs: &[u8], n: usize) -> bool
     requires { ⌜ (5 ≤ length (now attribute)) × (length (now pairs) ≡ 4 * n) ⌝ }
     ensures { λ r. ⌜ r ≡ (not (eqb (getD (now (attribute .entry)) 2 0) 1) || (ltb 0 n && eqb (rd (now (attribute .entry)) 0) (rd (now (pairs .entry)) 0))) ⌝ }
 {
-    if attribute[2] != 1 {
+    if attribute[2] != Requirement::REQUIRED {
         return true;
     }
     if n == 0 {

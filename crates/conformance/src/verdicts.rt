@@ -1,14 +1,15 @@
-// What a walk down a value says: yes; no; no, after an unknown function inside an argument; or an unknown function that it reaches.
+// Verdicts of a walk down a value.
+ghost use mathlib.Core.Path.{_≡_};
+ghost use Rattle.cedar.specs.Conformance.{verdict};
+ghost use Rattle.conformance.specs.Verdicts.{verdictOf, insideOf};
+
+// Yes; no; no, after an unknown function inside an argument; or an unknown function that it reaches.
 pub enum Verdict {
     Holds,
     Fails,
     FailsInside,
     Unknown,
 }
-
-ghost use mathlib.Core.Path.{_≡_};
-ghost use Rattle.cedar.specs.Conformance.{verdict};
-ghost use Rattle.conformance.specs.Verdicts.{verdictOf, insideOf};
 
 // A test as a verdict.
 pub fn tested(b: bool) -> Verdict

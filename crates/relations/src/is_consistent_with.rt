@@ -2,6 +2,7 @@
 use crate::is_plain::kind_is_plain;
 use crate::names::names_share;
 use crate::places::Place;
+use crate::places::Requirement;
 use crate::same_bytes::same_bytes;
 use forms::kinds::Kind;
 use forms::kinds::Openness;
@@ -65,7 +66,7 @@ fn attribute_covered(e: &[u8], openness: u8, fs: &[u8], cs: &[u8], m: usize) -> 
     if openness == Openness::OPEN {
         return true;
     }
-    if e[Place::REQUIRED] != 1 {
+    if e[Place::REQUIRED] != Requirement::REQUIRED {
         return true;
     }
     let Found::At(_, _) = find(Width::ATTRIBUTE, fs, cs, m, u16_at(e, 0)) else {
@@ -122,7 +123,7 @@ fn attribute_consistent(
         if openness == Openness::OPEN {
             return true;
         }
-        return f[Place::REQUIRED] != 1;
+        return f[Place::REQUIRED] != Requirement::REQUIRED;
     };
     let at = Width::ATTRIBUTE * i;
     let len = u16_at(&es[at..], Place::BODY_LENGTH);
@@ -194,19 +195,10 @@ pub fn is_consistent_with(t0: &[u8], t1: &[u8], levels: usize) -> bool
             let es = &t0[Place::RECORD_ENTRIES..p];
             let fs = &t1[Place::RECORD_ENTRIES..q];
             let cs = &t1[q..];
-            if !attributes_consistent(
-                t0[Place::RECORD_OPEN],
-                es,
-                &t0[p..],
-                n,
-                fs,
-                cs,
-                m,
-                levels - 1,
-            ) {
+            if !attributes_consistent(t0[Place::OPEN], es, &t0[p..], n, fs, cs, m, levels - 1) {
                 return false;
             }
-            names_covered(es, n, t1[Place::RECORD_OPEN], fs, cs, m)
+            names_covered(es, n, t1[Place::OPEN], fs, cs, m)
         }
         Kind::EXTENSION => same_bytes(t0, t1),
         _ => kind_is_plain(k),

@@ -170,15 +170,7 @@ pub fn is_subtype(mode: u8, t0: &[u8], t1: &[u8], levels: usize) -> bool
             let q = Place::RECORD_ENTRIES + Width::ATTRIBUTE * m;
             let es = &t0[Place::RECORD_ENTRIES..p];
             let fs = &t1[Place::RECORD_ENTRIES..q];
-            if !record_under(
-                mode,
-                t0[Place::RECORD_OPEN],
-                es,
-                n,
-                t1[Place::RECORD_OPEN],
-                fs,
-                m,
-            ) {
+            if !record_under(mode, t0[Place::OPEN], es, n, t1[Place::OPEN], fs, m) {
                 return false;
             }
             attributes_subtype(mode, es, &t0[p..], n, fs, &t1[q..], m, levels - 1)

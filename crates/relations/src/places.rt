@@ -6,7 +6,7 @@ impl Place {
     pub const ELEMENT: usize = 1;
 
     // A record: whether it is open, its count of attributes, and their entries.
-    pub const RECORD_OPEN: usize = 1;
+    pub const OPEN: usize = 1;
 
     pub const RECORD_COUNT: usize = 2;
 
@@ -24,4 +24,13 @@ impl Place {
     pub const REQUIRED: usize = 2;
 
     pub const BODY_LENGTH: usize = 3;
+}
+
+// The required byte of an attribute's entry.
+pub struct Requirement;
+
+impl Requirement {
+    pub const OPTIONAL: u8 = 0;
+
+    pub const REQUIRED: u8 = 1;
 }

@@ -1,7 +1,7 @@
 -- Walks over the rows of a table that is in order: what is left is in order too. Assumes nothing.
 use mathlib.Core.Path.{_≡_, refl, ap, sym, _∙_}
 use mathlib.Core.List.{List, [], _∷_}
-use mathlib.Core.Bool.{Bool, true, false, not, _&&_}
+use mathlib.Core.Bool.{Bool, true, not}
 use Prim.Native.Nat.{ℕ, zero, suc, _+_, _*_, _-_, _≤_, _<_}
 use native.Mathlib.Numerals.{sub-one}
 use native.Mathlib.Omega.{arith}
@@ -11,7 +11,7 @@ use borrow.Author.Tests.{leb-true}
 use Rattle.forms.specs.Parts.{part, rest, rd}
 use Rattle.forms.specs.Rows.{Row, bodyLength, rowsTo, rowsOf, noneLeft, tableEnd, tableFits, tableOf}
 use Rattle.forms.specs.Laws.Parts.{and-l, and-r, and-yes, length-part}
-use Rattle.forms.specs.Laws.Rows.{First, first, rows-none, rows-step, RowsLeft, rows-start, rows-room, rows-again}
+use Rattle.forms.specs.Laws.Rows.{First, first, rows-none, rows-step, rows-start, rows-room, rows-again}
 
 module _ {S H : Type 0} (r : Row S H) (w : H → List ℕ → Bool) where
   -- So many rows, in order, with no byte over.

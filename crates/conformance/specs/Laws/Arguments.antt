@@ -1,24 +1,23 @@
 -- The stand-in for arguments, and the loop of `arguments_fit`. Assumes nothing.
 use mathlib.Core.Path.{_≡_, refl, ap, ap₂, sym, _∙_}
 use mathlib.Core.List.{List, [], _∷_}
-use mathlib.Core.Bool.{Bool, true, false, _&&_, cond}
+use mathlib.Core.Bool.{Bool, true, false, cond}
 use mathlib.Core.Option.{Option, none, some}
-use Prim.Native.Nat.{ℕ, zero, suc, _+_, _*_, _-_, _≤_, _<_}
+use Prim.Native.Nat.{ℕ, _+_, _*_, _-_, _≤_, _<_}
 use native.Mathlib.Omega.{arith}
-use native.Mathlib.Decide.{ℕ-discrete}
 use lib.Dec.{eqb, leb}
-use lib.ListN.{length, getD}
+use lib.ListN.{length}
 use borrow.Author.Tests.{ne-eqb}
-use Rattle.cedar.specs.Types.{Arg, argBool, argLong, argString, argExt, Value, boolean, number, text, uid, setOf, recordOf, call, Values, end, value, Schema, Function, maybe, present}
+use Rattle.cedar.specs.Types.{Arg, argBool, argLong, argString, argExt, Value, boolean, number, text, uid, setOf, recordOf, call, Values, end, value, Schema, Function, maybe}
 use Rattle.cedar.specs.ValueForm.{valueKind, callKind, valuesFrom}
-use Rattle.cedar.specs.Conformance.{Verdict as Said, holds, fails, failsInside, unknown, verdict, andThen, Counts, shorter, fits, fitAll, isExtension, functionOf, returnsExt, isArg, argExtension}
+use Rattle.cedar.specs.Conformance.{Verdict as Said, holds, fails, failsInside, unknown, verdict, andThen, shorter, fits, fitAll, isExtension, functionOf, returnsExt, isArg, argExtension}
 use Rattle.forms.specs.Parts.{part, rest, rd}
-use Rattle.forms.specs.Rows.{rowsOf, bodyLength}
+use Rattle.forms.specs.Rows.{rowsOf}
 use Rattle.forms.specs.Laws.Parts.{pos}
-use Rattle.schemas.specs.SchemaBytes.{argFits, argAt, argsFit, argsOf}
+use Rattle.schemas.specs.SchemaBytes.{argAt, argsFit, argsOf}
 use Rattle.schemas.specs.Laws.Arguments.{ArgFirst, args-first, args-none}
 use Rattle.conformance.specs.declared.verdicts.Verdict.{Verdict}
-use Rattle.conformance.specs.declared.verdicts.Verdict.the-variants.{Holds, Fails, FailsInside, Unknown}
+use Rattle.conformance.specs.declared.verdicts.Verdict.the-variants.{Holds}
 use Rattle.conformance.specs.Verdicts.{verdictOf, insideOf}
 use Rattle.forms.specs.ValueBytes.{memberRow, wholeV, wholeVAs, decV, decVAs}
 use Rattle.conformance.specs.Walks.{argumentsOf}

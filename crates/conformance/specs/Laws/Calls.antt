@@ -2,24 +2,23 @@
 use mathlib.Core.Path.{_≡_, refl, ap, ap₂, sym, _∙_}
 use mathlib.Core.List.{List}
 use mathlib.Core.Bool.{Bool, true, false, not, cond}
-use mathlib.Core.Option.{Option, none, some}
-use Prim.Native.Nat.{ℕ, _+_, _-_, _≤_, _<_}
+use mathlib.Core.Option.{none, some}
+use Prim.Native.Nat.{ℕ, _-_}
 use native.Mathlib.Omega.{arith}
 use lib.Dec.{eqb, leb}
-use lib.ListN.{length}
 use borrow.Author.Tests.{eq-eqb, ne-eqb, not-true, not-false}
-use Rattle.cedar.specs.Types.{Arg, argBool, argLong, argString, argExt, Value, Values, Schema, Function, maybe}
-use Rattle.cedar.specs.ValueForm.{valueKind, callKind}
+use Rattle.cedar.specs.Types.{Arg, argBool, argLong, argString, argExt, Value, Values, Schema, maybe}
+use Rattle.cedar.specs.ValueForm.{valueKind}
 use Rattle.cedar.specs.Conformance.{verdict, andThen, unknown, fails, shorter, fits, fitAll, isExtension, functionOf}
 use Rattle.forms.specs.Parts.{rd, kind}
 use Rattle.schemas.specs.SchemaBytes.{argFits, argAt}
 use Rattle.schemas.specs.Laws.Arguments.{arg-kind, arg-is-bool, arg-is-long, arg-is-string, arg-is-extension}
 use Rattle.conformance.specs.declared.verdicts.Verdict.{Verdict}
-use Rattle.conformance.specs.declared.verdicts.Verdict.the-variants.{Holds, Fails, FailsInside, Unknown}
+use Rattle.conformance.specs.declared.verdicts.Verdict.the-variants.{Fails, Unknown}
 use Rattle.conformance.specs.Verdicts.{verdictOf, insideOf}
-use Rattle.forms.specs.ValueBytes.{wholeV, wholeVAs, decV, decVAs}
+use Rattle.forms.specs.ValueBytes.{wholeV, decV, decVAs}
 use Rattle.conformance.specs.Walks.{argumentsOf}
-use Rattle.conformance.specs.Laws.Values.{value-level, value-as, value-kind, dec-value}
+use Rattle.conformance.specs.Laws.Values.{value-level, value-kind, dec-value}
 use Rattle.conformance.specs.Laws.Arguments.{fits-bool, fits-long, fits-string, fits-other, call-inside}
 
 -- A whole value as the first argument asked for.

@@ -1,29 +1,28 @@
 -- What `conforms` says of each kind of type. Assumes nothing.
 use mathlib.Core.Path.{_≡_, refl, ap, ap₂, sym, _∙_}
 use mathlib.Core.List.{List}
-use mathlib.Core.Bool.{Bool, true, false, _&&_}
-use mathlib.Core.Option.{Option, none, some}
-use Prim.Native.Nat.{ℕ, _+_, _*_, _-_, _≤_, _<_}
+use mathlib.Core.Bool.{Bool, true, false, not, _&&_}
+use mathlib.Core.Option.{Option}
+use Prim.Native.Nat.{ℕ, _-_}
 use native.Mathlib.Omega.{arith}
 use lib.Dec.{eqb}
 use lib.ListN.{length}
-use borrow.Author.Tests.{eqb-true}
+use borrow.Author.Tests.{eqb-true, eqb-false, not-true, not-false}
 use Rattle.cedar.specs.Types.{Atom, Ty, atom, set, rec, act, ent, ext, Attrs, Value, Values, Pairs, Schema, maybe, mem, isAction}
 use Rattle.cedar.specs.TypeForm.{recKind}
 use Rattle.cedar.specs.ValueForm.{valueKind}
-use Rattle.cedar.specs.Conformance.{Verdict as Said, verdict, fails, andThen, shorter, ofAtom, members, pairs, uidType, asCall, eachValue, eachPair, hasRequired, isExtension, conforms, conformsAt}
-use Rattle.forms.specs.Parts.{part, rest, rd, kind}
+use Rattle.cedar.specs.Conformance.{verdict, fails, andThen, shorter, ofAtom, members, pairs, uidType, asCall, eachValue, eachPair, hasRequired, isExtension, conforms, conformsAt}
+use Rattle.forms.specs.Parts.{rest, rd, kind}
 use Rattle.forms.specs.TypeBytes.{namesOf, wholeAs, whole, dec}
 use Rattle.forms.specs.Laws.Types.{whole-by}
-use Rattle.forms.specs.Laws.Views.{not-empty, is-set, is-record, is-entity, is-action, is-extension, is-atom}
-use Rattle.conformance.specs.declared.verdicts.Verdict.{Verdict}
-use Rattle.conformance.specs.declared.verdicts.Verdict.the-variants.{Fails}
+use Rattle.forms.specs.Laws.Views.{Seen, seen-set, seen-record, seen-entity, seen-action, seen-extension, seen-atom, see, not-empty, is-set, is-record, is-entity, is-action, is-extension, IsAtom, is-atom}
+use Rattle.conformance.specs.declared.verdicts.Verdict.the-variants.{Holds, Fails}
 use Rattle.conformance.specs.Verdicts.{verdictOf}
-use Rattle.conformance.specs.Atoms.{kindTakes, takes}
+use Rattle.conformance.specs.Kinds.{takes}
 use Rattle.forms.specs.ValueBytes.{wholeV, decV, decVAs}
 use Rattle.conformance.specs.Walks.{isOpen, attributesOf, membersOf, pairsOf, argumentsOf}
 use Rattle.conformance.specs.Laws.Values.{value-level, value-as, value-kind, dec-value, no-members, no-pairs, no-uid, no-call}
-use Rattle.conformance.specs.Laws.Atoms.{atom-takes}
+use Rattle.conformance.specs.Laws.Kinds.{atom-takes}
 
 module _ (s : Schema) (v : Value) where
   of-set : (t : Ty) → conforms shorter s (set t) v ≡ maybe fails (eachValue (λ x. conforms shorter s t x)) (members v)
@@ -50,6 +49,10 @@ module _ (s : Schema) (v : Value) where
   unfolding conforms
   of-atom a = refl
 
+-- The value's kind, where the type takes it.
+pub taken-kind : (t v : List ℕ) (x : Bool) → x ≡ takes (kind t) (kind v) → not x ≡ false → (k j : ℕ) → kind t ≡ k → takes k (kind v) ≡ eqb (kind v) j → kind v ≡ j
+taken-kind t v x y p k j e q = eqb-true (kind v) j (sym q ∙ ap (λ (i : ℕ). takes i (kind v)) (sym e) ∙ sym y ∙ not-false x p)
+
 module _ (l : ℕ) (t v : List ℕ) (h : whole l t ≡ true) (g : wholeV l v ≡ true) where
   pub record-parts : kind t ≡ 8 → wholeAs (whole (l - 1)) recKind t ≡ true
   record-parts e = sym (whole-by l t (λ z. omega (arith, value-level l v g)) (λ z. omega (arith, not-empty l t h)) 8 e) ∙ h
@@ -62,7 +65,7 @@ module _ (s : Schema) (l : ℕ) (t v : List ℕ) (h : whole l t ≡ true) (g : w
   by : (j : ℕ) → kind v ≡ j → {a : Ty} → dec l t ≡ a → conforms shorter s (dec l t) (decV l v) ≡ conforms shorter s a (decVAs (decV (l - 1)) (valueKind j) v)
   by j e q = ap₂ (λ (x : Ty) (y : Value). conforms shorter s x y) q (dec-value l v (value-level l v g) j e)
 
-  pub set-not : kind t ≡ 7 → (kind v ≡ 5 → ⊥) → Fails ≡ verdictOf (conforms shorter s (dec l t) (decV l v))
+  set-not : kind t ≡ 7 → (kind v ≡ 5 → ⊥) → Fails ≡ verdictOf (conforms shorter s (dec l t) (decV l v))
   set-not e p =
       ap verdictOf (sym (by (kind v) refl (is-set l t h e .is) ∙ of-set s _ _
       ∙ ap (λ (o : Option Values). maybe fails (eachValue (λ x. conforms shorter s (dec (l - 1) (rest 1 t)) x)) o) (no-members (decV (l - 1)) v (value-kind l v g) p)))
@@ -70,7 +73,7 @@ module _ (s : Schema) (l : ℕ) (t v : List ℕ) (h : whole l t ≡ true) (g : w
   pub set-members : kind t ≡ 7 → kind v ≡ 5 → verdictOf (eachValue (λ x. conforms shorter s (dec (l - 1) (rest 1 t)) x) (membersOf (l - 1) v)) ≡ verdictOf (conforms shorter s (dec l t) (decV l v))
   set-members e p = ap verdictOf (sym (by 5 p (is-set l t h e .is) ∙ of-set s _ _))
 
-  pub record-not : kind t ≡ 8 → (kind v ≡ 6 → ⊥) → Fails ≡ verdictOf (conforms shorter s (dec l t) (decV l v))
+  record-not : kind t ≡ 8 → (kind v ≡ 6 → ⊥) → Fails ≡ verdictOf (conforms shorter s (dec l t) (decV l v))
   record-not e p =
       ap verdictOf (sym (by (kind v) refl (is-record l t h e .is) ∙ of-record s _ _ _
       ∙ ap (λ (o : Option Pairs). maybe fails (λ ps. andThen (eachPair (λ n x. conformsAt shorter s (isOpen t) (attributesOf (l - 1) t) n x) ps) (verdict (hasRequired (attributesOf (l - 1) t) ps))) o)
@@ -81,7 +84,7 @@ module _ (s : Schema) (l : ℕ) (t v : List ℕ) (h : whole l t ≡ true) (g : w
       ≡ verdictOf (conforms shorter s (dec l t) (decV l v))
   record-pairs e p = ap verdictOf (sym (by 6 p (is-record l t h e .is) ∙ of-record s _ _ _))
 
-  pub entity-not : kind t ≡ 10 → (kind v ≡ 4 → ⊥) → Fails ≡ verdictOf (conforms shorter s (dec l t) (decV l v))
+  entity-not : kind t ≡ 10 → (kind v ≡ 4 → ⊥) → Fails ≡ verdictOf (conforms shorter s (dec l t) (decV l v))
   entity-not e p =
       ap verdictOf (sym (by (kind v) refl (is-entity l t h e .is) ∙ of-entity s _ _
       ∙ ap (λ (o : Option ℕ). verdict (maybe false (λ k. mem k (namesOf (rd t 1) (rest 3 t))) o)) (no-uid (decV (l - 1)) v (value-kind l v g) p)))
@@ -89,7 +92,7 @@ module _ (s : Schema) (l : ℕ) (t v : List ℕ) (h : whole l t ≡ true) (g : w
   pub entity-names : kind t ≡ 10 → kind v ≡ 4 → (n k : ℕ) → n ≡ rd t 1 → k ≡ rd v 1 → verdictOf (verdict (mem k (namesOf n (rest 3 t)))) ≡ verdictOf (conforms shorter s (dec l t) (decV l v))
   entity-names e p n k q u = ap₂ (λ (i j : ℕ). verdictOf (verdict (mem j (namesOf i (rest 3 t))))) q u ∙ ap verdictOf (sym (by 4 p (is-entity l t h e .is) ∙ of-entity s _ _))
 
-  pub action-not : kind t ≡ 11 → (kind v ≡ 4 → ⊥) → Fails ≡ verdictOf (conforms shorter s (dec l t) (decV l v))
+  action-not : kind t ≡ 11 → (kind v ≡ 4 → ⊥) → Fails ≡ verdictOf (conforms shorter s (dec l t) (decV l v))
   action-not e p =
       ap verdictOf (sym (by (kind v) refl (is-action l t h e .is) ∙ of-action s _ _ _
       ∙ ap (λ (o : Option ℕ). verdict (maybe false (λ k. isAction k && eqb k (rd t 1)) o)) (no-uid (decV (l - 1)) v (value-kind l v g) p)))
@@ -97,7 +100,7 @@ module _ (s : Schema) (l : ℕ) (t v : List ℕ) (h : whole l t ≡ true) (g : w
   pub action-name : kind t ≡ 11 → kind v ≡ 4 → (k n : ℕ) → k ≡ rd v 1 → n ≡ rd t 1 → verdictOf (verdict (isAction k && eqb k n)) ≡ verdictOf (conforms shorter s (dec l t) (decV l v))
   action-name e p k n q u = ap₂ (λ (i j : ℕ). verdictOf (verdict (isAction i && eqb i j))) q u ∙ ap verdictOf (sym (by 4 p (is-action l t h e .is) ∙ of-action s _ _ _))
 
-  pub extension-not : kind t ≡ 12 → (kind v ≡ 7 → ⊥) → Fails ≡ verdictOf (conforms shorter s (dec l t) (decV l v))
+  extension-not : kind t ≡ 12 → (kind v ≡ 7 → ⊥) → Fails ≡ verdictOf (conforms shorter s (dec l t) (decV l v))
   extension-not e p =
       ap verdictOf (sym (by (kind v) refl (is-extension l t h e .is) ∙ of-extension s _ _
       ∙ ap (λ (o : Option (ℕ × Values)). maybe fails (isExtension shorter s (rd t 1)) o) (no-call (decV (l - 1)) v (value-kind l v g) p)))
@@ -105,9 +108,31 @@ module _ (s : Schema) (l : ℕ) (t v : List ℕ) (h : whole l t ≡ true) (g : w
   pub extension-call : kind t ≡ 12 → kind v ≡ 7 → (n : ℕ) → n ≡ rd t 1 → verdictOf (isExtension shorter s n (rd v 1, argumentsOf (l - 1) v)) ≡ verdictOf (conforms shorter s (dec l t) (decV l v))
   extension-call e p n q = ap (λ (i : ℕ). verdictOf (isExtension shorter s i (rd v 1, argumentsOf (l - 1) v))) q ∙ ap verdictOf (sym (by 7 p (is-extension l t h e .is) ∙ of-extension s _ _))
 
-  pub atom-kinds : (kind t ≡ 7 → ⊥) → (kind t ≡ 8 → ⊥) → (kind t ≡ 10 → ⊥) → (kind t ≡ 11 → ⊥) → (kind t ≡ 12 → ⊥) → verdictOf (verdict (takes (kind t) (kind v))) ≡ verdictOf (conforms shorter s (dec l t) (decV l v))
-  atom-kinds p7 p8 p10 p11 p12 =
-      let a = is-atom l t h p7 p8 p10 p11 p12 in
-      let z = a .kind-is in
-      let y : takes (kind t) (kind v) ≡ ofAtom (a .kind-of) (decVAs (decV (l - 1)) (valueKind (kind v)) v) = rw z (sym (atom-takes (decV (l - 1)) v (a .kind-of) (kind v) (value-kind l v g))) in
-      ap (λ (b : Bool). verdictOf (verdict b)) y ∙ ap verdictOf (sym (by (kind v) refl (a .is) ∙ of-atom s _ _))
+  -- A type without parts.
+  atom-takes-all : (a : IsAtom l t) → takes (kind t) (kind v) ≡ ofAtom (a .kind-of) (decVAs (decV (l - 1)) (valueKind (kind v)) v)
+  atom-takes-all a = let z = a .kind-is in rw z (sym (atom-takes (decV (l - 1)) v (a .kind-of) (kind v) (value-kind l v g)))
+
+  atom-said : (a : IsAtom l t) → verdictOf (verdict (takes (kind t) (kind v))) ≡ verdictOf (conforms shorter s (dec l t) (decV l v))
+  atom-said a = ap (λ (b : Bool). verdictOf (verdict b)) (atom-takes-all a) ∙ ap verdictOf (sym (by (kind v) refl (a .is) ∙ of-atom s _ _))
+
+  -- What the test of the two kinds says.
+  module _ (x : Bool) (y : x ≡ takes (kind t) (kind v)) where
+    pub kind-not : not x ≡ true → Fails ≡ verdictOf (conforms shorter s (dec l t) (decV l v))
+    kind-not p = go (see l t h)
+      where
+        no : takes (kind t) (kind v) ≡ false
+        no = sym y ∙ not-true x p
+
+        other : (k j : ℕ) → kind t ≡ k → takes k (kind v) ≡ eqb (kind v) j → kind v ≡ j → ⊥
+        other k j e q = eqb-false (kind v) j (sym q ∙ ap (λ (i : ℕ). takes i (kind v)) (sym e) ∙ no)
+
+        go : Seen l t → Fails ≡ verdictOf (conforms shorter s (dec l t) (decV l v))
+        go (seen-set e a) = set-not e (other 7 5 e refl)
+        go (seen-record e a) = record-not e (other 8 6 e refl)
+        go (seen-entity e a) = entity-not e (other 10 4 e refl)
+        go (seen-action e a) = action-not e (other 11 4 e refl)
+        go (seen-extension e a) = extension-not e (other 12 7 e refl)
+        go (seen-atom a) = ap (λ (b : Bool). verdictOf (verdict b)) (sym no) ∙ atom-said a
+
+    pub kind-atom-yes : not x ≡ false → (kind t ≡ 7 → ⊥) → (kind t ≡ 8 → ⊥) → (kind t ≡ 10 → ⊥) → (kind t ≡ 11 → ⊥) → (kind t ≡ 12 → ⊥) → Holds ≡ verdictOf (conforms shorter s (dec l t) (decV l v))
+    kind-atom-yes p p7 p8 p10 p11 p12 = ap (λ (b : Bool). verdictOf (verdict b)) (sym (sym y ∙ not-false x p)) ∙ atom-said (is-atom l t h p7 p8 p10 p11 p12)

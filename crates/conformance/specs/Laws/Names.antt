@@ -2,8 +2,7 @@
 use mathlib.Core.Path.{_≡_, refl, ap, sym, _∙_}
 use mathlib.Core.List.{List}
 use mathlib.Core.Bool.{true, false, _||_}
-use Prim.Native.Nat.{ℕ, zero, suc, _+_, _*_, _-_, _≤_, _<_}
-use native.Mathlib.Numerals.{sub-one}
+use Prim.Native.Nat.{ℕ, _*_, _-_, _≤_, _<_}
 use native.Mathlib.Omega.{arith}
 use lib.Dec.{eqb}
 use lib.ListN.{length}
@@ -12,6 +11,7 @@ use Rattle.cedar.specs.Types.{mem}
 use Rattle.forms.specs.Parts.{rest, rd}
 use Rattle.forms.specs.TypeBytes.{namesOf}
 use Rattle.forms.specs.Laws.Parts.{length-rest}
+use Rattle.forms.specs.Laws.Types.{names-first, names-none}
 
 pub record NamesAhead (name n : ℕ) (ns : List ℕ) (left : ℕ) (b : List ℕ) : Type 0 where
   pub same : mem name (namesOf n ns) ≡ mem name (namesOf left b)
@@ -21,17 +21,11 @@ pub names-start : (name : ℕ) {n : ℕ} {ns : List ℕ} → 2 * n ≤ length ns
 names-start name h = record { same = refl; sized = h }
 
 step : (name n : ℕ) (b : List ℕ) → 0 < n → mem name (namesOf n b) ≡ (eqb name (rd b 0) || mem name (namesOf (n - 1) (rest 2 b)))
-unfolding namesOf
-step name zero b p = absurd (omega arith)
-step name (suc n) b p = rw (sub-one (suc n)) refl
+step name n b p = ap (mem name) (names-first n b p)
 
 module _ {name n left : ℕ} {ns b : List ℕ} (i : NamesAhead name n ns left b) where
   pub names-end : left ≤ 0 → false ≡ mem name (namesOf n ns)
-  names-end h = sym (i .same ∙ go left h)
-    where
-      go : (k : ℕ) → k ≤ 0 → mem name (namesOf k b) ≡ false
-      go zero h = unfold namesOf in refl
-      go (suc k) h = absurd (omega arith)
+  names-end h = sym (i .same ∙ ap (mem name) (names-none left b h))
 
   module _ (p : 0 < left) (k : ℕ) (q : k ≡ rd b 0) where
     pub names-here : k ≡ name → true ≡ mem name (namesOf n ns)

@@ -1,23 +1,23 @@
 -- Walks and searches over the pairs of a record value. Assumes nothing.
-use mathlib.Core.Path.{_≡_, refl, ap, sym, _∙_}
+use mathlib.Core.Path.{_≡_, refl, ap, _∙_}
 use mathlib.Core.List.{List, [], _∷_, _++_}
-use mathlib.Core.Bool.{Bool, true, false, _&&_, _||_, or-false}
-use Prim.Native.Nat.{ℕ, zero, suc, _+_, _*_, _-_, _≤_, _<_}
+use mathlib.Core.Bool.{Bool, false, _&&_, or-false}
+use Prim.Native.Nat.{ℕ, _+_, _*_, _-_, _≤_, _<_}
 use native.Mathlib.Omega.{arith}
 use native.Mathlib.Decide.{decLt}
-use lib.Dec.{eqb, leb, ltb}
+use lib.Dec.{eqb, ltb}
 use lib.ListN.{length}
 use borrow.Author.Tests.{leb-true, le-leb, lt-ltb, le-ltb, ne-eqb}
-use Rattle.cedar.specs.Types.{Value, boolean, Pairs}
+use Rattle.cedar.specs.Types.{Value, boolean}
 use Rattle.cedar.specs.ValueForm.{pairsFrom}
 use Rattle.cedar.specs.Conformance.{hasName}
-use Rattle.forms.specs.Parts.{part, rest, rd}
+use Rattle.forms.specs.Parts.{rest, rd}
 use Rattle.forms.specs.Rows.{rowsOf, noneLeft}
 use Rattle.forms.specs.Search.{below, used, lowAt, Laid}
 use Rattle.forms.specs.Laws.Parts.{length-rest}
 use Rattle.forms.specs.Laws.Skips.{Below, From, Named, below-most, below-stop, used-less, rows-used, rows-cut, rows-skip, rows-below, rows-from}
 use Rattle.forms.specs.ValueBytes.{pairRow}
-use Rattle.conformance.specs.Laws.Ahead.{Ahead, ahead-first, ahead-again, ahead-from, decoded, decoded-none}
+use Rattle.conformance.specs.Laws.Ahead.{Ahead, ahead-again, ahead-from, decoded, decoded-none}
 
 pub pair-named : (w : ℕ → List ℕ → Bool) (d : ℕ → List ℕ → Value) → Named pairRow w noneLeft d (λ h. h)
 pair-named w d = record { key-is = λ es. refl; low-is = λ low es h. leb-true low (rd es 0) h; next-is = λ es. refl }

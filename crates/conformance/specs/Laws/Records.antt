@@ -1,16 +1,16 @@
 -- The loop of `record_conforms`, and a pair's value. Assumes nothing.
 use mathlib.Core.Path.{_≡_, refl, ap, ap₂, sym, _∙_}
 use mathlib.Core.List.{List, [], _∷_}
-use mathlib.Core.Bool.{Bool, true, false, _&&_, cond}
-use mathlib.Core.Option.{Option, none, some}
+use mathlib.Core.Bool.{Bool, true, false, cond}
+use mathlib.Core.Option.{Option, some}
 use Prim.Native.Nat.{ℕ, _+_, _*_, _-_, _≤_, _<_}
 use native.Mathlib.Omega.{arith}
 use lib.Dec.{eqb}
-use lib.ListN.{length, getD}
-use Rattle.cedar.specs.Types.{Ty, Attrs, nil, attr, find, Value, Pairs, Schema, maybe}
+use lib.ListN.{length}
+use Rattle.cedar.specs.Types.{Ty, Attrs, nil, attr, find, Value, Schema, maybe}
 use Rattle.cedar.specs.TypeForm.{recKind}
 use Rattle.cedar.specs.ValueForm.{recordKind, pairsFrom}
-use Rattle.cedar.specs.Conformance.{Verdict as Said, holds, fails, failsInside, unknown, verdict, andThen, shorter, eachPair, hasRequired, conforms, conformsAt}
+use Rattle.cedar.specs.Conformance.{Verdict as Said, holds, fails, failsInside, unknown, verdict, andThen, shorter, eachPair, conforms, conformsAt}
 use Rattle.forms.specs.Parts.{part, rest, rd}
 use Rattle.forms.specs.Rows.{rowsOf, noneLeft}
 use Rattle.forms.specs.Search.{below, used, foundAt}
@@ -19,13 +19,13 @@ use Rattle.forms.specs.declared.search.Found.the-variants.{At, Nothing}
 use Rattle.forms.specs.TypeBytes.{attrRow, wholeAs, whole, dec, decA, Sound}
 use Rattle.forms.specs.Laws.Parts.{length-rest, part-rest}
 use Rattle.forms.specs.Laws.Skips.{From, rows-from}
-use Rattle.forms.specs.Laws.Attributes.{Entry, entry, Past, past, Here, found-at, found-not}
+use Rattle.forms.specs.Laws.Attributes.{Entry, entry, past, Here, found-at, found-not}
 use Rattle.conformance.specs.declared.verdicts.Verdict.{Verdict}
 use Rattle.conformance.specs.declared.verdicts.Verdict.the-variants.{Holds}
 use Rattle.conformance.specs.Verdicts.{verdictOf}
 use Rattle.forms.specs.ValueBytes.{pairRow, wholeV, wholeVAs, decV}
-use Rattle.conformance.specs.Walks.{Records, isOpen, attributesOf, pairsOf}
-use Rattle.conformance.specs.Laws.Ahead.{Ahead, ahead-again, decoded, decoded-none, table-ahead, table-decoded}
+use Rattle.conformance.specs.Walks.{isOpen, attributesOf, pairsOf}
+use Rattle.conformance.specs.Laws.Ahead.{Ahead, ahead-again, decoded, decoded-none, table-ahead}
 use Rattle.conformance.specs.Laws.Pairs.{pair-named, pairs-from}
 use Rattle.conformance.specs.Laws.Required.{attrs-from, records-table}
 use Rattle.conformance.specs.Laws.Verdicts.{Then, then-stop, then-on}

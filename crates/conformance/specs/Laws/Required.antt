@@ -2,25 +2,25 @@
 use mathlib.Core.Path.{_≡_, refl, ap, ap₂, sym, _∙_}
 use mathlib.Core.List.{List, [], _∷_}
 use mathlib.Core.Bool.{Bool, true, false, not, _&&_, _||_}
-use Prim.Native.Nat.{ℕ, zero, suc, _+_, _*_, _-_, _≤_, _<_}
+use Prim.Native.Nat.{ℕ, _+_, _*_, _-_, _≤_, _<_}
 use native.Mathlib.Omega.{arith}
 use lib.Dec.{eqb, leb, ltb}
 use lib.ListN.{length, getD}
 use borrow.Author.Tests.{leb-true, le-leb, not-true, not-false}
-use Rattle.cedar.specs.Types.{Ty, Attrs, Pairs}
+use Rattle.cedar.specs.Types.{Ty, Pairs}
 use Rattle.cedar.specs.TypeForm.{recKind, attrsOf}
 use Rattle.cedar.specs.ValueForm.{pairsFrom}
 use Rattle.cedar.specs.Conformance.{hasName, hasRequired}
 use Rattle.forms.specs.Parts.{part, rest, rd}
-use Rattle.forms.specs.Rows.{rowsOf, rowsTo, noneLeft, tableFits}
+use Rattle.forms.specs.Rows.{rowsOf, noneLeft, tableFits}
 use Rattle.forms.specs.Search.{below, used}
 use Rattle.forms.specs.TypeBytes.{attrRow, wholeAs, whole, dec}
 use Rattle.forms.specs.Laws.Parts.{and-l, and-r, and-not-l, and-yes}
 use Rattle.forms.specs.Laws.Skips.{From, Named, rows-from}
 use Rattle.forms.specs.ValueBytes.{pairRow, wholeV, decV}
 use Rattle.conformance.specs.Walks.{Records, attributesOf, pairsOf}
-use Rattle.conformance.specs.Laws.Ahead.{Ahead, ahead-first, ahead-room, ahead-again, ahead-from, decoded, decoded-none, table-count, table-entries, table-ahead, table-decoded}
-use Rattle.conformance.specs.Laws.Pairs.{Passed, passed, has-first}
+use Rattle.conformance.specs.Laws.Ahead.{Ahead, ahead-again, ahead-from, decoded, decoded-none, table-count, table-entries, table-ahead, table-decoded}
+use Rattle.conformance.specs.Laws.Pairs.{passed, has-first}
 
 pub attr-named : (w : ℕ × Bool → List ℕ → Bool) (d : ℕ × Bool → List ℕ → Ty) → Named attrRow w noneLeft d (λ h. h .0)
 attr-named w d = record { key-is = λ es. refl; low-is = λ low es h. leb-true low (rd es 0) (and-r (leb (getD es 2 0) 1) (leb low (rd es 0)) h); next-is = λ es. refl }

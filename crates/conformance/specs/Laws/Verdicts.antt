@@ -4,7 +4,7 @@ use Prim.Native.Nat.{ℕ}
 use native.Mathlib.Omega.{arith}
 use Rattle.cedar.specs.Conformance.{Verdict as Said, holds, fails, failsInside, unknown, andThen}
 use Rattle.conformance.specs.declared.verdicts.Verdict.{Verdict}
-use Rattle.conformance.specs.declared.verdicts.Verdict.the-variants.{Holds, Fails, FailsInside, Unknown}
+use Rattle.conformance.specs.declared.verdicts.Verdict.the-variants.{Holds}
 use Rattle.conformance.specs.Verdicts.{verdictOf}
 
 -- A verdict that is one and then another.

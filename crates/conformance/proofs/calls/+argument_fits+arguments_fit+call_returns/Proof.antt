@@ -11,7 +11,7 @@ use Rattle.conformance.specs.Laws.Arguments.{ArgumentsAhead, arguments-s
 use Rattle.conformance.specs.Laws.Ahead.{table-count, table-entries, ahead-room, ahead-inside, ahead-body}
 use Rattle.conformance.specs.Laws.Calls.{fit-bool, fit-long, fit-string, fit-not, fit-call}
 use Rattle.conformance.specs.Laws.Values.{value-level, value-first, value-as}
-use mathlib.Core.Path.{sym, _∙_}
+use mathlib.Core.Path.{_∙_}
 use borrow.Author.Needs.{needs}
 use Prim.Native.Nat.{_+_, _*_}
 use native.Mathlib.Omega.{arith}

@@ -1,23 +1,23 @@
-use Rattle.conformance.specs.Laws.Records.{RecordAhead, record-start, record-end, record-skip, record-stop, record-again, pair-absent, pair-few, pair-room, pair-inside, pair-whole, pair-found}
+use Rattle.conformance.specs.Laws.Records.{RecordAhead, record-start, record-end, record-skip, record-stop, record-again, pair-absent, pair-room, pair-inside, pair-whole, pair-found}
 use Rattle.forms.specs.Laws.Attributes.{laid, past}
 use Rattle.conformance.specs.Laws.Required.{records-table}
 use Rattle.conformance.proofs.Told.{no-yes}
 use Rattle.cedar.specs.Limits.{standard}
 use Rattle.schemas.specs.SchemaBytes.{decS}
 use Rattle.forms.specs.TypeBytes.{attrRow, whole, dec}
-use Rattle.cedar.specs.Conformance.{shorter, andThen, eachValue, eachPair, hasRequired, conforms as has, conformsAt}
-use Rattle.conformance.specs.Walks.{isOpen, attributesOf, membersOf, pairsOf}
+use Rattle.cedar.specs.Conformance.{shorter, eachValue, hasRequired, conforms as has}
+use Rattle.conformance.specs.Walks.{isOpen, attributesOf, membersOf, pairsOf, recordSaid}
 use Rattle.conformance.specs.Laws.Members.{MembersAhead, members-start, members-end, members-stop, members-again}
 use Rattle.conformance.specs.Laws.Ahead.{table-count, table-entries, ahead-room, ahead-inside, ahead-body}
 use Rattle.forms.specs.ValueBytes.{memberRow, pairRow, wholeV}
-use Rattle.conformance.specs.Laws.Conforms.{set-not, set-members, record-not, record-pairs, record-parts, entity-not, entity-names, uid-length, action-not, action-name, extension-not, extension-call, atom-kinds}
+use Rattle.conformance.specs.Laws.Conforms.{taken-kind, kind-not, kind-atom-yes, set-members, record-pairs, record-parts, entity-names, uid-length, action-name, extension-call}
 use Rattle.conformance.specs.Laws.Values.{value-level, value-first, value-as}
 use Rattle.forms.specs.Laws.Parts.{length-rest}
 use Rattle.forms.specs.Laws.Views.{not-empty, is-set, is-entity, is-action, is-extension}
 use Rattle.conformance.specs.Verdicts.{verdictOf}
 use Rattle.cedar.specs.Conformance.{verdict}
 use mathlib.Core.Bool.{Bool}
-use mathlib.Core.Path.{refl, ap, sym, _∙_}
+use mathlib.Core.Path.{refl, ap, _∙_}
 use borrow.Author.Needs.{needs}
 use Prim.Native.Nat.{_+_, _*_}
 use native.Mathlib.Omega.{arith}
@@ -36,10 +36,10 @@ use Rattle.conformance.proofs.conforms.+conforms+members_conform+pair_c
 use Rattle.conformance.proofs.conforms.record_conforms.Reads as record-conforms
 use Rattle.conformance.proofs.conforms.record_conforms.Kinds as record-conforms-kinds
 use Rattle.conformance.proofs.conforms.+conforms+members_conform+pair_conforms+record_conforms.Lts-record_conforms as record-conforms-lts
-use Rattle.conformance.proofs.atoms.takes_kind.Reads as takes-kind-reads
 use Rattle.conformance.proofs.calls.call_returns.Reads as call-returns-reads
 use Rattle.conformance.proofs.entities.is_action_of.Reads as is-action-of-reads
 use Rattle.conformance.proofs.entities.stands.Reads as stands-reads
+use Rattle.conformance.proofs.kinds.takes_kind.Reads as takes-kind-reads
 use Rattle.conformance.proofs.required.has_required.Reads as has-required-reads
 use Rattle.conformance.proofs.verdicts.tested.Reads as tested-reads
 use Rattle.forms.proofs.numbers.u16_at.Reads as u16-at-reads
@@ -115,8 +115,10 @@ record-conforms-below t =
     (falls 3 record-conforms-kinds.ps _<_ μ-record-conforms t)
     record-conforms.Pre
 
--- src/conforms.rt:39:13
+-- src/conforms.rt:38:13
 conforms-shared-slice-read-k : (t : ℕ) → conforms-lts.Need-shared-slice-read-k (
+  takes-kind-reads.Asked,
+  takes-kind-reads.Learnt,
   members-conform-below t,
   members-conform.Post,
   record-conforms-below t,
@@ -131,13 +133,13 @@ conforms-shared-slice-read-k : (t : ℕ) → conforms-lts.Need-shared-slice-read
   is-action-of-reads.Learnt,
   call-returns-reads.Asked,
   call-returns-reads.Learnt,
-  takes-kind-reads.Asked,
-  takes-kind-reads.Learnt,
 ) (conforms-at t) conforms.Post
 conforms-shared-slice-read-k t c = not-empty ((c .before .before .before .before) .args .levels) ((c .before .before .before .before) .args .t .now) ((c .before .before .before .before) .pre .1 .1 .0)
 
--- src/conforms.rt:40:13
-conforms-shared-slice-read-j : (t : ℕ) → conforms-lts.Need-shared-slice-read-j (
+-- src/conforms.rt:39:23
+conforms-shared-slice-read-takes-kind : (t : ℕ) → conforms-lts.Need-shared-slice-read-takes-kind (
+  takes-kind-reads.Asked,
+  takes-kind-reads.Learnt,
   members-conform-below t,
   members-conform.Post,
   record-conforms-below t,
@@ -152,559 +154,13 @@ conforms-shared-slice-read-j : (t : ℕ) → conforms-lts.Need-shared-slice-read
   is-action-of-reads.Learnt,
   call-returns-reads.Asked,
   call-returns-reads.Learnt,
-  takes-kind-reads.Asked,
-  takes-kind-reads.Learnt,
 ) (conforms-at t) conforms.Post
-conforms-shared-slice-read-j t c = value-first ((c .before .before .before .before .before) .args .levels) ((c .before .before .before .before .before) .args .v .now) ((c .before .before .before .before .before) .pre .1 .1 .1)
+conforms-shared-slice-read-takes-kind t c = value-first ((c .before .before .before .before .before) .args .levels) ((c .before .before .before .before .before) .args .v .now) ((c .before .before .before .before .before) .pre .1 .1 .1)
 
--- src/conforms.rt:44:17
-conforms-returns : (t : ℕ) → conforms-lts.Need-returns (
-  members-conform-below t,
-  members-conform.Post,
-  record-conforms-below t,
-  record-conforms.Post,
-  u16-at-reads.Asked,
-  u16-at-reads.Learnt,
-  stands-reads.Asked,
-  stands-reads.Learnt,
-  tested-reads.Asked,
-  tested-reads.Learnt,
-  is-action-of-reads.Asked,
-  is-action-of-reads.Learnt,
-  call-returns-reads.Asked,
-  call-returns-reads.Learnt,
-  takes-kind-reads.Asked,
-  takes-kind-reads.Learnt,
-) (conforms-at t) conforms.Post
-conforms-returns t c = let s = (c .before .before .before .before .before .before .before) in set-not _ (s .args .levels) (s .args .t .now) (s .args .v .now) (s .pre .1 .1 .0) (s .pre .1 .1 .1) ((c .before) .match .keys1) (c .if1 .taken)
-
--- src/conforms.rt:46:47
-conforms-sub-members-conform : (t : ℕ) → conforms-lts.Need-sub-members-conform (
-  members-conform-below t,
-  members-conform.Post,
-  record-conforms-below t,
-  record-conforms.Post,
-  u16-at-reads.Asked,
-  u16-at-reads.Learnt,
-  stands-reads.Asked,
-  stands-reads.Learnt,
-  tested-reads.Asked,
-  tested-reads.Learnt,
-  is-action-of-reads.Asked,
-  is-action-of-reads.Learnt,
-  call-returns-reads.Asked,
-  call-returns-reads.Learnt,
-  takes-kind-reads.Asked,
-  takes-kind-reads.Learnt,
-) (conforms-at t) conforms.Post
-conforms-sub-members-conform t c = let s = (c .before .before .before .before .before .before .before) in omega (arith, not-empty (s .args .levels) (s .args .t .now) (s .pre .1 .1 .0))
-
--- src/conforms.rt:46:47
-conforms-part-members-conform-start : (t : ℕ) → conforms-lts.Need-part-members-conform-start (
-  members-conform-below t,
-  members-conform.Post,
-  record-conforms-below t,
-  record-conforms.Post,
-  u16-at-reads.Asked,
-  u16-at-reads.Learnt,
-  stands-reads.Asked,
-  stands-reads.Learnt,
-  tested-reads.Asked,
-  tested-reads.Learnt,
-  is-action-of-reads.Asked,
-  is-action-of-reads.Learnt,
-  call-returns-reads.Asked,
-  call-returns-reads.Learnt,
-  takes-kind-reads.Asked,
-  takes-kind-reads.Learnt,
-) (conforms-at t) conforms.Post
-conforms-part-members-conform-start t c = let s = (c .before .before .before .before .before .before .before) in omega (arith, not-empty (s .args .levels) (s .args .t .now) (s .pre .1 .1 .0))
-
--- src/conforms.rt:46:47
-conforms-part-members-conform-end : (t : ℕ) → conforms-lts.Need-part-members-conform-end (
-  members-conform-below t,
-  members-conform.Post,
-  record-conforms-below t,
-  record-conforms.Post,
-  u16-at-reads.Asked,
-  u16-at-reads.Learnt,
-  stands-reads.Asked,
-  stands-reads.Learnt,
-  tested-reads.Asked,
-  tested-reads.Learnt,
-  is-action-of-reads.Asked,
-  is-action-of-reads.Learnt,
-  call-returns-reads.Asked,
-  call-returns-reads.Learnt,
-  takes-kind-reads.Asked,
-  takes-kind-reads.Learnt,
-) (conforms-at t) conforms.Post
-conforms-part-members-conform-end t c = search needs
-
--- src/conforms.rt:46:59
-conforms-sub-members-conform-2 : (t : ℕ) → conforms-lts.Need-sub-members-conform-2 (
-  members-conform-below t,
-  members-conform.Post,
-  record-conforms-below t,
-  record-conforms.Post,
-  u16-at-reads.Asked,
-  u16-at-reads.Learnt,
-  stands-reads.Asked,
-  stands-reads.Learnt,
-  tested-reads.Asked,
-  tested-reads.Learnt,
-  is-action-of-reads.Asked,
-  is-action-of-reads.Learnt,
-  call-returns-reads.Asked,
-  call-returns-reads.Learnt,
-  takes-kind-reads.Asked,
-  takes-kind-reads.Learnt,
-) (conforms-at t) conforms.Post
-conforms-sub-members-conform-2 t c = let s = (c .before .before .before .before .before .before .before .before) in omega (arith, value-level (s .args .levels) (s .args .v .now) (s .pre .1 .1 .1))
-
--- src/conforms.rt:46:13
-conforms-members-conform-requires : (t : ℕ) → conforms-lts.Need-members-conform-requires (
-  members-conform-below t,
-  members-conform.Post,
-  record-conforms-below t,
-  record-conforms.Post,
-  u16-at-reads.Asked,
-  u16-at-reads.Learnt,
-  stands-reads.Asked,
-  stands-reads.Learnt,
-  tested-reads.Asked,
-  tested-reads.Learnt,
-  is-action-of-reads.Asked,
-  is-action-of-reads.Learnt,
-  call-returns-reads.Asked,
-  call-returns-reads.Learnt,
-  takes-kind-reads.Asked,
-  takes-kind-reads.Learnt,
-) (conforms-at t) conforms.Post
-conforms-members-conform-requires t c κs = let s = (c .before .before .before .before .before .before .before .before) in (omega (arith, s .pre .0, value-level (s .args .levels) (s .args .v .now) (s .pre .1 .1 .1)), (s .pre .1 .0, (is-set (s .args .levels) (s .args .t .now) (s .pre .1 .1 .0) ((c .before .before) .match .keys1) .good, value-as (s .args .levels) (s .args .v .now) (s .pre .1 .1 .1) 5 ((c .before) .if1 .left))))
-
--- src/conforms.rt:50:17
-conforms-returns-2 : (t : ℕ) → conforms-lts.Need-returns-2 (
-  members-conform-below t,
-  members-conform.Post,
-  record-conforms-below t,
-  record-conforms.Post,
-  u16-at-reads.Asked,
-  u16-at-reads.Learnt,
-  stands-reads.Asked,
-  stands-reads.Learnt,
-  tested-reads.Asked,
-  tested-reads.Learnt,
-  is-action-of-reads.Asked,
-  is-action-of-reads.Learnt,
-  call-returns-reads.Asked,
-  call-returns-reads.Learnt,
-  takes-kind-reads.Asked,
-  takes-kind-reads.Learnt,
-) (conforms-at t) conforms.Post
-conforms-returns-2 t c = let s = (c .before .before .before .before .before .before .before) in record-not _ (s .args .levels) (s .args .t .now) (s .args .v .now) (s .pre .1 .1 .0) (s .pre .1 .1 .1) ((c .before) .match .keys2) (c .if2 .taken)
-
--- src/conforms.rt:52:53
-conforms-sub-record-conforms : (t : ℕ) → conforms-lts.Need-sub-record-conforms (
-  members-conform-below t,
-  members-conform.Post,
-  record-conforms-below t,
-  record-conforms.Post,
-  u16-at-reads.Asked,
-  u16-at-reads.Learnt,
-  stands-reads.Asked,
-  stands-reads.Learnt,
-  tested-reads.Asked,
-  tested-reads.Learnt,
-  is-action-of-reads.Asked,
-  is-action-of-reads.Learnt,
-  call-returns-reads.Asked,
-  call-returns-reads.Learnt,
-  takes-kind-reads.Asked,
-  takes-kind-reads.Learnt,
-) (conforms-at t) conforms.Post
-conforms-sub-record-conforms t c = let s = (c .before .before .before .before .before .before .before) in omega (arith, value-level (s .args .levels) (s .args .v .now) (s .pre .1 .1 .1))
-
--- src/conforms.rt:52:13
-conforms-record-conforms-requires : (t : ℕ) → conforms-lts.Need-record-conforms-requires (
-  members-conform-below t,
-  members-conform.Post,
-  record-conforms-below t,
-  record-conforms.Post,
-  u16-at-reads.Asked,
-  u16-at-reads.Learnt,
-  stands-reads.Asked,
-  stands-reads.Learnt,
-  tested-reads.Asked,
-  tested-reads.Learnt,
-  is-action-of-reads.Asked,
-  is-action-of-reads.Learnt,
-  call-returns-reads.Asked,
-  call-returns-reads.Learnt,
-  takes-kind-reads.Asked,
-  takes-kind-reads.Learnt,
-) (conforms-at t) conforms.Post
-conforms-record-conforms-requires t c κs = let s = (c .before .before .before .before .before .before .before) in (omega (arith, s .pre .0, value-level (s .args .levels) (s .args .v .now) (s .pre .1 .1 .1)), (s .pre .1 .0, (record-parts (s .args .levels) (s .args .t .now) (s .args .v .now) (s .pre .1 .1 .0) (s .pre .1 .1 .1) ((c .before) .match .keys2), value-as (s .args .levels) (s .args .v .now) (s .pre .1 .1 .1) 6 (c .if2 .left))))
-
--- src/conforms.rt:56:17
-conforms-returns-3 : (t : ℕ) → conforms-lts.Need-returns-3 (
-  members-conform-below t,
-  members-conform.Post,
-  record-conforms-below t,
-  record-conforms.Post,
-  u16-at-reads.Asked,
-  u16-at-reads.Learnt,
-  stands-reads.Asked,
-  stands-reads.Learnt,
-  tested-reads.Asked,
-  tested-reads.Learnt,
-  is-action-of-reads.Asked,
-  is-action-of-reads.Learnt,
-  call-returns-reads.Asked,
-  call-returns-reads.Learnt,
-  takes-kind-reads.Asked,
-  takes-kind-reads.Learnt,
-) (conforms-at t) conforms.Post
-conforms-returns-3 t c = let s = (c .before .before .before .before .before .before .before) in entity-not _ (s .args .levels) (s .args .t .now) (s .args .v .now) (s .pre .1 .1 .0) (s .pre .1 .1 .1) ((c .before) .match .keys3) (c .if3 .taken)
-
--- src/conforms.rt:58:27
-conforms-sub-stands : (t : ℕ) → conforms-lts.Need-sub-stands (
-  members-conform-below t,
-  members-conform.Post,
-  record-conforms-below t,
-  record-conforms.Post,
-  u16-at-reads.Asked,
-  u16-at-reads.Learnt,
-  stands-reads.Asked,
-  stands-reads.Learnt,
-  tested-reads.Asked,
-  tested-reads.Learnt,
-  is-action-of-reads.Asked,
-  is-action-of-reads.Learnt,
-  call-returns-reads.Asked,
-  call-returns-reads.Learnt,
-  takes-kind-reads.Asked,
-  takes-kind-reads.Learnt,
-) (conforms-at t) conforms.Post
-conforms-sub-stands t c = let s = (c .before .before .before .before .before .before .before) in omega (arith, is-entity (s .args .levels) (s .args .t .now) (s .pre .1 .1 .0) ((c .before) .match .keys3) .some)
-
--- src/conforms.rt:58:27
-conforms-part-stands-start : (t : ℕ) → conforms-lts.Need-part-stands-start (
-  members-conform-below t,
-  members-conform.Post,
-  record-conforms-below t,
-  record-conforms.Post,
-  u16-at-reads.Asked,
-  u16-at-reads.Learnt,
-  stands-reads.Asked,
-  stands-reads.Learnt,
-  tested-reads.Asked,
-  tested-reads.Learnt,
-  is-action-of-reads.Asked,
-  is-action-of-reads.Learnt,
-  call-returns-reads.Asked,
-  call-returns-reads.Learnt,
-  takes-kind-reads.Asked,
-  takes-kind-reads.Learnt,
-) (conforms-at t) conforms.Post
-conforms-part-stands-start t c = let s = (c .before .before .before .before .before .before .before) in omega (arith, is-entity (s .args .levels) (s .args .t .now) (s .pre .1 .1 .0) ((c .before) .match .keys3) .some)
-
--- src/conforms.rt:58:27
-conforms-part-stands-end : (t : ℕ) → conforms-lts.Need-part-stands-end (
-  members-conform-below t,
-  members-conform.Post,
-  record-conforms-below t,
-  record-conforms.Post,
-  u16-at-reads.Asked,
-  u16-at-reads.Learnt,
-  stands-reads.Asked,
-  stands-reads.Learnt,
-  tested-reads.Asked,
-  tested-reads.Learnt,
-  is-action-of-reads.Asked,
-  is-action-of-reads.Learnt,
-  call-returns-reads.Asked,
-  call-returns-reads.Learnt,
-  takes-kind-reads.Asked,
-  takes-kind-reads.Learnt,
-) (conforms-at t) conforms.Post
-conforms-part-stands-end t c = search needs
-
--- src/conforms.rt:58:36
-conforms-u16-at-requires : (t : ℕ) → conforms-lts.Need-u16-at-requires (
-  members-conform-below t,
-  members-conform.Post,
-  record-conforms-below t,
-  record-conforms.Post,
-  u16-at-reads.Asked,
-  u16-at-reads.Learnt,
-  stands-reads.Asked,
-  stands-reads.Learnt,
-  tested-reads.Asked,
-  tested-reads.Learnt,
-  is-action-of-reads.Asked,
-  is-action-of-reads.Learnt,
-  call-returns-reads.Asked,
-  call-returns-reads.Learnt,
-  takes-kind-reads.Asked,
-  takes-kind-reads.Learnt,
-) (conforms-at t) conforms.Post
-conforms-u16-at-requires t c κs = let s = (c .before .before .before .before .before .before .before .before) in omega (arith, is-entity (s .args .levels) (s .args .t .now) (s .pre .1 .1 .0) ((c .before .before) .match .keys3) .some)
-
--- src/conforms.rt:58:50
-conforms-u16-at-requires-2 : (t : ℕ) → conforms-lts.Need-u16-at-requires-2 (
-  members-conform-below t,
-  members-conform.Post,
-  record-conforms-below t,
-  record-conforms.Post,
-  u16-at-reads.Asked,
-  u16-at-reads.Learnt,
-  stands-reads.Asked,
-  stands-reads.Learnt,
-  tested-reads.Asked,
-  tested-reads.Learnt,
-  is-action-of-reads.Asked,
-  is-action-of-reads.Learnt,
-  call-returns-reads.Asked,
-  call-returns-reads.Learnt,
-  takes-kind-reads.Asked,
-  takes-kind-reads.Learnt,
-) (conforms-at t) conforms.Post
-conforms-u16-at-requires-2 t c κs = let s = (c .before .before .before .before .before .before .before .before .before) in omega (arith, uid-length (s .args .levels) (s .args .t .now) (s .args .v .now) (s .pre .1 .1 .0) (s .pre .1 .1 .1) ((c .before .before) .if3 .left))
-
--- src/conforms.rt:58:20
-conforms-stands-requires : (t : ℕ) → conforms-lts.Need-stands-requires (
-  members-conform-below t,
-  members-conform.Post,
-  record-conforms-below t,
-  record-conforms.Post,
-  u16-at-reads.Asked,
-  u16-at-reads.Learnt,
-  stands-reads.Asked,
-  stands-reads.Learnt,
-  tested-reads.Asked,
-  tested-reads.Learnt,
-  is-action-of-reads.Asked,
-  is-action-of-reads.Learnt,
-  call-returns-reads.Asked,
-  call-returns-reads.Learnt,
-  takes-kind-reads.Asked,
-  takes-kind-reads.Learnt,
-) (conforms-at t) conforms.Post
-conforms-stands-requires t c κs = let s = (c .before .before .before .before .before .before .before .before .before .before) in omega (arith, length-rest 3 (s .args .t .now), is-entity (s .args .levels) (s .args .t .now) (s .pre .1 .1 .0) ((c .before .before .before .before) .match .keys3) .sized, (c .before) .u16-at .ensures .0)
-
--- src/conforms.rt:58:13
-conforms-tested-requires : (t : ℕ) → conforms-lts.Need-tested-requires (
-  members-conform-below t,
-  members-conform.Post,
-  record-conforms-below t,
-  record-conforms.Post,
-  u16-at-reads.Asked,
-  u16-at-reads.Learnt,
-  stands-reads.Asked,
-  stands-reads.Learnt,
-  tested-reads.Asked,
-  tested-reads.Learnt,
-  is-action-of-reads.Asked,
-  is-action-of-reads.Learnt,
-  call-returns-reads.Asked,
-  call-returns-reads.Learnt,
-  takes-kind-reads.Asked,
-  takes-kind-reads.Learnt,
-) (conforms-at t) conforms.Post
-conforms-tested-requires t c κs = search needs
-
--- src/conforms.rt:62:17
-conforms-returns-4 : (t : ℕ) → conforms-lts.Need-returns-4 (
-  members-conform-below t,
-  members-conform.Post,
-  record-conforms-below t,
-  record-conforms.Post,
-  u16-at-reads.Asked,
-  u16-at-reads.Learnt,
-  stands-reads.Asked,
-  stands-reads.Learnt,
-  tested-reads.Asked,
-  tested-reads.Learnt,
-  is-action-of-reads.Asked,
-  is-action-of-reads.Learnt,
-  call-returns-reads.Asked,
-  call-returns-reads.Learnt,
-  takes-kind-reads.Asked,
-  takes-kind-reads.Learnt,
-) (conforms-at t) conforms.Post
-conforms-returns-4 t c = let s = (c .before .before .before .before .before .before .before) in action-not _ (s .args .levels) (s .args .t .now) (s .args .v .now) (s .pre .1 .1 .0) (s .pre .1 .1 .1) ((c .before) .match .keys4) (c .if4 .taken)
-
--- src/conforms.rt:64:33
-conforms-u16-at-requires-3 : (t : ℕ) → conforms-lts.Need-u16-at-requires-3 (
-  members-conform-below t,
-  members-conform.Post,
-  record-conforms-below t,
-  record-conforms.Post,
-  u16-at-reads.Asked,
-  u16-at-reads.Learnt,
-  stands-reads.Asked,
-  stands-reads.Learnt,
-  tested-reads.Asked,
-  tested-reads.Learnt,
-  is-action-of-reads.Asked,
-  is-action-of-reads.Learnt,
-  call-returns-reads.Asked,
-  call-returns-reads.Learnt,
-  takes-kind-reads.Asked,
-  takes-kind-reads.Learnt,
-) (conforms-at t) conforms.Post
-conforms-u16-at-requires-3 t c κs = let s = (c .before .before .before .before .before .before .before) in omega (arith, uid-length (s .args .levels) (s .args .t .now) (s .args .v .now) (s .pre .1 .1 .0) (s .pre .1 .1 .1) (c .if4 .left))
-
--- src/conforms.rt:64:47
-conforms-u16-at-requires-4 : (t : ℕ) → conforms-lts.Need-u16-at-requires-4 (
-  members-conform-below t,
-  members-conform.Post,
-  record-conforms-below t,
-  record-conforms.Post,
-  u16-at-reads.Asked,
-  u16-at-reads.Learnt,
-  stands-reads.Asked,
-  stands-reads.Learnt,
-  tested-reads.Asked,
-  tested-reads.Learnt,
-  is-action-of-reads.Asked,
-  is-action-of-reads.Learnt,
-  call-returns-reads.Asked,
-  call-returns-reads.Learnt,
-  takes-kind-reads.Asked,
-  takes-kind-reads.Learnt,
-) (conforms-at t) conforms.Post
-conforms-u16-at-requires-4 t c κs = let s = (c .before .before .before .before .before .before .before .before) in omega (arith, is-action (s .args .levels) (s .args .t .now) (s .pre .1 .1 .0) ((c .before .before) .match .keys4) .some)
-
--- src/conforms.rt:64:20
-conforms-is-action-of-requires : (t : ℕ) → conforms-lts.Need-is-action-of-requires (
-  members-conform-below t,
-  members-conform.Post,
-  record-conforms-below t,
-  record-conforms.Post,
-  u16-at-reads.Asked,
-  u16-at-reads.Learnt,
-  stands-reads.Asked,
-  stands-reads.Learnt,
-  tested-reads.Asked,
-  tested-reads.Learnt,
-  is-action-of-reads.Asked,
-  is-action-of-reads.Learnt,
-  call-returns-reads.Asked,
-  call-returns-reads.Learnt,
-  takes-kind-reads.Asked,
-  takes-kind-reads.Learnt,
-) (conforms-at t) conforms.Post
-conforms-is-action-of-requires t c κs = search needs
-
--- src/conforms.rt:64:13
-conforms-tested-requires-2 : (t : ℕ) → conforms-lts.Need-tested-requires-2 (
-  members-conform-below t,
-  members-conform.Post,
-  record-conforms-below t,
-  record-conforms.Post,
-  u16-at-reads.Asked,
-  u16-at-reads.Learnt,
-  stands-reads.Asked,
-  stands-reads.Learnt,
-  tested-reads.Asked,
-  tested-reads.Learnt,
-  is-action-of-reads.Asked,
-  is-action-of-reads.Learnt,
-  call-returns-reads.Asked,
-  call-returns-reads.Learnt,
-  takes-kind-reads.Asked,
-  takes-kind-reads.Learnt,
-) (conforms-at t) conforms.Post
-conforms-tested-requires-2 t c κs = search needs
-
--- src/conforms.rt:68:17
-conforms-returns-5 : (t : ℕ) → conforms-lts.Need-returns-5 (
-  members-conform-below t,
-  members-conform.Post,
-  record-conforms-below t,
-  record-conforms.Post,
-  u16-at-reads.Asked,
-  u16-at-reads.Learnt,
-  stands-reads.Asked,
-  stands-reads.Learnt,
-  tested-reads.Asked,
-  tested-reads.Learnt,
-  is-action-of-reads.Asked,
-  is-action-of-reads.Learnt,
-  call-returns-reads.Asked,
-  call-returns-reads.Learnt,
-  takes-kind-reads.Asked,
-  takes-kind-reads.Learnt,
-) (conforms-at t) conforms.Post
-conforms-returns-5 t c = let s = (c .before .before .before .before .before .before .before) in extension-not _ (s .args .levels) (s .args .t .now) (s .args .v .now) (s .pre .1 .1 .0) (s .pre .1 .1 .1) ((c .before) .match .keys5) (c .if5 .taken)
-
--- src/conforms.rt:70:47
-conforms-u16-at-requires-5 : (t : ℕ) → conforms-lts.Need-u16-at-requires-5 (
-  members-conform-below t,
-  members-conform.Post,
-  record-conforms-below t,
-  record-conforms.Post,
-  u16-at-reads.Asked,
-  u16-at-reads.Learnt,
-  stands-reads.Asked,
-  stands-reads.Learnt,
-  tested-reads.Asked,
-  tested-reads.Learnt,
-  is-action-of-reads.Asked,
-  is-action-of-reads.Learnt,
-  call-returns-reads.Asked,
-  call-returns-reads.Learnt,
-  takes-kind-reads.Asked,
-  takes-kind-reads.Learnt,
-) (conforms-at t) conforms.Post
-conforms-u16-at-requires-5 t c κs = let s = (c .before .before .before .before .before .before .before) in omega (arith, is-extension (s .args .levels) (s .args .t .now) (s .pre .1 .1 .0) ((c .before) .match .keys5) .sized)
-
--- src/conforms.rt:70:61
-conforms-sub-call-returns : (t : ℕ) → conforms-lts.Need-sub-call-returns (
-  members-conform-below t,
-  members-conform.Post,
-  record-conforms-below t,
-  record-conforms.Post,
-  u16-at-reads.Asked,
-  u16-at-reads.Learnt,
-  stands-reads.Asked,
-  stands-reads.Learnt,
-  tested-reads.Asked,
-  tested-reads.Learnt,
-  is-action-of-reads.Asked,
-  is-action-of-reads.Learnt,
-  call-returns-reads.Asked,
-  call-returns-reads.Learnt,
-  takes-kind-reads.Asked,
-  takes-kind-reads.Learnt,
-) (conforms-at t) conforms.Post
-conforms-sub-call-returns t c = let s = (c .before .before .before .before .before .before .before .before) in omega (arith, value-level (s .args .levels) (s .args .v .now) (s .pre .1 .1 .1))
-
--- src/conforms.rt:70:13
-conforms-call-returns-requires : (t : ℕ) → conforms-lts.Need-call-returns-requires (
-  members-conform-below t,
-  members-conform.Post,
-  record-conforms-below t,
-  record-conforms.Post,
-  u16-at-reads.Asked,
-  u16-at-reads.Learnt,
-  stands-reads.Asked,
-  stands-reads.Learnt,
-  tested-reads.Asked,
-  tested-reads.Learnt,
-  is-action-of-reads.Asked,
-  is-action-of-reads.Learnt,
-  call-returns-reads.Asked,
-  call-returns-reads.Learnt,
-  takes-kind-reads.Asked,
-  takes-kind-reads.Learnt,
-) (conforms-at t) conforms.Post
-conforms-call-returns-requires t c κs = let s = (c .before .before .before .before .before .before .before .before) in (s .pre .1 .0, value-as (s .args .levels) (s .args .v .now) (s .pre .1 .1 .1) 7 ((c .before) .if5 .left))
-
--- src/conforms.rt:72:21
+-- src/conforms.rt:39:9
 conforms-takes-kind-requires : (t : ℕ) → conforms-lts.Need-takes-kind-requires (
+  takes-kind-reads.Asked,
+  takes-kind-reads.Learnt,
   members-conform-below t,
   members-conform.Post,
   record-conforms-below t,
@@ -719,13 +175,13 @@ conforms-takes-kind-requires : (t : ℕ) → conforms-lts.Need-takes-kind-requir
   is-action-of-reads.Learnt,
   call-returns-reads.Asked,
   call-returns-reads.Learnt,
-  takes-kind-reads.Asked,
-  takes-kind-reads.Learnt,
 ) (conforms-at t) conforms.Post
 conforms-takes-kind-requires t c κs = search needs
 
--- src/conforms.rt:72:14
-conforms-tested-requires-3 : (t : ℕ) → conforms-lts.Need-tested-requires-3 (
+-- src/conforms.rt:40:9
+conforms-returns : (t : ℕ) → conforms-lts.Need-returns (
+  takes-kind-reads.Asked,
+  takes-kind-reads.Learnt,
   members-conform-below t,
   members-conform.Post,
   record-conforms-below t,
@@ -740,13 +196,538 @@ conforms-tested-requires-3 : (t : ℕ) → conforms-lts.Need-tested-requires-3 (
   is-action-of-reads.Learnt,
   call-returns-reads.Asked,
   call-returns-reads.Learnt,
+) (conforms-at t) conforms.Post
+conforms-returns t c = let s = (c .before .before .before .before .before .before .before) in let q = (c .before) .takes-kind in kind-not _ (s .args .levels) (s .args .t .now) (s .args .v .now) (s .pre .1 .1 .0) (s .pre .1 .1 .1) (q .result) (q .ensures) (c .if1 .taken)
+
+-- src/conforms.rt:43:56
+conforms-sub-members-conform : (t : ℕ) → conforms-lts.Need-sub-members-conform (
   takes-kind-reads.Asked,
   takes-kind-reads.Learnt,
+  members-conform-below t,
+  members-conform.Post,
+  record-conforms-below t,
+  record-conforms.Post,
+  u16-at-reads.Asked,
+  u16-at-reads.Learnt,
+  stands-reads.Asked,
+  stands-reads.Learnt,
+  tested-reads.Asked,
+  tested-reads.Learnt,
+  is-action-of-reads.Asked,
+  is-action-of-reads.Learnt,
+  call-returns-reads.Asked,
+  call-returns-reads.Learnt,
 ) (conforms-at t) conforms.Post
-conforms-tested-requires-3 t c κs = search needs
+conforms-sub-members-conform t c = let s = (c .before .before .before .before .before .before .before .before) in omega (arith, not-empty (s .args .levels) (s .args .t .now) (s .pre .1 .1 .0))
 
--- src/conforms.rt:33:1
+-- src/conforms.rt:43:56
+conforms-part-members-conform-start : (t : ℕ) → conforms-lts.Need-part-members-conform-start (
+  takes-kind-reads.Asked,
+  takes-kind-reads.Learnt,
+  members-conform-below t,
+  members-conform.Post,
+  record-conforms-below t,
+  record-conforms.Post,
+  u16-at-reads.Asked,
+  u16-at-reads.Learnt,
+  stands-reads.Asked,
+  stands-reads.Learnt,
+  tested-reads.Asked,
+  tested-reads.Learnt,
+  is-action-of-reads.Asked,
+  is-action-of-reads.Learnt,
+  call-returns-reads.Asked,
+  call-returns-reads.Learnt,
+) (conforms-at t) conforms.Post
+conforms-part-members-conform-start t c = let s = (c .before .before .before .before .before .before .before .before) in omega (arith, not-empty (s .args .levels) (s .args .t .now) (s .pre .1 .1 .0))
+
+-- src/conforms.rt:43:56
+conforms-part-members-conform-end : (t : ℕ) → conforms-lts.Need-part-members-conform-end (
+  takes-kind-reads.Asked,
+  takes-kind-reads.Learnt,
+  members-conform-below t,
+  members-conform.Post,
+  record-conforms-below t,
+  record-conforms.Post,
+  u16-at-reads.Asked,
+  u16-at-reads.Learnt,
+  stands-reads.Asked,
+  stands-reads.Learnt,
+  tested-reads.Asked,
+  tested-reads.Learnt,
+  is-action-of-reads.Asked,
+  is-action-of-reads.Learnt,
+  call-returns-reads.Asked,
+  call-returns-reads.Learnt,
+) (conforms-at t) conforms.Post
+conforms-part-members-conform-end t c = search needs
+
+-- src/conforms.rt:43:68
+conforms-sub-members-conform-2 : (t : ℕ) → conforms-lts.Need-sub-members-conform-2 (
+  takes-kind-reads.Asked,
+  takes-kind-reads.Learnt,
+  members-conform-below t,
+  members-conform.Post,
+  record-conforms-below t,
+  record-conforms.Post,
+  u16-at-reads.Asked,
+  u16-at-reads.Learnt,
+  stands-reads.Asked,
+  stands-reads.Learnt,
+  tested-reads.Asked,
+  tested-reads.Learnt,
+  is-action-of-reads.Asked,
+  is-action-of-reads.Learnt,
+  call-returns-reads.Asked,
+  call-returns-reads.Learnt,
+) (conforms-at t) conforms.Post
+conforms-sub-members-conform-2 t c = let s = (c .before .before .before .before .before .before .before .before .before) in omega (arith, value-level (s .args .levels) (s .args .v .now) (s .pre .1 .1 .1))
+
+-- src/conforms.rt:43:22
+conforms-members-conform-requires : (t : ℕ) → conforms-lts.Need-members-conform-requires (
+  takes-kind-reads.Asked,
+  takes-kind-reads.Learnt,
+  members-conform-below t,
+  members-conform.Post,
+  record-conforms-below t,
+  record-conforms.Post,
+  u16-at-reads.Asked,
+  u16-at-reads.Learnt,
+  stands-reads.Asked,
+  stands-reads.Learnt,
+  tested-reads.Asked,
+  tested-reads.Learnt,
+  is-action-of-reads.Asked,
+  is-action-of-reads.Learnt,
+  call-returns-reads.Asked,
+  call-returns-reads.Learnt,
+) (conforms-at t) conforms.Post
+conforms-members-conform-requires t c κs = let s = (c .before .before .before .before .before .before .before .before .before) in let q = (c .before .before .before) .takes-kind in (omega (arith, s .pre .0, value-level (s .args .levels) (s .args .v .now) (s .pre .1 .1 .1)), (s .pre .1 .0, (is-set (s .args .levels) (s .args .t .now) (s .pre .1 .1 .0) ((c .before) .match .keys1) .good, value-as (s .args .levels) (s .args .v .now) (s .pre .1 .1 .1) 5 (taken-kind (s .args .t .now) (s .args .v .now) (q .result) (q .ensures) ((c .before .before) .if1 .left) 7 5 ((c .before) .match .keys1) refl))))
+
+-- src/conforms.rt:44:65
+conforms-sub-record-conforms : (t : ℕ) → conforms-lts.Need-sub-record-conforms (
+  takes-kind-reads.Asked,
+  takes-kind-reads.Learnt,
+  members-conform-below t,
+  members-conform.Post,
+  record-conforms-below t,
+  record-conforms.Post,
+  u16-at-reads.Asked,
+  u16-at-reads.Learnt,
+  stands-reads.Asked,
+  stands-reads.Learnt,
+  tested-reads.Asked,
+  tested-reads.Learnt,
+  is-action-of-reads.Asked,
+  is-action-of-reads.Learnt,
+  call-returns-reads.Asked,
+  call-returns-reads.Learnt,
+) (conforms-at t) conforms.Post
+conforms-sub-record-conforms t c = let s = (c .before .before .before .before .before .before .before .before) in omega (arith, value-level (s .args .levels) (s .args .v .now) (s .pre .1 .1 .1))
+
+-- src/conforms.rt:44:25
+conforms-record-conforms-requires : (t : ℕ) → conforms-lts.Need-record-conforms-requires (
+  takes-kind-reads.Asked,
+  takes-kind-reads.Learnt,
+  members-conform-below t,
+  members-conform.Post,
+  record-conforms-below t,
+  record-conforms.Post,
+  u16-at-reads.Asked,
+  u16-at-reads.Learnt,
+  stands-reads.Asked,
+  stands-reads.Learnt,
+  tested-reads.Asked,
+  tested-reads.Learnt,
+  is-action-of-reads.Asked,
+  is-action-of-reads.Learnt,
+  call-returns-reads.Asked,
+  call-returns-reads.Learnt,
+) (conforms-at t) conforms.Post
+conforms-record-conforms-requires t c κs = let s = (c .before .before .before .before .before .before .before .before) in let q = (c .before .before) .takes-kind in (omega (arith, s .pre .0, value-level (s .args .levels) (s .args .v .now) (s .pre .1 .1 .1)), (s .pre .1 .0, (record-parts (s .args .levels) (s .args .t .now) (s .args .v .now) (s .pre .1 .1 .0) (s .pre .1 .1 .1) (c .match .keys2), value-as (s .args .levels) (s .args .v .now) (s .pre .1 .1 .1) 6 (taken-kind (s .args .t .now) (s .args .v .now) (q .result) (q .ensures) ((c .before) .if1 .left) 8 6 (c .match .keys2) refl))))
+
+-- src/conforms.rt:45:39
+conforms-sub-stands : (t : ℕ) → conforms-lts.Need-sub-stands (
+  takes-kind-reads.Asked,
+  takes-kind-reads.Learnt,
+  members-conform-below t,
+  members-conform.Post,
+  record-conforms-below t,
+  record-conforms.Post,
+  u16-at-reads.Asked,
+  u16-at-reads.Learnt,
+  stands-reads.Asked,
+  stands-reads.Learnt,
+  tested-reads.Asked,
+  tested-reads.Learnt,
+  is-action-of-reads.Asked,
+  is-action-of-reads.Learnt,
+  call-returns-reads.Asked,
+  call-returns-reads.Learnt,
+) (conforms-at t) conforms.Post
+conforms-sub-stands t c = let s = (c .before .before .before .before .before .before .before .before) in omega (arith, is-entity (s .args .levels) (s .args .t .now) (s .pre .1 .1 .0) (c .match .keys3) .some)
+
+-- src/conforms.rt:45:39
+conforms-part-stands-start : (t : ℕ) → conforms-lts.Need-part-stands-start (
+  takes-kind-reads.Asked,
+  takes-kind-reads.Learnt,
+  members-conform-below t,
+  members-conform.Post,
+  record-conforms-below t,
+  record-conforms.Post,
+  u16-at-reads.Asked,
+  u16-at-reads.Learnt,
+  stands-reads.Asked,
+  stands-reads.Learnt,
+  tested-reads.Asked,
+  tested-reads.Learnt,
+  is-action-of-reads.Asked,
+  is-action-of-reads.Learnt,
+  call-returns-reads.Asked,
+  call-returns-reads.Learnt,
+) (conforms-at t) conforms.Post
+conforms-part-stands-start t c = let s = (c .before .before .before .before .before .before .before .before) in omega (arith, is-entity (s .args .levels) (s .args .t .now) (s .pre .1 .1 .0) (c .match .keys3) .some)
+
+-- src/conforms.rt:45:39
+conforms-part-stands-end : (t : ℕ) → conforms-lts.Need-part-stands-end (
+  takes-kind-reads.Asked,
+  takes-kind-reads.Learnt,
+  members-conform-below t,
+  members-conform.Post,
+  record-conforms-below t,
+  record-conforms.Post,
+  u16-at-reads.Asked,
+  u16-at-reads.Learnt,
+  stands-reads.Asked,
+  stands-reads.Learnt,
+  tested-reads.Asked,
+  tested-reads.Learnt,
+  is-action-of-reads.Asked,
+  is-action-of-reads.Learnt,
+  call-returns-reads.Asked,
+  call-returns-reads.Learnt,
+) (conforms-at t) conforms.Post
+conforms-part-stands-end t c = search needs
+
+-- src/conforms.rt:45:48
+conforms-u16-at-requires : (t : ℕ) → conforms-lts.Need-u16-at-requires (
+  takes-kind-reads.Asked,
+  takes-kind-reads.Learnt,
+  members-conform-below t,
+  members-conform.Post,
+  record-conforms-below t,
+  record-conforms.Post,
+  u16-at-reads.Asked,
+  u16-at-reads.Learnt,
+  stands-reads.Asked,
+  stands-reads.Learnt,
+  tested-reads.Asked,
+  tested-reads.Learnt,
+  is-action-of-reads.Asked,
+  is-action-of-reads.Learnt,
+  call-returns-reads.Asked,
+  call-returns-reads.Learnt,
+) (conforms-at t) conforms.Post
+conforms-u16-at-requires t c κs = let s = (c .before .before .before .before .before .before .before .before .before) in omega (arith, is-entity (s .args .levels) (s .args .t .now) (s .pre .1 .1 .0) ((c .before) .match .keys3) .some)
+
+-- src/conforms.rt:45:62
+conforms-u16-at-requires-2 : (t : ℕ) → conforms-lts.Need-u16-at-requires-2 (
+  takes-kind-reads.Asked,
+  takes-kind-reads.Learnt,
+  members-conform-below t,
+  members-conform.Post,
+  record-conforms-below t,
+  record-conforms.Post,
+  u16-at-reads.Asked,
+  u16-at-reads.Learnt,
+  stands-reads.Asked,
+  stands-reads.Learnt,
+  tested-reads.Asked,
+  tested-reads.Learnt,
+  is-action-of-reads.Asked,
+  is-action-of-reads.Learnt,
+  call-returns-reads.Asked,
+  call-returns-reads.Learnt,
+) (conforms-at t) conforms.Post
+conforms-u16-at-requires-2 t c κs = let s = (c .before .before .before .before .before .before .before .before .before .before) in let q = (c .before .before .before .before) .takes-kind in omega (arith, uid-length (s .args .levels) (s .args .t .now) (s .args .v .now) (s .pre .1 .1 .0) (s .pre .1 .1 .1) (taken-kind (s .args .t .now) (s .args .v .now) (q .result) (q .ensures) ((c .before .before .before) .if1 .left) 10 4 ((c .before .before) .match .keys3) refl))
+
+-- src/conforms.rt:45:32
+conforms-stands-requires : (t : ℕ) → conforms-lts.Need-stands-requires (
+  takes-kind-reads.Asked,
+  takes-kind-reads.Learnt,
+  members-conform-below t,
+  members-conform.Post,
+  record-conforms-below t,
+  record-conforms.Post,
+  u16-at-reads.Asked,
+  u16-at-reads.Learnt,
+  stands-reads.Asked,
+  stands-reads.Learnt,
+  tested-reads.Asked,
+  tested-reads.Learnt,
+  is-action-of-reads.Asked,
+  is-action-of-reads.Learnt,
+  call-returns-reads.Asked,
+  call-returns-reads.Learnt,
+) (conforms-at t) conforms.Post
+conforms-stands-requires t c κs = let s = (c .before .before .before .before .before .before .before .before .before .before .before) in omega (arith, length-rest 3 (s .args .t .now), is-entity (s .args .levels) (s .args .t .now) (s .pre .1 .1 .0) ((c .before .before .before) .match .keys3) .sized, (c .before) .u16-at .ensures .0)
+
+-- src/conforms.rt:45:25
+conforms-tested-requires : (t : ℕ) → conforms-lts.Need-tested-requires (
+  takes-kind-reads.Asked,
+  takes-kind-reads.Learnt,
+  members-conform-below t,
+  members-conform.Post,
+  record-conforms-below t,
+  record-conforms.Post,
+  u16-at-reads.Asked,
+  u16-at-reads.Learnt,
+  stands-reads.Asked,
+  stands-reads.Learnt,
+  tested-reads.Asked,
+  tested-reads.Learnt,
+  is-action-of-reads.Asked,
+  is-action-of-reads.Learnt,
+  call-returns-reads.Asked,
+  call-returns-reads.Learnt,
+) (conforms-at t) conforms.Post
+conforms-tested-requires t c κs = search needs
+
+-- src/conforms.rt:46:45
+conforms-u16-at-requires-3 : (t : ℕ) → conforms-lts.Need-u16-at-requires-3 (
+  takes-kind-reads.Asked,
+  takes-kind-reads.Learnt,
+  members-conform-below t,
+  members-conform.Post,
+  record-conforms-below t,
+  record-conforms.Post,
+  u16-at-reads.Asked,
+  u16-at-reads.Learnt,
+  stands-reads.Asked,
+  stands-reads.Learnt,
+  tested-reads.Asked,
+  tested-reads.Learnt,
+  is-action-of-reads.Asked,
+  is-action-of-reads.Learnt,
+  call-returns-reads.Asked,
+  call-returns-reads.Learnt,
+) (conforms-at t) conforms.Post
+conforms-u16-at-requires-3 t c κs = let s = (c .before .before .before .before .before .before .before .before) in let q = (c .before .before) .takes-kind in omega (arith, uid-length (s .args .levels) (s .args .t .now) (s .args .v .now) (s .pre .1 .1 .0) (s .pre .1 .1 .1) (taken-kind (s .args .t .now) (s .args .v .now) (q .result) (q .ensures) ((c .before) .if1 .left) 11 4 (c .match .keys4) refl))
+
+-- src/conforms.rt:46:59
+conforms-u16-at-requires-4 : (t : ℕ) → conforms-lts.Need-u16-at-requires-4 (
+  takes-kind-reads.Asked,
+  takes-kind-reads.Learnt,
+  members-conform-below t,
+  members-conform.Post,
+  record-conforms-below t,
+  record-conforms.Post,
+  u16-at-reads.Asked,
+  u16-at-reads.Learnt,
+  stands-reads.Asked,
+  stands-reads.Learnt,
+  tested-reads.Asked,
+  tested-reads.Learnt,
+  is-action-of-reads.Asked,
+  is-action-of-reads.Learnt,
+  call-returns-reads.Asked,
+  call-returns-reads.Learnt,
+) (conforms-at t) conforms.Post
+conforms-u16-at-requires-4 t c κs = let s = (c .before .before .before .before .before .before .before .before .before) in omega (arith, is-action (s .args .levels) (s .args .t .now) (s .pre .1 .1 .0) ((c .before) .match .keys4) .some)
+
+-- src/conforms.rt:46:32
+conforms-is-action-of-requires : (t : ℕ) → conforms-lts.Need-is-action-of-requires (
+  takes-kind-reads.Asked,
+  takes-kind-reads.Learnt,
+  members-conform-below t,
+  members-conform.Post,
+  record-conforms-below t,
+  record-conforms.Post,
+  u16-at-reads.Asked,
+  u16-at-reads.Learnt,
+  stands-reads.Asked,
+  stands-reads.Learnt,
+  tested-reads.Asked,
+  tested-reads.Learnt,
+  is-action-of-reads.Asked,
+  is-action-of-reads.Learnt,
+  call-returns-reads.Asked,
+  call-returns-reads.Learnt,
+) (conforms-at t) conforms.Post
+conforms-is-action-of-requires t c κs = search needs
+
+-- src/conforms.rt:46:25
+conforms-tested-requires-2 : (t : ℕ) → conforms-lts.Need-tested-requires-2 (
+  takes-kind-reads.Asked,
+  takes-kind-reads.Learnt,
+  members-conform-below t,
+  members-conform.Post,
+  record-conforms-below t,
+  record-conforms.Post,
+  u16-at-reads.Asked,
+  u16-at-reads.Learnt,
+  stands-reads.Asked,
+  stands-reads.Learnt,
+  tested-reads.Asked,
+  tested-reads.Learnt,
+  is-action-of-reads.Asked,
+  is-action-of-reads.Learnt,
+  call-returns-reads.Asked,
+  call-returns-reads.Learnt,
+) (conforms-at t) conforms.Post
+conforms-tested-requires-2 t c κs = search needs
+
+-- src/conforms.rt:47:62
+conforms-u16-at-requires-5 : (t : ℕ) → conforms-lts.Need-u16-at-requires-5 (
+  takes-kind-reads.Asked,
+  takes-kind-reads.Learnt,
+  members-conform-below t,
+  members-conform.Post,
+  record-conforms-below t,
+  record-conforms.Post,
+  u16-at-reads.Asked,
+  u16-at-reads.Learnt,
+  stands-reads.Asked,
+  stands-reads.Learnt,
+  tested-reads.Asked,
+  tested-reads.Learnt,
+  is-action-of-reads.Asked,
+  is-action-of-reads.Learnt,
+  call-returns-reads.Asked,
+  call-returns-reads.Learnt,
+) (conforms-at t) conforms.Post
+conforms-u16-at-requires-5 t c κs = let s = (c .before .before .before .before .before .before .before .before) in omega (arith, is-extension (s .args .levels) (s .args .t .now) (s .pre .1 .1 .0) (c .match .keys5) .sized)
+
+-- src/conforms.rt:47:76
+conforms-sub-call-returns : (t : ℕ) → conforms-lts.Need-sub-call-returns (
+  takes-kind-reads.Asked,
+  takes-kind-reads.Learnt,
+  members-conform-below t,
+  members-conform.Post,
+  record-conforms-below t,
+  record-conforms.Post,
+  u16-at-reads.Asked,
+  u16-at-reads.Learnt,
+  stands-reads.Asked,
+  stands-reads.Learnt,
+  tested-reads.Asked,
+  tested-reads.Learnt,
+  is-action-of-reads.Asked,
+  is-action-of-reads.Learnt,
+  call-returns-reads.Asked,
+  call-returns-reads.Learnt,
+) (conforms-at t) conforms.Post
+conforms-sub-call-returns t c = let s = (c .before .before .before .before .before .before .before .before .before) in omega (arith, value-level (s .args .levels) (s .args .v .now) (s .pre .1 .1 .1))
+
+-- src/conforms.rt:47:28
+conforms-call-returns-requires : (t : ℕ) → conforms-lts.Need-call-returns-requires (
+  takes-kind-reads.Asked,
+  takes-kind-reads.Learnt,
+  members-conform-below t,
+  members-conform.Post,
+  record-conforms-below t,
+  record-conforms.Post,
+  u16-at-reads.Asked,
+  u16-at-reads.Learnt,
+  stands-reads.Asked,
+  stands-reads.Learnt,
+  tested-reads.Asked,
+  tested-reads.Learnt,
+  is-action-of-reads.Asked,
+  is-action-of-reads.Learnt,
+  call-returns-reads.Asked,
+  call-returns-reads.Learnt,
+) (conforms-at t) conforms.Post
+conforms-call-returns-requires t c κs = let s = (c .before .before .before .before .before .before .before .before .before) in let q = (c .before .before .before) .takes-kind in (s .pre .1 .0, value-as (s .args .levels) (s .args .v .now) (s .pre .1 .1 .1) 7 (taken-kind (s .args .t .now) (s .args .v .now) (q .result) (q .ensures) ((c .before .before) .if1 .left) 12 7 ((c .before) .match .keys5) refl))
+
+-- src/conforms.rt:32:1
+conforms-returns-2 : (t : ℕ) → conforms-lts.Need-returns-2 (
+  takes-kind-reads.Asked,
+  takes-kind-reads.Learnt,
+  members-conform-below t,
+  members-conform.Post,
+  record-conforms-below t,
+  record-conforms.Post,
+  u16-at-reads.Asked,
+  u16-at-reads.Learnt,
+  stands-reads.Asked,
+  stands-reads.Learnt,
+  tested-reads.Asked,
+  tested-reads.Learnt,
+  is-action-of-reads.Asked,
+  is-action-of-reads.Learnt,
+  call-returns-reads.Asked,
+  call-returns-reads.Learnt,
+) (conforms-at t) conforms.Post
+conforms-returns-2 t c = let s = (c .before .before .before .before .before .before .before .before .before .before) in let q = (c .before .before .before .before) .takes-kind in c .members-conform .ensures ∙ set-members _ (s .args .levels) (s .args .t .now) (s .args .v .now) (s .pre .1 .1 .0) (s .pre .1 .1 .1) ((c .before .before) .match .keys1) (taken-kind (s .args .t .now) (s .args .v .now) (q .result) (q .ensures) ((c .before .before .before) .if1 .left) 7 5 ((c .before .before) .match .keys1) refl)
+
+-- src/conforms.rt:32:1
+conforms-returns-3 : (t : ℕ) → conforms-lts.Need-returns-3 (
+  takes-kind-reads.Asked,
+  takes-kind-reads.Learnt,
+  members-conform-below t,
+  members-conform.Post,
+  record-conforms-below t,
+  record-conforms.Post,
+  u16-at-reads.Asked,
+  u16-at-reads.Learnt,
+  stands-reads.Asked,
+  stands-reads.Learnt,
+  tested-reads.Asked,
+  tested-reads.Learnt,
+  is-action-of-reads.Asked,
+  is-action-of-reads.Learnt,
+  call-returns-reads.Asked,
+  call-returns-reads.Learnt,
+) (conforms-at t) conforms.Post
+conforms-returns-3 t c = let s = (c .before .before .before .before .before .before .before .before .before) in let q = (c .before .before .before) .takes-kind in c .record-conforms .ensures ∙ record-pairs _ (s .args .levels) (s .args .t .now) (s .args .v .now) (s .pre .1 .1 .0) (s .pre .1 .1 .1) ((c .before) .match .keys2) (taken-kind (s .args .t .now) (s .args .v .now) (q .result) (q .ensures) ((c .before .before) .if1 .left) 8 6 ((c .before) .match .keys2) refl)
+
+-- src/conforms.rt:32:1
+conforms-returns-4 : (t : ℕ) → conforms-lts.Need-returns-4 (
+  takes-kind-reads.Asked,
+  takes-kind-reads.Learnt,
+  members-conform-below t,
+  members-conform.Post,
+  record-conforms-below t,
+  record-conforms.Post,
+  u16-at-reads.Asked,
+  u16-at-reads.Learnt,
+  stands-reads.Asked,
+  stands-reads.Learnt,
+  tested-reads.Asked,
+  tested-reads.Learnt,
+  is-action-of-reads.Asked,
+  is-action-of-reads.Learnt,
+  call-returns-reads.Asked,
+  call-returns-reads.Learnt,
+) (conforms-at t) conforms.Post
+conforms-returns-4 t c = let s = (c .before .before .before .before .before .before .before .before .before .before .before .before .before) in let q = (c .before .before .before .before .before .before .before) .takes-kind in c .tested .ensures ∙ ap (λ (b : Bool). verdictOf (verdict b)) ((c .before) .stands .ensures) ∙ entity-names _ (s .args .levels) (s .args .t .now) (s .args .v .now) (s .pre .1 .1 .0) (s .pre .1 .1 .1) ((c .before .before .before .before .before) .match .keys3) (taken-kind (s .args .t .now) (s .args .v .now) (q .result) (q .ensures) ((c .before .before .before .before .before .before) .if1 .left) 10 4 ((c .before .before .before .before .before) .match .keys3) refl) ((c .before .before .before) .u16-at .result) ((c .before .before) .u16-at2 .result) ((c .before .before .before) .u16-at .ensures .0) ((c .before .before) .u16-at2 .ensures .0)
+
+-- src/conforms.rt:32:1
+conforms-returns-5 : (t : ℕ) → conforms-lts.Need-returns-5 (
+  takes-kind-reads.Asked,
+  takes-kind-reads.Learnt,
+  members-conform-below t,
+  members-conform.Post,
+  record-conforms-below t,
+  record-conforms.Post,
+  u16-at-reads.Asked,
+  u16-at-reads.Learnt,
+  stands-reads.Asked,
+  stands-reads.Learnt,
+  tested-reads.Asked,
+  tested-reads.Learnt,
+  is-action-of-reads.Asked,
+  is-action-of-reads.Learnt,
+  call-returns-reads.Asked,
+  call-returns-reads.Learnt,
+) (conforms-at t) conforms.Post
+conforms-returns-5 t c = let s = (c .before .before .before .before .before .before .before .before .before .before .before .before) in let q = (c .before .before .before .before .before .before) .takes-kind in c .tested2 .ensures ∙ ap (λ (b : Bool). verdictOf (verdict b)) ((c .before) .is-action-of .ensures) ∙ action-name _ (s .args .levels) (s .args .t .now) (s .args .v .now) (s .pre .1 .1 .0) (s .pre .1 .1 .1) ((c .before .before .before .before) .match .keys4) (taken-kind (s .args .t .now) (s .args .v .now) (q .result) (q .ensures) ((c .before .before .before .before .before) .if1 .left) 11 4 ((c .before .before .before .before) .match .keys4) refl) ((c .before .before .before) .u16-at3 .result) ((c .before .before) .u16-at4 .result) ((c .before .before .before) .u16-at3 .ensures .0) ((c .before .before) .u16-at4 .ensures .0)
+
+-- src/conforms.rt:32:1
 conforms-returns-6 : (t : ℕ) → conforms-lts.Need-returns-6 (
+  takes-kind-reads.Asked,
+  takes-kind-reads.Learnt,
   members-conform-below t,
   members-conform.Post,
   record-conforms-below t,
@@ -761,13 +742,13 @@ conforms-returns-6 : (t : ℕ) → conforms-lts.Need-returns-6 (
   is-action-of-reads.Learnt,
   call-returns-reads.Asked,
   call-returns-reads.Learnt,
-  takes-kind-reads.Asked,
-  takes-kind-reads.Learnt,
 ) (conforms-at t) conforms.Post
-conforms-returns-6 t c = let s = (c .before .before .before .before .before .before .before .before .before) in c .members-conform .ensures ∙ set-members _ (s .args .levels) (s .args .t .now) (s .args .v .now) (s .pre .1 .1 .0) (s .pre .1 .1 .1) ((c .before .before .before) .match .keys1) ((c .before .before) .if1 .left)
+conforms-returns-6 t c = let s = (c .before .before .before .before .before .before .before .before .before .before) in let q = (c .before .before .before .before) .takes-kind in c .call-returns .ensures ∙ extension-call _ (s .args .levels) (s .args .t .now) (s .args .v .now) (s .pre .1 .1 .0) (s .pre .1 .1 .1) ((c .before .before) .match .keys5) (taken-kind (s .args .t .now) (s .args .v .now) (q .result) (q .ensures) ((c .before .before .before) .if1 .left) 12 7 ((c .before .before) .match .keys5) refl) ((c .before) .u16-at5 .result) ((c .before) .u16-at5 .ensures .0)
 
--- src/conforms.rt:33:1
+-- src/conforms.rt:32:1
 conforms-returns-7 : (t : ℕ) → conforms-lts.Need-returns-7 (
+  takes-kind-reads.Asked,
+  takes-kind-reads.Learnt,
   members-conform-below t,
   members-conform.Post,
   record-conforms-below t,
@@ -782,94 +763,8 @@ conforms-returns-7 : (t : ℕ) → conforms-lts.Need-returns-7 (
   is-action-of-reads.Learnt,
   call-returns-reads.Asked,
   call-returns-reads.Learnt,
-  takes-kind-reads.Asked,
-  takes-kind-reads.Learnt,
 ) (conforms-at t) conforms.Post
-conforms-returns-7 t c = let s = (c .before .before .before .before .before .before .before .before) in c .record-conforms .ensures ∙ record-pairs _ (s .args .levels) (s .args .t .now) (s .args .v .now) (s .pre .1 .1 .0) (s .pre .1 .1 .1) ((c .before .before) .match .keys2) ((c .before) .if2 .left)
-
--- src/conforms.rt:33:1
-conforms-returns-8 : (t : ℕ) → conforms-lts.Need-returns-8 (
-  members-conform-below t,
-  members-conform.Post,
-  record-conforms-below t,
-  record-conforms.Post,
-  u16-at-reads.Asked,
-  u16-at-reads.Learnt,
-  stands-reads.Asked,
-  stands-reads.Learnt,
-  tested-reads.Asked,
-  tested-reads.Learnt,
-  is-action-of-reads.Asked,
-  is-action-of-reads.Learnt,
-  call-returns-reads.Asked,
-  call-returns-reads.Learnt,
-  takes-kind-reads.Asked,
-  takes-kind-reads.Learnt,
-) (conforms-at t) conforms.Post
-conforms-returns-8 t c = let s = (c .before .before .before .before .before .before .before .before .before .before .before .before) in c .tested .ensures ∙ ap (λ (b : Bool). verdictOf (verdict b)) ((c .before) .stands .ensures) ∙ entity-names _ (s .args .levels) (s .args .t .now) (s .args .v .now) (s .pre .1 .1 .0) (s .pre .1 .1 .1) ((c .before .before .before .before .before .before) .match .keys3) ((c .before .before .before .before .before) .if3 .left) ((c .before .before .before) .u16-at .result) ((c .before .before) .u16-at2 .result) ((c .before .before .before) .u16-at .ensures .0) ((c .before .before) .u16-at2 .ensures .0)
-
--- src/conforms.rt:33:1
-conforms-returns-9 : (t : ℕ) → conforms-lts.Need-returns-9 (
-  members-conform-below t,
-  members-conform.Post,
-  record-conforms-below t,
-  record-conforms.Post,
-  u16-at-reads.Asked,
-  u16-at-reads.Learnt,
-  stands-reads.Asked,
-  stands-reads.Learnt,
-  tested-reads.Asked,
-  tested-reads.Learnt,
-  is-action-of-reads.Asked,
-  is-action-of-reads.Learnt,
-  call-returns-reads.Asked,
-  call-returns-reads.Learnt,
-  takes-kind-reads.Asked,
-  takes-kind-reads.Learnt,
-) (conforms-at t) conforms.Post
-conforms-returns-9 t c = let s = (c .before .before .before .before .before .before .before .before .before .before .before) in c .tested2 .ensures ∙ ap (λ (b : Bool). verdictOf (verdict b)) ((c .before) .is-action-of .ensures) ∙ action-name _ (s .args .levels) (s .args .t .now) (s .args .v .now) (s .pre .1 .1 .0) (s .pre .1 .1 .1) ((c .before .before .before .before .before) .match .keys4) ((c .before .before .before .before) .if4 .left) ((c .before .before .before) .u16-at3 .result) ((c .before .before) .u16-at4 .result) ((c .before .before .before) .u16-at3 .ensures .0) ((c .before .before) .u16-at4 .ensures .0)
-
--- src/conforms.rt:33:1
-conforms-returns-10 : (t : ℕ) → conforms-lts.Need-returns-10 (
-  members-conform-below t,
-  members-conform.Post,
-  record-conforms-below t,
-  record-conforms.Post,
-  u16-at-reads.Asked,
-  u16-at-reads.Learnt,
-  stands-reads.Asked,
-  stands-reads.Learnt,
-  tested-reads.Asked,
-  tested-reads.Learnt,
-  is-action-of-reads.Asked,
-  is-action-of-reads.Learnt,
-  call-returns-reads.Asked,
-  call-returns-reads.Learnt,
-  takes-kind-reads.Asked,
-  takes-kind-reads.Learnt,
-) (conforms-at t) conforms.Post
-conforms-returns-10 t c = let s = (c .before .before .before .before .before .before .before .before .before) in c .call-returns .ensures ∙ extension-call _ (s .args .levels) (s .args .t .now) (s .args .v .now) (s .pre .1 .1 .0) (s .pre .1 .1 .1) ((c .before .before .before) .match .keys5) ((c .before .before) .if5 .left) ((c .before) .u16-at5 .result) ((c .before) .u16-at5 .ensures .0)
-
--- src/conforms.rt:33:1
-conforms-returns-11 : (t : ℕ) → conforms-lts.Need-returns-11 (
-  members-conform-below t,
-  members-conform.Post,
-  record-conforms-below t,
-  record-conforms.Post,
-  u16-at-reads.Asked,
-  u16-at-reads.Learnt,
-  stands-reads.Asked,
-  stands-reads.Learnt,
-  tested-reads.Asked,
-  tested-reads.Learnt,
-  is-action-of-reads.Asked,
-  is-action-of-reads.Learnt,
-  call-returns-reads.Asked,
-  call-returns-reads.Learnt,
-  takes-kind-reads.Asked,
-  takes-kind-reads.Learnt,
-) (conforms-at t) conforms.Post
-conforms-returns-11 t c = let s = (c .before .before .before .before .before .before .before .before) in let m = (c .before .before) .match .rest in c .tested3 .ensures ∙ ap (λ (b : Bool). verdictOf (verdict b)) ((c .before) .takes-kind .ensures) ∙ atom-kinds _ (s .args .levels) (s .args .t .now) (s .args .v .now) (s .pre .1 .1 .0) (s .pre .1 .1 .1) (m .0 .0 .0 .0 .1) (m .0 .0 .0 .1) (m .0 .0 .1) (m .0 .1) (m .1)
+conforms-returns-7 t c = let s = (c .before .before .before .before .before .before .before .before) in let q = (c .before .before) .takes-kind in let m = c .match .rest in kind-atom-yes _ (s .args .levels) (s .args .t .now) (s .args .v .now) (s .pre .1 .1 .0) (s .pre .1 .1 .1) (q .result) (q .ensures) ((c .before) .if1 .left) (m .0 .0 .0 .0 .1) (m .0 .0 .0 .1) (m .0 .0 .1) (m .0 .1) (m .1)
 
 abbrev members-conform-Inv-loop : members-conform-lts.InvT-loop
 members-conform-Inv-loop schema sections t v levels n end e₀ b₀ left₀ e b left = MembersAhead levels (λ x. has shorter (decS standard schema) (dec levels t) x) (eachValue (λ x. has shorter (decS standard schema) (dec levels t) x) (membersOf levels v)) left e b
@@ -877,7 +772,7 @@ members-conform-Inv-loop schema sections t v levels n end e₀ b₀ left₀ e b 
 abbrev members-conform-μ-loop : members-conform-lts.MeasureT-loop
 members-conform-μ-loop schema sections t v levels n end e₀ b₀ left₀ e b left = left
 
--- src/conforms.rt:83:9
+-- src/conforms.rt:59:9
 members-conform-u16-at-requires : (t : ℕ) → members-conform-lts.Need-u16-at-requires (
   u16-at-reads.Asked,
   u16-at-reads.Learnt,
@@ -886,7 +781,7 @@ members-conform-u16-at-requires : (t : ℕ) → members-conform-lts.Need-u16-at-
 ) (members-conform-at t) members-conform.Post members-conform-Inv-loop members-conform-μ-loop
 members-conform-u16-at-requires t c κs = let s = (c .before .before .before) in omega (arith, table-count memberRow (λ _. wholeV (s .args .levels)) tt 1 (s .args .v .now) (s .pre .1 .1 .1))
 
--- src/conforms.rt:84:19
+-- src/conforms.rt:60:19
 members-conform-mul-end : (t : ℕ) → members-conform-lts.Need-mul-end (
   u16-at-reads.Asked,
   u16-at-reads.Learnt,
@@ -895,7 +790,7 @@ members-conform-mul-end : (t : ℕ) → members-conform-lts.Need-mul-end (
 ) (members-conform-at t) members-conform.Post members-conform-Inv-loop members-conform-μ-loop
 members-conform-mul-end t c = search needs
 
--- src/conforms.rt:84:15
+-- src/conforms.rt:60:15
 members-conform-add-end : (t : ℕ) → members-conform-lts.Need-add-end (
   u16-at-reads.Asked,
   u16-at-reads.Learnt,
@@ -904,7 +799,7 @@ members-conform-add-end : (t : ℕ) → members-conform-lts.Need-add-end (
 ) (members-conform-at t) members-conform.Post members-conform-Inv-loop members-conform-μ-loop
 members-conform-add-end t c = search needs
 
--- src/conforms.rt:85:17
+-- src/conforms.rt:61:17
 members-conform-sub-e : (t : ℕ) → members-conform-lts.Need-sub-e (
   u16-at-reads.Asked,
   u16-at-reads.Learnt,
@@ -913,7 +808,7 @@ members-conform-sub-e : (t : ℕ) → members-conform-lts.Need-sub-e (
 ) (members-conform-at t) members-conform.Post members-conform-Inv-loop members-conform-μ-loop
 members-conform-sub-e t c = let s = (c .before .before .before .before) in omega (arith, table-entries memberRow (λ _. wholeV (s .args .levels)) tt 1 (s .args .v .now) (s .pre .1 .1 .1) (c .u16-at .result) (c .u16-at .ensures .0))
 
--- src/conforms.rt:85:17
+-- src/conforms.rt:61:17
 members-conform-part-e-start : (t : ℕ) → members-conform-lts.Need-part-e-start (
   u16-at-reads.Asked,
   u16-at-reads.Learnt,
@@ -922,7 +817,7 @@ members-conform-part-e-start : (t : ℕ) → members-conform-lts.Need-part-e-sta
 ) (members-conform-at t) members-conform.Post members-conform-Inv-loop members-conform-μ-loop
 members-conform-part-e-start t c = search needs
 
--- src/conforms.rt:85:17
+-- src/conforms.rt:61:17
 members-conform-part-e-end : (t : ℕ) → members-conform-lts.Need-part-e-end (
   u16-at-reads.Asked,
   u16-at-reads.Learnt,
@@ -931,7 +826,7 @@ members-conform-part-e-end : (t : ℕ) → members-conform-lts.Need-part-e-end (
 ) (members-conform-at t) members-conform.Post members-conform-Inv-loop members-conform-μ-loop
 members-conform-part-e-end t c = let s = (c .before .before .before .before) in omega (arith, table-entries memberRow (λ _. wholeV (s .args .levels)) tt 1 (s .args .v .now) (s .pre .1 .1 .1) (c .u16-at .result) (c .u16-at .ensures .0))
 
--- src/conforms.rt:86:17
+-- src/conforms.rt:62:17
 members-conform-sub-b : (t : ℕ) → members-conform-lts.Need-sub-b (
   u16-at-reads.Asked,
   u16-at-reads.Learnt,
@@ -940,7 +835,7 @@ members-conform-sub-b : (t : ℕ) → members-conform-lts.Need-sub-b (
 ) (members-conform-at t) members-conform.Post members-conform-Inv-loop members-conform-μ-loop
 members-conform-sub-b t c = let s = (c .before .before .before .before .before) in omega (arith, table-entries memberRow (λ _. wholeV (s .args .levels)) tt 1 (s .args .v .now) (s .pre .1 .1 .1) ((c .before) .u16-at .result) ((c .before) .u16-at .ensures .0))
 
--- src/conforms.rt:86:17
+-- src/conforms.rt:62:17
 members-conform-part-b-start : (t : ℕ) → members-conform-lts.Need-part-b-start (
   u16-at-reads.Asked,
   u16-at-reads.Learnt,
@@ -949,7 +844,7 @@ members-conform-part-b-start : (t : ℕ) → members-conform-lts.Need-part-b-sta
 ) (members-conform-at t) members-conform.Post members-conform-Inv-loop members-conform-μ-loop
 members-conform-part-b-start t c = let s = (c .before .before .before .before .before) in omega (arith, table-entries memberRow (λ _. wholeV (s .args .levels)) tt 1 (s .args .v .now) (s .pre .1 .1 .1) ((c .before) .u16-at .result) ((c .before) .u16-at .ensures .0))
 
--- src/conforms.rt:86:17
+-- src/conforms.rt:62:17
 members-conform-part-b-end : (t : ℕ) → members-conform-lts.Need-part-b-end (
   u16-at-reads.Asked,
   u16-at-reads.Learnt,
@@ -958,7 +853,7 @@ members-conform-part-b-end : (t : ℕ) → members-conform-lts.Need-part-b-end (
 ) (members-conform-at t) members-conform.Post members-conform-Inv-loop members-conform-μ-loop
 members-conform-part-b-end t c = search needs
 
--- src/conforms.rt:88:5
+-- src/conforms.rt:64:5
 members-conform-loop-holds : (t : ℕ) → members-conform-lts.Need-loop-holds (
   u16-at-reads.Asked,
   u16-at-reads.Learnt,
@@ -967,7 +862,7 @@ members-conform-loop-holds : (t : ℕ) → members-conform-lts.Need-loop-holds (
 ) (members-conform-at t) members-conform.Post members-conform-Inv-loop members-conform-μ-loop
 members-conform-loop-holds t c = let s = (c .before .before .before .before .before .before) in members-start (s .args .levels) _ (s .args .v .now) (s .pre .1 .1 .1) ((c .before .before) .u16-at .result) ((c .before .before) .u16-at .ensures .0)
 
--- src/conforms.rt:89:13
+-- src/conforms.rt:65:13
 members-conform-u16-at-requires-2 : (t : ℕ) → members-conform-lts.Need-u16-at-requires-2 (
   u16-at-reads.Asked,
   u16-at-reads.Learnt,
@@ -976,7 +871,7 @@ members-conform-u16-at-requires-2 : (t : ℕ) → members-conform-lts.Need-u16-a
 ) (members-conform-at t) members-conform.Post members-conform-Inv-loop members-conform-μ-loop
 members-conform-u16-at-requires-2 t c κs = omega (arith, ahead-room ((c .before) .loop .inv .rows) (c .loop-test .taken))
 
--- src/conforms.rt:90:50
+-- src/conforms.rt:66:50
 members-conform-sub-conforms : (t : ℕ) → members-conform-lts.Need-sub-conforms (
   u16-at-reads.Asked,
   u16-at-reads.Learnt,
@@ -985,7 +880,7 @@ members-conform-sub-conforms : (t : ℕ) → members-conform-lts.Need-sub-confor
 ) (members-conform-at t) members-conform.Post members-conform-Inv-loop members-conform-μ-loop
 members-conform-sub-conforms t c = search needs
 
--- src/conforms.rt:90:50
+-- src/conforms.rt:66:50
 members-conform-part-conforms-start : (t : ℕ) → members-conform-lts.Need-part-conforms-start (
   u16-at-reads.Asked,
   u16-at-reads.Learnt,
@@ -994,7 +889,7 @@ members-conform-part-conforms-start : (t : ℕ) → members-conform-lts.Need-par
 ) (members-conform-at t) members-conform.Post members-conform-Inv-loop members-conform-μ-loop
 members-conform-part-conforms-start t c = search needs
 
--- src/conforms.rt:90:50
+-- src/conforms.rt:66:50
 members-conform-part-conforms-end : (t : ℕ) → members-conform-lts.Need-part-conforms-end (
   u16-at-reads.Asked,
   u16-at-reads.Learnt,
@@ -1003,7 +898,7 @@ members-conform-part-conforms-end : (t : ℕ) → members-conform-lts.Need-part-
 ) (members-conform-at t) members-conform.Post members-conform-Inv-loop members-conform-μ-loop
 members-conform-part-conforms-end t c = omega (arith, ahead-inside ((c .before .before) .loop .inv .rows) ((c .before) .loop-test .taken) (c .u16-at2 .result) (c .u16-at2 .ensures .0))
 
--- src/conforms.rt:90:13
+-- src/conforms.rt:66:13
 members-conform-conforms-requires : (t : ℕ) → members-conform-lts.Need-conforms-requires (
   u16-at-reads.Asked,
   u16-at-reads.Learnt,
@@ -1020,7 +915,7 @@ members-conform-enum-told : (t : ℕ) → members-conform-lts.Need-enum-told (
 ) (members-conform-at t) members-conform.Post members-conform-Inv-loop members-conform-μ-loop
 members-conform-enum-told t c = search needs
 
--- src/conforms.rt:92:13
+-- src/conforms.rt:68:13
 members-conform-returns : (t : ℕ) → members-conform-lts.Need-returns (
   u16-at-reads.Asked,
   u16-at-reads.Learnt,
@@ -1029,7 +924,7 @@ members-conform-returns : (t : ℕ) → members-conform-lts.Need-returns (
 ) (members-conform-at t) members-conform.Post members-conform-Inv-loop members-conform-μ-loop
 members-conform-returns t c = let f = (c .before) .conforms in members-stop ((c .before .before .before .before .before) .loop .inv) ((c .before .before .before .before) .loop-test .taken) ((c .before .before .before) .u16-at2 .result) ((c .before .before .before) .u16-at2 .ensures .0) (f .result) (f .ensures) (no-yes (f .result) (c .match .keys2))
 
--- src/conforms.rt:94:13
+-- src/conforms.rt:70:13
 members-conform-sub-e-2 : (t : ℕ) → members-conform-lts.Need-sub-e-2 (
   u16-at-reads.Asked,
   u16-at-reads.Learnt,
@@ -1038,7 +933,7 @@ members-conform-sub-e-2 : (t : ℕ) → members-conform-lts.Need-sub-e-2 (
 ) (members-conform-at t) members-conform.Post members-conform-Inv-loop members-conform-μ-loop
 members-conform-sub-e-2 t c = omega (arith, ahead-room ((c .before .before .before .before .before .before) .loop .inv .rows) ((c .before .before .before .before .before) .loop-test .taken))
 
--- src/conforms.rt:94:13
+-- src/conforms.rt:70:13
 members-conform-part-e-start-2 : (t : ℕ) → members-conform-lts.Need-part-e-start-2 (
   u16-at-reads.Asked,
   u16-at-reads.Learnt,
@@ -1047,7 +942,7 @@ members-conform-part-e-start-2 : (t : ℕ) → members-conform-lts.Need-part-e-s
 ) (members-conform-at t) members-conform.Post members-conform-Inv-loop members-conform-μ-loop
 members-conform-part-e-start-2 t c = omega (arith, ahead-room ((c .before .before .before .before .before .before) .loop .inv .rows) ((c .before .before .before .before .before) .loop-test .taken))
 
--- src/conforms.rt:94:13
+-- src/conforms.rt:70:13
 members-conform-part-e-end-2 : (t : ℕ) → members-conform-lts.Need-part-e-end-2 (
   u16-at-reads.Asked,
   u16-at-reads.Learnt,
@@ -1056,7 +951,7 @@ members-conform-part-e-end-2 : (t : ℕ) → members-conform-lts.Need-part-e-end
 ) (members-conform-at t) members-conform.Post members-conform-Inv-loop members-conform-μ-loop
 members-conform-part-e-end-2 t c = search needs
 
--- src/conforms.rt:95:13
+-- src/conforms.rt:71:13
 members-conform-sub-b-2 : (t : ℕ) → members-conform-lts.Need-sub-b-2 (
   u16-at-reads.Asked,
   u16-at-reads.Learnt,
@@ -1065,7 +960,7 @@ members-conform-sub-b-2 : (t : ℕ) → members-conform-lts.Need-sub-b-2 (
 ) (members-conform-at t) members-conform.Post members-conform-Inv-loop members-conform-μ-loop
 members-conform-sub-b-2 t c = omega (arith, ahead-inside ((c .before .before .before .before .before .before .before) .loop .inv .rows) ((c .before .before .before .before .before .before) .loop-test .taken) ((c .before .before .before .before .before) .u16-at2 .result) ((c .before .before .before .before .before) .u16-at2 .ensures .0))
 
--- src/conforms.rt:95:13
+-- src/conforms.rt:71:13
 members-conform-part-b-start-2 : (t : ℕ) → members-conform-lts.Need-part-b-start-2 (
   u16-at-reads.Asked,
   u16-at-reads.Learnt,
@@ -1074,7 +969,7 @@ members-conform-part-b-start-2 : (t : ℕ) → members-conform-lts.Need-part-b-s
 ) (members-conform-at t) members-conform.Post members-conform-Inv-loop members-conform-μ-loop
 members-conform-part-b-start-2 t c = omega (arith, ahead-inside ((c .before .before .before .before .before .before .before) .loop .inv .rows) ((c .before .before .before .before .before .before) .loop-test .taken) ((c .before .before .before .before .before) .u16-at2 .result) ((c .before .before .before .before .before) .u16-at2 .ensures .0))
 
--- src/conforms.rt:95:13
+-- src/conforms.rt:71:13
 members-conform-part-b-end-2 : (t : ℕ) → members-conform-lts.Need-part-b-end-2 (
   u16-at-reads.Asked,
   u16-at-reads.Learnt,
@@ -1083,7 +978,7 @@ members-conform-part-b-end-2 : (t : ℕ) → members-conform-lts.Need-part-b-end
 ) (members-conform-at t) members-conform.Post members-conform-Inv-loop members-conform-μ-loop
 members-conform-part-b-end-2 t c = search needs
 
--- src/conforms.rt:96:9
+-- src/conforms.rt:72:9
 members-conform-sub-left : (t : ℕ) → members-conform-lts.Need-sub-left (
   u16-at-reads.Asked,
   u16-at-reads.Learnt,
@@ -1092,7 +987,7 @@ members-conform-sub-left : (t : ℕ) → members-conform-lts.Need-sub-left (
 ) (members-conform-at t) members-conform.Post members-conform-Inv-loop members-conform-μ-loop
 members-conform-sub-left t c = search needs
 
--- src/conforms.rt:88:5
+-- src/conforms.rt:64:5
 members-conform-loop-less : (t : ℕ) → members-conform-lts.Need-loop-less (
   u16-at-reads.Asked,
   u16-at-reads.Learnt,
@@ -1101,7 +996,7 @@ members-conform-loop-less : (t : ℕ) → members-conform-lts.Need-loop-less (
 ) (members-conform-at t) members-conform.Post members-conform-Inv-loop members-conform-μ-loop
 members-conform-loop-less t c = search needs
 
--- src/conforms.rt:88:5
+-- src/conforms.rt:64:5
 members-conform-loop-again : (t : ℕ) → members-conform-lts.Need-loop-again (
   u16-at-reads.Asked,
   u16-at-reads.Learnt,
@@ -1110,7 +1005,7 @@ members-conform-loop-again : (t : ℕ) → members-conform-lts.Need-loop-again (
 ) (members-conform-at t) members-conform.Post members-conform-Inv-loop members-conform-μ-loop
 members-conform-loop-again t c = let f = (c .before .before .before .before) .conforms in members-again ((c .before .before .before .before .before .before .before .before) .loop .inv) ((c .before .before .before .before .before .before .before) .loop-test .taken) ((c .before .before .before .before .before .before) .u16-at2 .result) ((c .before .before .before .before .before .before) .u16-at2 .ensures .0) (f .result) (f .ensures) ((c .before .before) .enum-told .given .1)
 
--- src/conforms.rt:77:1
+-- src/conforms.rt:53:1
 members-conform-returns-2 : (t : ℕ) → members-conform-lts.Need-returns-2 (
   u16-at-reads.Asked,
   u16-at-reads.Learnt,
@@ -1119,7 +1014,7 @@ members-conform-returns-2 : (t : ℕ) → members-conform-lts.Need-returns-2 (
 ) (members-conform-at t) members-conform.Post members-conform-Inv-loop members-conform-μ-loop
 members-conform-returns-2 t c = members-end ((c .before) .loop .inv) (c .loop-test .left)
 
--- src/conforms.rt:147:31
+-- src/conforms.rt:134:31
 pair-conforms-find-requires : (t : ℕ) → pair-conforms-lts.Need-find-requires (
   find-reads.Asked,
   find-reads.Learnt,
@@ -1132,7 +1027,7 @@ pair-conforms-find-requires : (t : ℕ) → pair-conforms-lts.Need-find-requires
 ) (pair-conforms-at t) pair-conforms.Post
 pair-conforms-find-requires t c κs = laid ((c .before .before .before .before) .pre .1 .1 .0)
 
--- src/conforms.rt:147:19
+-- src/conforms.rt:134:19
 pair-conforms-enum-known-i : (t : ℕ) → pair-conforms-lts.Need-enum-known-i (
   find-reads.Asked,
   find-reads.Learnt,
@@ -1145,7 +1040,7 @@ pair-conforms-enum-known-i : (t : ℕ) → pair-conforms-lts.Need-enum-known-i (
 ) (pair-conforms-at t) pair-conforms.Post
 pair-conforms-enum-known-i t c = search needs
 
--- src/conforms.rt:148:23
+-- src/conforms.rt:135:23
 pair-conforms-enum-told : (t : ℕ) → pair-conforms-lts.Need-enum-told (
   find-reads.Asked,
   find-reads.Learnt,
@@ -1158,7 +1053,7 @@ pair-conforms-enum-told : (t : ℕ) → pair-conforms-lts.Need-enum-told (
 ) (pair-conforms-at t) pair-conforms.Post
 pair-conforms-enum-told t c = search needs
 
--- src/conforms.rt:148:9
+-- src/conforms.rt:135:9
 pair-conforms-tested-requires : (t : ℕ) → pair-conforms-lts.Need-tested-requires (
   find-reads.Asked,
   find-reads.Learnt,
@@ -1171,7 +1066,7 @@ pair-conforms-tested-requires : (t : ℕ) → pair-conforms-lts.Need-tested-requ
 ) (pair-conforms-at t) pair-conforms.Post
 pair-conforms-tested-requires t c κs = search needs
 
--- src/conforms.rt:148:9
+-- src/conforms.rt:135:9
 pair-conforms-returns : (t : ℕ) → pair-conforms-lts.Need-returns (
   find-reads.Asked,
   find-reads.Learnt,
@@ -1184,7 +1079,7 @@ pair-conforms-returns : (t : ℕ) → pair-conforms-lts.Need-returns (
 ) (pair-conforms-at t) pair-conforms.Post
 pair-conforms-returns t c = let s = (c .before .before .before .before .before .before .before .before) in let f = (c .before .before .before) .find in c .tested .ensures ∙ pair-absent _ _ (s .args .levels) (s .args .n) (s .args .name) (s .args .f .now) (s .args .c .now) _ (s .pre .1 .1 .0) (f .result) (f .ensures) ((c .before) .enum-told .given .1)
 
--- src/conforms.rt:150:14
+-- src/conforms.rt:137:14
 pair-conforms-mul-at : (t : ℕ) → pair-conforms-lts.Need-mul-at (
   find-reads.Asked,
   find-reads.Learnt,
@@ -1197,7 +1092,7 @@ pair-conforms-mul-at : (t : ℕ) → pair-conforms-lts.Need-mul-at (
 ) (pair-conforms-at t) pair-conforms.Post
 pair-conforms-mul-at t c = let s = (c .before .before .before .before .before .before .before .before) in let f = (c .before .before .before) .find in let g = (c .before) .i .given in omega (arith, pair-room (s .args .levels) (s .args .n) (s .args .name) (s .args .f .now) (s .args .c .now) (s .pre .1 .1 .0) (f .result) (f .ensures) (g .0 .0) (g .0 .1 .0) (g .1))
 
--- src/conforms.rt:151:21
+-- src/conforms.rt:138:21
 pair-conforms-sub-attribute : (t : ℕ) → pair-conforms-lts.Need-sub-attribute (
   find-reads.Asked,
   find-reads.Learnt,
@@ -1210,7 +1105,7 @@ pair-conforms-sub-attribute : (t : ℕ) → pair-conforms-lts.Need-sub-attribute
 ) (pair-conforms-at t) pair-conforms.Post
 pair-conforms-sub-attribute t c = let s = (c .before .before .before .before .before .before .before .before) in let f = (c .before .before .before) .find in let g = (c .before) .i .given in omega (arith, pair-room (s .args .levels) (s .args .n) (s .args .name) (s .args .f .now) (s .args .c .now) (s .pre .1 .1 .0) (f .result) (f .ensures) (g .0 .0) (g .0 .1 .0) (g .1))
 
--- src/conforms.rt:151:21
+-- src/conforms.rt:138:21
 pair-conforms-part-attribute-start : (t : ℕ) → pair-conforms-lts.Need-part-attribute-start (
   find-reads.Asked,
   find-reads.Learnt,
@@ -1223,7 +1118,7 @@ pair-conforms-part-attribute-start : (t : ℕ) → pair-conforms-lts.Need-part-a
 ) (pair-conforms-at t) pair-conforms.Post
 pair-conforms-part-attribute-start t c = let s = (c .before .before .before .before .before .before .before .before) in let f = (c .before .before .before) .find in let g = (c .before) .i .given in omega (arith, pair-room (s .args .levels) (s .args .n) (s .args .name) (s .args .f .now) (s .args .c .now) (s .pre .1 .1 .0) (f .result) (f .ensures) (g .0 .0) (g .0 .1 .0) (g .1))
 
--- src/conforms.rt:151:21
+-- src/conforms.rt:138:21
 pair-conforms-part-attribute-end : (t : ℕ) → pair-conforms-lts.Need-part-attribute-end (
   find-reads.Asked,
   find-reads.Learnt,
@@ -1236,7 +1131,7 @@ pair-conforms-part-attribute-end : (t : ℕ) → pair-conforms-lts.Need-part-att
 ) (pair-conforms-at t) pair-conforms.Post
 pair-conforms-part-attribute-end t c = search needs
 
--- src/conforms.rt:152:23
+-- src/conforms.rt:139:23
 pair-conforms-u16-at-requires : (t : ℕ) → pair-conforms-lts.Need-u16-at-requires (
   find-reads.Asked,
   find-reads.Learnt,
@@ -1249,7 +1144,7 @@ pair-conforms-u16-at-requires : (t : ℕ) → pair-conforms-lts.Need-u16-at-requ
 ) (pair-conforms-at t) pair-conforms.Post
 pair-conforms-u16-at-requires t c κs = let s = (c .before .before .before .before .before .before .before .before .before) in let f = (c .before .before .before .before) .find in let g = (c .before .before) .i .given in omega (arith, length-rest (5 * g .0 .0) (s .args .f .now), pair-room (s .args .levels) (s .args .n) (s .args .name) (s .args .f .now) (s .args .c .now) (s .pre .1 .1 .0) (f .result) (f .ensures) (g .0 .0) (g .0 .1 .0) (g .1))
 
--- src/conforms.rt:152:15
+-- src/conforms.rt:139:15
 pair-conforms-add-end : (t : ℕ) → pair-conforms-lts.Need-add-end (
   find-reads.Asked,
   find-reads.Learnt,
@@ -1262,7 +1157,7 @@ pair-conforms-add-end : (t : ℕ) → pair-conforms-lts.Need-add-end (
 ) (pair-conforms-at t) pair-conforms.Post
 pair-conforms-add-end t c = let s = (c .before .before .before .before .before .before .before .before .before .before) in let f = (c .before .before .before .before .before) .find in let g = (c .before .before .before) .i .given in omega (arith, pair-inside (s .args .levels) (s .args .n) (s .args .name) (s .args .f .now) (s .args .c .now) (s .pre .1 .1 .0) (f .result) (f .ensures) (g .0 .0) (g .0 .1 .0) (g .1) (c .u16-at .result) (c .u16-at .ensures .0))
 
--- src/conforms.rt:153:32
+-- src/conforms.rt:140:32
 pair-conforms-sub-conforms : (t : ℕ) → pair-conforms-lts.Need-sub-conforms (
   find-reads.Asked,
   find-reads.Learnt,
@@ -1275,7 +1170,7 @@ pair-conforms-sub-conforms : (t : ℕ) → pair-conforms-lts.Need-sub-conforms (
 ) (pair-conforms-at t) pair-conforms.Post
 pair-conforms-sub-conforms t c = let s = (c .before .before .before .before .before .before .before .before .before .before) in let f = (c .before .before .before .before .before) .find in let g = (c .before .before .before) .i .given in omega (arith, pair-inside (s .args .levels) (s .args .n) (s .args .name) (s .args .f .now) (s .args .c .now) (s .pre .1 .1 .0) (f .result) (f .ensures) (g .0 .0) (g .0 .1 .0) (g .1) (c .u16-at .result) (c .u16-at .ensures .0))
 
--- src/conforms.rt:153:32
+-- src/conforms.rt:140:32
 pair-conforms-part-conforms-start : (t : ℕ) → pair-conforms-lts.Need-part-conforms-start (
   find-reads.Asked,
   find-reads.Learnt,
@@ -1288,7 +1183,7 @@ pair-conforms-part-conforms-start : (t : ℕ) → pair-conforms-lts.Need-part-co
 ) (pair-conforms-at t) pair-conforms.Post
 pair-conforms-part-conforms-start t c = search needs
 
--- src/conforms.rt:153:32
+-- src/conforms.rt:140:32
 pair-conforms-part-conforms-end : (t : ℕ) → pair-conforms-lts.Need-part-conforms-end (
   find-reads.Asked,
   find-reads.Learnt,
@@ -1301,7 +1196,7 @@ pair-conforms-part-conforms-end : (t : ℕ) → pair-conforms-lts.Need-part-conf
 ) (pair-conforms-at t) pair-conforms.Post
 pair-conforms-part-conforms-end t c = let s = (c .before .before .before .before .before .before .before .before .before .before) in let f = (c .before .before .before .before .before) .find in let g = (c .before .before .before) .i .given in omega (arith, pair-inside (s .args .levels) (s .args .n) (s .args .name) (s .args .f .now) (s .args .c .now) (s .pre .1 .1 .0) (f .result) (f .ensures) (g .0 .0) (g .0 .1 .0) (g .1) (c .u16-at .result) (c .u16-at .ensures .0))
 
--- src/conforms.rt:153:5
+-- src/conforms.rt:140:5
 pair-conforms-conforms-requires : (t : ℕ) → pair-conforms-lts.Need-conforms-requires (
   find-reads.Asked,
   find-reads.Learnt,
@@ -1314,7 +1209,7 @@ pair-conforms-conforms-requires : (t : ℕ) → pair-conforms-lts.Need-conforms-
 ) (pair-conforms-at t) pair-conforms.Post
 pair-conforms-conforms-requires t c κs = let s = (c .before .before .before .before .before .before .before .before .before .before .before) in let f = (c .before .before .before .before .before .before) .find in let g = (c .before .before .before .before) .i .given in (omega (arith, s .pre .0), (s .pre .1 .0, (pair-whole (s .args .levels) (s .args .n) (s .args .name) (s .args .f .now) (s .args .c .now) (s .pre .1 .1 .0) (f .result) (f .ensures) (g .0 .0) (g .0 .1 .0) (g .1) ((c .before) .u16-at .result) ((c .before) .u16-at .ensures .0), s .pre .1 .1 .1)))
 
--- src/conforms.rt:141:1
+-- src/conforms.rt:118:1
 pair-conforms-returns-2 : (t : ℕ) → pair-conforms-lts.Need-returns-2 (
   find-reads.Asked,
   find-reads.Learnt,
@@ -1329,13 +1224,13 @@ pair-conforms-returns-2 t c = let s = (c .before .before .before .before .before
 
 abbrev record-conforms-Inv-loop : record-conforms-lts.InvT-loop
 record-conforms-Inv-loop schema sections t v levels m n p q f₀ c₀ e₀ b₀ ahead₀ left₀ f c e b ahead left =
-    RecordAhead levels (decS standard schema) (isOpen t) (andThen (eachPair (λ n x. conformsAt shorter (decS standard schema) (isOpen t) (attributesOf levels t) n x) (pairsOf levels v)) (verdict (hasRequired (attributesOf levels t) (pairsOf levels v)))) (verdict (hasRequired (attributesOf levels t) (pairsOf levels v))) ahead f c left e b
+    RecordAhead levels (decS standard schema) (isOpen t) (recordSaid (decS standard schema) (isOpen t) (attributesOf levels t) (pairsOf levels v)) (verdict (hasRequired (attributesOf levels t) (pairsOf levels v))) ahead f c left e b
 
 abbrev record-conforms-μ-loop : record-conforms-lts.MeasureT-loop
 record-conforms-μ-loop schema sections t v levels m n p q f₀ c₀ e₀ b₀ ahead₀ left₀ f c e b ahead left =
     left
 
--- src/conforms.rt:109:9
+-- src/conforms.rt:85:9
 record-conforms-u16-at-requires : (t : ℕ) → record-conforms-lts.Need-u16-at-requires (
   u16-at-reads.Asked,
   u16-at-reads.Learnt,
@@ -1350,7 +1245,7 @@ record-conforms-u16-at-requires : (t : ℕ) → record-conforms-lts.Need-u16-at-
 ) (record-conforms-at t) record-conforms.Post record-conforms-Inv-loop record-conforms-μ-loop
 record-conforms-u16-at-requires t c κs = let s = (c .before .before .before) in omega (arith, table-count attrRow (λ _. whole (s .args .levels)) 0 2 (s .args .t .now) (records-table (s .args .levels) (s .args .t .now) (s .pre .1 .1 .0)))
 
--- src/conforms.rt:110:9
+-- src/conforms.rt:86:9
 record-conforms-u16-at-requires-2 : (t : ℕ) → record-conforms-lts.Need-u16-at-requires-2 (
   u16-at-reads.Asked,
   u16-at-reads.Learnt,
@@ -1365,7 +1260,7 @@ record-conforms-u16-at-requires-2 : (t : ℕ) → record-conforms-lts.Need-u16-a
 ) (record-conforms-at t) record-conforms.Post record-conforms-Inv-loop record-conforms-μ-loop
 record-conforms-u16-at-requires-2 t c κs = let s = (c .before .before .before .before) in omega (arith, table-count pairRow (λ _. wholeV (s .args .levels)) 0 1 (s .args .v .now) (s .pre .1 .1 .1))
 
--- src/conforms.rt:111:17
+-- src/conforms.rt:87:17
 record-conforms-mul-p : (t : ℕ) → record-conforms-lts.Need-mul-p (
   u16-at-reads.Asked,
   u16-at-reads.Learnt,
@@ -1380,7 +1275,7 @@ record-conforms-mul-p : (t : ℕ) → record-conforms-lts.Need-mul-p (
 ) (record-conforms-at t) record-conforms.Post record-conforms-Inv-loop record-conforms-μ-loop
 record-conforms-mul-p t c = search needs
 
--- src/conforms.rt:111:13
+-- src/conforms.rt:87:13
 record-conforms-add-p : (t : ℕ) → record-conforms-lts.Need-add-p (
   u16-at-reads.Asked,
   u16-at-reads.Learnt,
@@ -1395,7 +1290,7 @@ record-conforms-add-p : (t : ℕ) → record-conforms-lts.Need-add-p (
 ) (record-conforms-at t) record-conforms.Post record-conforms-Inv-loop record-conforms-μ-loop
 record-conforms-add-p t c = search needs
 
--- src/conforms.rt:112:17
+-- src/conforms.rt:88:17
 record-conforms-mul-q : (t : ℕ) → record-conforms-lts.Need-mul-q (
   u16-at-reads.Asked,
   u16-at-reads.Learnt,
@@ -1410,7 +1305,7 @@ record-conforms-mul-q : (t : ℕ) → record-conforms-lts.Need-mul-q (
 ) (record-conforms-at t) record-conforms.Post record-conforms-Inv-loop record-conforms-μ-loop
 record-conforms-mul-q t c = search needs
 
--- src/conforms.rt:112:13
+-- src/conforms.rt:88:13
 record-conforms-add-q : (t : ℕ) → record-conforms-lts.Need-add-q (
   u16-at-reads.Asked,
   u16-at-reads.Learnt,
@@ -1425,7 +1320,7 @@ record-conforms-add-q : (t : ℕ) → record-conforms-lts.Need-add-q (
 ) (record-conforms-at t) record-conforms.Post record-conforms-Inv-loop record-conforms-μ-loop
 record-conforms-add-q t c = search needs
 
--- src/conforms.rt:113:17
+-- src/conforms.rt:89:17
 record-conforms-sub-f : (t : ℕ) → record-conforms-lts.Need-sub-f (
   u16-at-reads.Asked,
   u16-at-reads.Learnt,
@@ -1440,7 +1335,7 @@ record-conforms-sub-f : (t : ℕ) → record-conforms-lts.Need-sub-f (
 ) (record-conforms-at t) record-conforms.Post record-conforms-Inv-loop record-conforms-μ-loop
 record-conforms-sub-f t c = let s = (c .before .before .before .before .before) in omega (arith, table-entries attrRow (λ _. whole (s .args .levels)) 0 2 (s .args .t .now) (records-table (s .args .levels) (s .args .t .now) (s .pre .1 .1 .0)) ((c .before) .u16-at .result) ((c .before) .u16-at .ensures .0))
 
--- src/conforms.rt:113:17
+-- src/conforms.rt:89:17
 record-conforms-part-f-start : (t : ℕ) → record-conforms-lts.Need-part-f-start (
   u16-at-reads.Asked,
   u16-at-reads.Learnt,
@@ -1455,7 +1350,7 @@ record-conforms-part-f-start : (t : ℕ) → record-conforms-lts.Need-part-f-sta
 ) (record-conforms-at t) record-conforms.Post record-conforms-Inv-loop record-conforms-μ-loop
 record-conforms-part-f-start t c = search needs
 
--- src/conforms.rt:113:17
+-- src/conforms.rt:89:17
 record-conforms-part-f-end : (t : ℕ) → record-conforms-lts.Need-part-f-end (
   u16-at-reads.Asked,
   u16-at-reads.Learnt,
@@ -1470,7 +1365,7 @@ record-conforms-part-f-end : (t : ℕ) → record-conforms-lts.Need-part-f-end (
 ) (record-conforms-at t) record-conforms.Post record-conforms-Inv-loop record-conforms-μ-loop
 record-conforms-part-f-end t c = let s = (c .before .before .before .before .before) in omega (arith, table-entries attrRow (λ _. whole (s .args .levels)) 0 2 (s .args .t .now) (records-table (s .args .levels) (s .args .t .now) (s .pre .1 .1 .0)) ((c .before) .u16-at .result) ((c .before) .u16-at .ensures .0))
 
--- src/conforms.rt:114:17
+-- src/conforms.rt:90:17
 record-conforms-sub-c : (t : ℕ) → record-conforms-lts.Need-sub-c (
   u16-at-reads.Asked,
   u16-at-reads.Learnt,
@@ -1485,7 +1380,7 @@ record-conforms-sub-c : (t : ℕ) → record-conforms-lts.Need-sub-c (
 ) (record-conforms-at t) record-conforms.Post record-conforms-Inv-loop record-conforms-μ-loop
 record-conforms-sub-c t c = let s = (c .before .before .before .before .before .before) in omega (arith, table-entries attrRow (λ _. whole (s .args .levels)) 0 2 (s .args .t .now) (records-table (s .args .levels) (s .args .t .now) (s .pre .1 .1 .0)) ((c .before .before) .u16-at .result) ((c .before .before) .u16-at .ensures .0))
 
--- src/conforms.rt:114:17
+-- src/conforms.rt:90:17
 record-conforms-part-c-start : (t : ℕ) → record-conforms-lts.Need-part-c-start (
   u16-at-reads.Asked,
   u16-at-reads.Learnt,
@@ -1500,7 +1395,7 @@ record-conforms-part-c-start : (t : ℕ) → record-conforms-lts.Need-part-c-sta
 ) (record-conforms-at t) record-conforms.Post record-conforms-Inv-loop record-conforms-μ-loop
 record-conforms-part-c-start t c = let s = (c .before .before .before .before .before .before) in omega (arith, table-entries attrRow (λ _. whole (s .args .levels)) 0 2 (s .args .t .now) (records-table (s .args .levels) (s .args .t .now) (s .pre .1 .1 .0)) ((c .before .before) .u16-at .result) ((c .before .before) .u16-at .ensures .0))
 
--- src/conforms.rt:114:17
+-- src/conforms.rt:90:17
 record-conforms-part-c-end : (t : ℕ) → record-conforms-lts.Need-part-c-end (
   u16-at-reads.Asked,
   u16-at-reads.Learnt,
@@ -1515,7 +1410,7 @@ record-conforms-part-c-end : (t : ℕ) → record-conforms-lts.Need-part-c-end (
 ) (record-conforms-at t) record-conforms.Post record-conforms-Inv-loop record-conforms-μ-loop
 record-conforms-part-c-end t c = search needs
 
--- src/conforms.rt:115:17
+-- src/conforms.rt:91:17
 record-conforms-sub-e : (t : ℕ) → record-conforms-lts.Need-sub-e (
   u16-at-reads.Asked,
   u16-at-reads.Learnt,
@@ -1530,7 +1425,7 @@ record-conforms-sub-e : (t : ℕ) → record-conforms-lts.Need-sub-e (
 ) (record-conforms-at t) record-conforms.Post record-conforms-Inv-loop record-conforms-μ-loop
 record-conforms-sub-e t c = let s = (c .before .before .before .before .before .before .before) in omega (arith, table-entries pairRow (λ _. wholeV (s .args .levels)) 0 1 (s .args .v .now) (s .pre .1 .1 .1) ((c .before .before) .u16-at2 .result) ((c .before .before) .u16-at2 .ensures .0))
 
--- src/conforms.rt:115:17
+-- src/conforms.rt:91:17
 record-conforms-part-e-start : (t : ℕ) → record-conforms-lts.Need-part-e-start (
   u16-at-reads.Asked,
   u16-at-reads.Learnt,
@@ -1545,7 +1440,7 @@ record-conforms-part-e-start : (t : ℕ) → record-conforms-lts.Need-part-e-sta
 ) (record-conforms-at t) record-conforms.Post record-conforms-Inv-loop record-conforms-μ-loop
 record-conforms-part-e-start t c = search needs
 
--- src/conforms.rt:115:17
+-- src/conforms.rt:91:17
 record-conforms-part-e-end : (t : ℕ) → record-conforms-lts.Need-part-e-end (
   u16-at-reads.Asked,
   u16-at-reads.Learnt,
@@ -1560,7 +1455,7 @@ record-conforms-part-e-end : (t : ℕ) → record-conforms-lts.Need-part-e-end (
 ) (record-conforms-at t) record-conforms.Post record-conforms-Inv-loop record-conforms-μ-loop
 record-conforms-part-e-end t c = let s = (c .before .before .before .before .before .before .before) in omega (arith, table-entries pairRow (λ _. wholeV (s .args .levels)) 0 1 (s .args .v .now) (s .pre .1 .1 .1) ((c .before .before) .u16-at2 .result) ((c .before .before) .u16-at2 .ensures .0))
 
--- src/conforms.rt:116:17
+-- src/conforms.rt:92:17
 record-conforms-sub-b : (t : ℕ) → record-conforms-lts.Need-sub-b (
   u16-at-reads.Asked,
   u16-at-reads.Learnt,
@@ -1575,7 +1470,7 @@ record-conforms-sub-b : (t : ℕ) → record-conforms-lts.Need-sub-b (
 ) (record-conforms-at t) record-conforms.Post record-conforms-Inv-loop record-conforms-μ-loop
 record-conforms-sub-b t c = let s = (c .before .before .before .before .before .before .before .before) in omega (arith, table-entries pairRow (λ _. wholeV (s .args .levels)) 0 1 (s .args .v .now) (s .pre .1 .1 .1) ((c .before .before .before) .u16-at2 .result) ((c .before .before .before) .u16-at2 .ensures .0))
 
--- src/conforms.rt:116:17
+-- src/conforms.rt:92:17
 record-conforms-part-b-start : (t : ℕ) → record-conforms-lts.Need-part-b-start (
   u16-at-reads.Asked,
   u16-at-reads.Learnt,
@@ -1590,7 +1485,7 @@ record-conforms-part-b-start : (t : ℕ) → record-conforms-lts.Need-part-b-sta
 ) (record-conforms-at t) record-conforms.Post record-conforms-Inv-loop record-conforms-μ-loop
 record-conforms-part-b-start t c = let s = (c .before .before .before .before .before .before .before .before) in omega (arith, table-entries pairRow (λ _. wholeV (s .args .levels)) 0 1 (s .args .v .now) (s .pre .1 .1 .1) ((c .before .before .before) .u16-at2 .result) ((c .before .before .before) .u16-at2 .ensures .0))
 
--- src/conforms.rt:116:17
+-- src/conforms.rt:92:17
 record-conforms-part-b-end : (t : ℕ) → record-conforms-lts.Need-part-b-end (
   u16-at-reads.Asked,
   u16-at-reads.Learnt,
@@ -1605,7 +1500,7 @@ record-conforms-part-b-end : (t : ℕ) → record-conforms-lts.Need-part-b-end (
 ) (record-conforms-at t) record-conforms.Post record-conforms-Inv-loop record-conforms-μ-loop
 record-conforms-part-b-end t c = search needs
 
--- src/conforms.rt:119:5
+-- src/conforms.rt:95:5
 record-conforms-loop-holds : (t : ℕ) → record-conforms-lts.Need-loop-holds (
   u16-at-reads.Asked,
   u16-at-reads.Learnt,
@@ -1620,7 +1515,7 @@ record-conforms-loop-holds : (t : ℕ) → record-conforms-lts.Need-loop-holds (
 ) (record-conforms-at t) record-conforms.Post record-conforms-Inv-loop record-conforms-μ-loop
 record-conforms-loop-holds t c = let s = (c .before .before .before .before .before .before .before .before .before) in record-start (s .args .levels) _ (s .args .t .now) (s .args .v .now) (s .pre .1 .1 .0) (s .pre .1 .1 .1) ((c .before .before .before .before .before) .u16-at .result) ((c .before .before .before .before) .u16-at2 .result) ((c .before .before .before .before .before) .u16-at .ensures .0) ((c .before .before .before .before) .u16-at2 .ensures .0) ((c .before .before .before .before .before) .u16-at .ensures .1) _
 
--- src/conforms.rt:120:13
+-- src/conforms.rt:96:13
 record-conforms-u16-at-requires-3 : (t : ℕ) → record-conforms-lts.Need-u16-at-requires-3 (
   u16-at-reads.Asked,
   u16-at-reads.Learnt,
@@ -1635,7 +1530,7 @@ record-conforms-u16-at-requires-3 : (t : ℕ) → record-conforms-lts.Need-u16-a
 ) (record-conforms-at t) record-conforms.Post record-conforms-Inv-loop record-conforms-μ-loop
 record-conforms-u16-at-requires-3 t c κs = omega (arith, ahead-room ((c .before) .loop .inv .rows) (c .loop-test .taken))
 
--- src/conforms.rt:121:13
+-- src/conforms.rt:97:13
 record-conforms-u16-at-requires-4 : (t : ℕ) → record-conforms-lts.Need-u16-at-requires-4 (
   u16-at-reads.Asked,
   u16-at-reads.Learnt,
@@ -1650,7 +1545,7 @@ record-conforms-u16-at-requires-4 : (t : ℕ) → record-conforms-lts.Need-u16-a
 ) (record-conforms-at t) record-conforms.Post record-conforms-Inv-loop record-conforms-μ-loop
 record-conforms-u16-at-requires-4 t c κs = omega (arith, ahead-room ((c .before .before) .loop .inv .rows) ((c .before) .loop-test .taken))
 
--- src/conforms.rt:122:13
+-- src/conforms.rt:98:13
 record-conforms-skip-below-requires : (t : ℕ) → record-conforms-lts.Need-skip-below-requires (
   u16-at-reads.Asked,
   u16-at-reads.Learnt,
@@ -1665,7 +1560,7 @@ record-conforms-skip-below-requires : (t : ℕ) → record-conforms-lts.Need-ski
 ) (record-conforms-at t) record-conforms.Post record-conforms-Inv-loop record-conforms-μ-loop
 record-conforms-skip-below-requires t c κs = laid ((c .before .before .before) .loop .inv .attrs)
 
--- src/conforms.rt:125:18
+-- src/conforms.rt:101:18
 record-conforms-mul-at : (t : ℕ) → record-conforms-lts.Need-mul-at (
   u16-at-reads.Asked,
   u16-at-reads.Learnt,
@@ -1680,7 +1575,7 @@ record-conforms-mul-at : (t : ℕ) → record-conforms-lts.Need-mul-at (
 ) (record-conforms-at t) record-conforms.Post record-conforms-Inv-loop record-conforms-μ-loop
 record-conforms-mul-at t c = let k = c .skip-below in let g = past ((c .before .before .before .before) .loop .inv .attrs) ((c .before .before) .u16-at3 .result) (k .result .entries) (k .result .bytes) (k .ensures .0) (k .ensures .1) in omega (arith, g .most, (c .before .before .before .before) .loop .inv .few)
 
--- src/conforms.rt:126:13
+-- src/conforms.rt:102:13
 record-conforms-sub-f-2 : (t : ℕ) → record-conforms-lts.Need-sub-f-2 (
   u16-at-reads.Asked,
   u16-at-reads.Learnt,
@@ -1695,7 +1590,7 @@ record-conforms-sub-f-2 : (t : ℕ) → record-conforms-lts.Need-sub-f-2 (
 ) (record-conforms-at t) record-conforms.Post record-conforms-Inv-loop record-conforms-μ-loop
 record-conforms-sub-f-2 t c = let k = c .skip-below in let g = past ((c .before .before .before .before) .loop .inv .attrs) ((c .before .before) .u16-at3 .result) (k .result .entries) (k .result .bytes) (k .ensures .0) (k .ensures .1) in omega (arith, g .room)
 
--- src/conforms.rt:126:13
+-- src/conforms.rt:102:13
 record-conforms-part-f-start-2 : (t : ℕ) → record-conforms-lts.Need-part-f-start-2 (
   u16-at-reads.Asked,
   u16-at-reads.Learnt,
@@ -1710,7 +1605,7 @@ record-conforms-part-f-start-2 : (t : ℕ) → record-conforms-lts.Need-part-f-s
 ) (record-conforms-at t) record-conforms.Post record-conforms-Inv-loop record-conforms-μ-loop
 record-conforms-part-f-start-2 t c = let k = c .skip-below in let g = past ((c .before .before .before .before) .loop .inv .attrs) ((c .before .before) .u16-at3 .result) (k .result .entries) (k .result .bytes) (k .ensures .0) (k .ensures .1) in omega (arith, g .room)
 
--- src/conforms.rt:126:13
+-- src/conforms.rt:102:13
 record-conforms-part-f-end-2 : (t : ℕ) → record-conforms-lts.Need-part-f-end-2 (
   u16-at-reads.Asked,
   u16-at-reads.Learnt,
@@ -1725,7 +1620,7 @@ record-conforms-part-f-end-2 : (t : ℕ) → record-conforms-lts.Need-part-f-end
 ) (record-conforms-at t) record-conforms.Post record-conforms-Inv-loop record-conforms-μ-loop
 record-conforms-part-f-end-2 t c = search needs
 
--- src/conforms.rt:127:13
+-- src/conforms.rt:103:13
 record-conforms-sub-c-2 : (t : ℕ) → record-conforms-lts.Need-sub-c-2 (
   u16-at-reads.Asked,
   u16-at-reads.Learnt,
@@ -1740,7 +1635,7 @@ record-conforms-sub-c-2 : (t : ℕ) → record-conforms-lts.Need-sub-c-2 (
 ) (record-conforms-at t) record-conforms.Post record-conforms-Inv-loop record-conforms-μ-loop
 record-conforms-sub-c-2 t c = let k = (c .before) .skip-below in let g = past ((c .before .before .before .before .before) .loop .inv .attrs) ((c .before .before .before) .u16-at3 .result) (k .result .entries) (k .result .bytes) (k .ensures .0) (k .ensures .1) in omega (arith, g .inside)
 
--- src/conforms.rt:127:13
+-- src/conforms.rt:103:13
 record-conforms-part-c-start-2 : (t : ℕ) → record-conforms-lts.Need-part-c-start-2 (
   u16-at-reads.Asked,
   u16-at-reads.Learnt,
@@ -1755,7 +1650,7 @@ record-conforms-part-c-start-2 : (t : ℕ) → record-conforms-lts.Need-part-c-s
 ) (record-conforms-at t) record-conforms.Post record-conforms-Inv-loop record-conforms-μ-loop
 record-conforms-part-c-start-2 t c = let k = (c .before) .skip-below in let g = past ((c .before .before .before .before .before) .loop .inv .attrs) ((c .before .before .before) .u16-at3 .result) (k .result .entries) (k .result .bytes) (k .ensures .0) (k .ensures .1) in omega (arith, g .inside)
 
--- src/conforms.rt:127:13
+-- src/conforms.rt:103:13
 record-conforms-part-c-end-2 : (t : ℕ) → record-conforms-lts.Need-part-c-end-2 (
   u16-at-reads.Asked,
   u16-at-reads.Learnt,
@@ -1770,7 +1665,7 @@ record-conforms-part-c-end-2 : (t : ℕ) → record-conforms-lts.Need-part-c-end
 ) (record-conforms-at t) record-conforms.Post record-conforms-Inv-loop record-conforms-μ-loop
 record-conforms-part-c-end-2 t c = search needs
 
--- src/conforms.rt:128:9
+-- src/conforms.rt:104:9
 record-conforms-sub-ahead : (t : ℕ) → record-conforms-lts.Need-sub-ahead (
   u16-at-reads.Asked,
   u16-at-reads.Learnt,
@@ -1785,7 +1680,52 @@ record-conforms-sub-ahead : (t : ℕ) → record-conforms-lts.Need-sub-ahead (
 ) (record-conforms-at t) record-conforms.Post record-conforms-Inv-loop record-conforms-μ-loop
 record-conforms-sub-ahead t c = let k = (c .before .before) .skip-below in let g = past ((c .before .before .before .before .before .before) .loop .inv .attrs) ((c .before .before .before .before) .u16-at3 .result) (k .result .entries) (k .result .bytes) (k .ensures .0) (k .ensures .1) in omega (arith, g .most)
 
--- src/conforms.rt:129:52
+-- src/conforms.rt:105:17
+record-conforms-sub-x : (t : ℕ) → record-conforms-lts.Need-sub-x (
+  u16-at-reads.Asked,
+  u16-at-reads.Learnt,
+  skip-below-reads.Asked,
+  skip-below-reads.Learnt,
+  pair-conforms-below t,
+  pair-conforms.Post,
+  has-required-reads.Asked,
+  has-required-reads.Learnt,
+  tested-reads.Asked,
+  tested-reads.Learnt,
+) (record-conforms-at t) record-conforms.Post record-conforms-Inv-loop record-conforms-μ-loop
+record-conforms-sub-x t c = search needs
+
+-- src/conforms.rt:105:17
+record-conforms-part-x-start : (t : ℕ) → record-conforms-lts.Need-part-x-start (
+  u16-at-reads.Asked,
+  u16-at-reads.Learnt,
+  skip-below-reads.Asked,
+  skip-below-reads.Learnt,
+  pair-conforms-below t,
+  pair-conforms.Post,
+  has-required-reads.Asked,
+  has-required-reads.Learnt,
+  tested-reads.Asked,
+  tested-reads.Learnt,
+) (record-conforms-at t) record-conforms.Post record-conforms-Inv-loop record-conforms-μ-loop
+record-conforms-part-x-start t c = search needs
+
+-- src/conforms.rt:105:17
+record-conforms-part-x-end : (t : ℕ) → record-conforms-lts.Need-part-x-end (
+  u16-at-reads.Asked,
+  u16-at-reads.Learnt,
+  skip-below-reads.Asked,
+  skip-below-reads.Learnt,
+  pair-conforms-below t,
+  pair-conforms.Post,
+  has-required-reads.Asked,
+  has-required-reads.Learnt,
+  tested-reads.Asked,
+  tested-reads.Learnt,
+) (record-conforms-at t) record-conforms.Post record-conforms-Inv-loop record-conforms-μ-loop
+record-conforms-part-x-end t c = omega (arith, ahead-inside ((c .before .before .before .before .before .before) .loop .inv .rows) ((c .before .before .before .before .before) .loop-test .taken) ((c .before .before .before) .u16-at4 .result) ((c .before .before .before) .u16-at4 .ensures .0))
+
+-- src/conforms.rt:106:52
 record-conforms-shared-slice-read-pair-conforms :
     (t : ℕ) → record-conforms-lts.Need-shared-slice-read-pair-conforms (
       u16-at-reads.Asked,
@@ -1799,55 +1739,9 @@ record-conforms-shared-slice-read-pair-conforms :
       tested-reads.Asked,
       tested-reads.Learnt,
     ) (record-conforms-at t) record-conforms.Post record-conforms-Inv-loop record-conforms-μ-loop
-record-conforms-shared-slice-read-pair-conforms t c = let s = (c .before .before .before .before .before .before .before .before .before .before .before .before .before .before .before .before .before) in omega (arith, table-count attrRow (λ _. whole (s .args .levels)) 0 2 (s .args .t .now) (records-table (s .args .levels) (s .args .t .now) (s .pre .1 .1 .0)))
+record-conforms-shared-slice-read-pair-conforms t c = let s = (c .before .before .before .before .before .before .before .before .before .before .before .before .before .before .before .before .before .before) in omega (arith, table-count attrRow (λ _. whole (s .args .levels)) 0 2 (s .args .t .now) (records-table (s .args .levels) (s .args .t .now) (s .pre .1 .1 .0)))
 
--- src/conforms.rt:129:77
-record-conforms-sub-pair-conforms : (t : ℕ) → record-conforms-lts.Need-sub-pair-conforms (
-  u16-at-reads.Asked,
-  u16-at-reads.Learnt,
-  skip-below-reads.Asked,
-  skip-below-reads.Learnt,
-  pair-conforms-below t,
-  pair-conforms.Post,
-  has-required-reads.Asked,
-  has-required-reads.Learnt,
-  tested-reads.Asked,
-  tested-reads.Learnt,
-) (record-conforms-at t) record-conforms.Post record-conforms-Inv-loop record-conforms-μ-loop
-record-conforms-sub-pair-conforms t c = search needs
-
--- src/conforms.rt:129:77
-record-conforms-part-pair-conforms-start :
-    (t : ℕ) → record-conforms-lts.Need-part-pair-conforms-start (
-      u16-at-reads.Asked,
-      u16-at-reads.Learnt,
-      skip-below-reads.Asked,
-      skip-below-reads.Learnt,
-      pair-conforms-below t,
-      pair-conforms.Post,
-      has-required-reads.Asked,
-      has-required-reads.Learnt,
-      tested-reads.Asked,
-      tested-reads.Learnt,
-    ) (record-conforms-at t) record-conforms.Post record-conforms-Inv-loop record-conforms-μ-loop
-record-conforms-part-pair-conforms-start t c = search needs
-
--- src/conforms.rt:129:77
-record-conforms-part-pair-conforms-end : (t : ℕ) → record-conforms-lts.Need-part-pair-conforms-end (
-  u16-at-reads.Asked,
-  u16-at-reads.Learnt,
-  skip-below-reads.Asked,
-  skip-below-reads.Learnt,
-  pair-conforms-below t,
-  pair-conforms.Post,
-  has-required-reads.Asked,
-  has-required-reads.Learnt,
-  tested-reads.Asked,
-  tested-reads.Learnt,
-) (record-conforms-at t) record-conforms.Post record-conforms-Inv-loop record-conforms-μ-loop
-record-conforms-part-pair-conforms-end t c = omega (arith, ahead-inside ((c .before .before .before .before .before .before .before) .loop .inv .rows) ((c .before .before .before .before .before .before) .loop-test .taken) ((c .before .before .before .before) .u16-at4 .result) ((c .before .before .before .before) .u16-at4 .ensures .0))
-
--- src/conforms.rt:129:13
+-- src/conforms.rt:106:13
 record-conforms-pair-conforms-requires : (t : ℕ) → record-conforms-lts.Need-pair-conforms-requires (
   u16-at-reads.Asked,
   u16-at-reads.Learnt,
@@ -1876,7 +1770,7 @@ record-conforms-enum-told : (t : ℕ) → record-conforms-lts.Need-enum-told (
 ) (record-conforms-at t) record-conforms.Post record-conforms-Inv-loop record-conforms-μ-loop
 record-conforms-enum-told t c = search needs
 
--- src/conforms.rt:131:13
+-- src/conforms.rt:108:13
 record-conforms-returns : (t : ℕ) → record-conforms-lts.Need-returns (
   u16-at-reads.Asked,
   u16-at-reads.Learnt,
@@ -1891,7 +1785,7 @@ record-conforms-returns : (t : ℕ) → record-conforms-lts.Need-returns (
 ) (record-conforms-at t) record-conforms.Post record-conforms-Inv-loop record-conforms-μ-loop
 record-conforms-returns t c = let k = (c .before .before .before .before .before .before) .skip-below in let i = record-skip ((c .before .before .before .before .before .before .before .before .before .before) .loop .inv) ((c .before .before .before .before .before .before .before .before .before) .loop-test .taken) ((c .before .before .before .before .before .before .before .before) .u16-at3 .result) (k .result .entries) (k .result .bytes) ((c .before .before .before .before .before .before .before .before) .u16-at3 .ensures .0) (k .ensures .0) (k .ensures .1) in let p = (c .before) .pair-conforms in record-stop i ((c .before .before .before .before .before .before .before .before .before) .loop-test .taken) ((c .before .before .before .before .before .before .before .before) .u16-at3 .result) ((c .before .before .before .before .before .before .before .before) .u16-at3 .ensures .0) ((c .before .before .before .before .before .before .before) .u16-at4 .result) ((c .before .before .before .before .before .before .before) .u16-at4 .ensures .0) (p .result) (p .ensures) (no-yes (p .result) (c .match .keys2))
 
--- src/conforms.rt:133:13
+-- src/conforms.rt:110:13
 record-conforms-sub-e-2 : (t : ℕ) → record-conforms-lts.Need-sub-e-2 (
   u16-at-reads.Asked,
   u16-at-reads.Learnt,
@@ -1906,7 +1800,7 @@ record-conforms-sub-e-2 : (t : ℕ) → record-conforms-lts.Need-sub-e-2 (
 ) (record-conforms-at t) record-conforms.Post record-conforms-Inv-loop record-conforms-μ-loop
 record-conforms-sub-e-2 t c = omega (arith, ahead-room ((c .before .before .before .before .before .before .before .before .before .before .before) .loop .inv .rows) ((c .before .before .before .before .before .before .before .before .before .before) .loop-test .taken))
 
--- src/conforms.rt:133:13
+-- src/conforms.rt:110:13
 record-conforms-part-e-start-2 : (t : ℕ) → record-conforms-lts.Need-part-e-start-2 (
   u16-at-reads.Asked,
   u16-at-reads.Learnt,
@@ -1921,7 +1815,7 @@ record-conforms-part-e-start-2 : (t : ℕ) → record-conforms-lts.Need-part-e-s
 ) (record-conforms-at t) record-conforms.Post record-conforms-Inv-loop record-conforms-μ-loop
 record-conforms-part-e-start-2 t c = omega (arith, ahead-room ((c .before .before .before .before .before .before .before .before .before .before .before) .loop .inv .rows) ((c .before .before .before .before .before .before .before .before .before .before) .loop-test .taken))
 
--- src/conforms.rt:133:13
+-- src/conforms.rt:110:13
 record-conforms-part-e-end-2 : (t : ℕ) → record-conforms-lts.Need-part-e-end-2 (
   u16-at-reads.Asked,
   u16-at-reads.Learnt,
@@ -1936,7 +1830,7 @@ record-conforms-part-e-end-2 : (t : ℕ) → record-conforms-lts.Need-part-e-end
 ) (record-conforms-at t) record-conforms.Post record-conforms-Inv-loop record-conforms-μ-loop
 record-conforms-part-e-end-2 t c = search needs
 
--- src/conforms.rt:134:13
+-- src/conforms.rt:111:13
 record-conforms-sub-b-2 : (t : ℕ) → record-conforms-lts.Need-sub-b-2 (
   u16-at-reads.Asked,
   u16-at-reads.Learnt,
@@ -1951,7 +1845,7 @@ record-conforms-sub-b-2 : (t : ℕ) → record-conforms-lts.Need-sub-b-2 (
 ) (record-conforms-at t) record-conforms.Post record-conforms-Inv-loop record-conforms-μ-loop
 record-conforms-sub-b-2 t c = omega (arith, ahead-inside ((c .before .before .before .before .before .before .before .before .before .before .before .before) .loop .inv .rows) ((c .before .before .before .before .before .before .before .before .before .before .before) .loop-test .taken) ((c .before .before .before .before .before .before .before .before .before) .u16-at4 .result) ((c .before .before .before .before .before .before .before .before .before) .u16-at4 .ensures .0))
 
--- src/conforms.rt:134:13
+-- src/conforms.rt:111:13
 record-conforms-part-b-start-2 : (t : ℕ) → record-conforms-lts.Need-part-b-start-2 (
   u16-at-reads.Asked,
   u16-at-reads.Learnt,
@@ -1966,7 +1860,7 @@ record-conforms-part-b-start-2 : (t : ℕ) → record-conforms-lts.Need-part-b-s
 ) (record-conforms-at t) record-conforms.Post record-conforms-Inv-loop record-conforms-μ-loop
 record-conforms-part-b-start-2 t c = omega (arith, ahead-inside ((c .before .before .before .before .before .before .before .before .before .before .before .before) .loop .inv .rows) ((c .before .before .before .before .before .before .before .before .before .before .before) .loop-test .taken) ((c .before .before .before .before .before .before .before .before .before) .u16-at4 .result) ((c .before .before .before .before .before .before .before .before .before) .u16-at4 .ensures .0))
 
--- src/conforms.rt:134:13
+-- src/conforms.rt:111:13
 record-conforms-part-b-end-2 : (t : ℕ) → record-conforms-lts.Need-part-b-end-2 (
   u16-at-reads.Asked,
   u16-at-reads.Learnt,
@@ -1981,7 +1875,7 @@ record-conforms-part-b-end-2 : (t : ℕ) → record-conforms-lts.Need-part-b-end
 ) (record-conforms-at t) record-conforms.Post record-conforms-Inv-loop record-conforms-μ-loop
 record-conforms-part-b-end-2 t c = search needs
 
--- src/conforms.rt:135:9
+-- src/conforms.rt:112:9
 record-conforms-sub-left : (t : ℕ) → record-conforms-lts.Need-sub-left (
   u16-at-reads.Asked,
   u16-at-reads.Learnt,
@@ -1996,7 +1890,7 @@ record-conforms-sub-left : (t : ℕ) → record-conforms-lts.Need-sub-left (
 ) (record-conforms-at t) record-conforms.Post record-conforms-Inv-loop record-conforms-μ-loop
 record-conforms-sub-left t c = search needs
 
--- src/conforms.rt:119:5
+-- src/conforms.rt:95:5
 record-conforms-loop-less : (t : ℕ) → record-conforms-lts.Need-loop-less (
   u16-at-reads.Asked,
   u16-at-reads.Learnt,
@@ -2011,7 +1905,7 @@ record-conforms-loop-less : (t : ℕ) → record-conforms-lts.Need-loop-less (
 ) (record-conforms-at t) record-conforms.Post record-conforms-Inv-loop record-conforms-μ-loop
 record-conforms-loop-less t c = search needs
 
--- src/conforms.rt:119:5
+-- src/conforms.rt:95:5
 record-conforms-loop-again : (t : ℕ) → record-conforms-lts.Need-loop-again (
   u16-at-reads.Asked,
   u16-at-reads.Learnt,
@@ -2026,7 +1920,7 @@ record-conforms-loop-again : (t : ℕ) → record-conforms-lts.Need-loop-again (
 ) (record-conforms-at t) record-conforms.Post record-conforms-Inv-loop record-conforms-μ-loop
 record-conforms-loop-again t c = let k = (c .before .before .before .before .before .before .before .before .before) .skip-below in let i = record-skip ((c .before .before .before .before .before .before .before .before .before .before .before .before .before) .loop .inv) ((c .before .before .before .before .before .before .before .before .before .before .before .before) .loop-test .taken) ((c .before .before .before .before .before .before .before .before .before .before .before) .u16-at3 .result) (k .result .entries) (k .result .bytes) ((c .before .before .before .before .before .before .before .before .before .before .before) .u16-at3 .ensures .0) (k .ensures .0) (k .ensures .1) in let p = (c .before .before .before .before) .pair-conforms in record-again i ((c .before .before .before .before .before .before .before .before .before .before .before .before) .loop-test .taken) ((c .before .before .before .before .before .before .before .before .before .before .before) .u16-at3 .result) ((c .before .before .before .before .before .before .before .before .before .before .before) .u16-at3 .ensures .0) ((c .before .before .before .before .before .before .before .before .before .before) .u16-at4 .result) ((c .before .before .before .before .before .before .before .before .before .before) .u16-at4 .ensures .0) (p .result) (p .ensures) ((c .before .before) .enum-told .given .1)
 
--- src/conforms.rt:137:12
+-- src/conforms.rt:114:12
 record-conforms-has-required-requires : (t : ℕ) → record-conforms-lts.Need-has-required-requires (
   u16-at-reads.Asked,
   u16-at-reads.Learnt,
@@ -2041,7 +1935,7 @@ record-conforms-has-required-requires : (t : ℕ) → record-conforms-lts.Need-h
 ) (record-conforms-at t) record-conforms.Post record-conforms-Inv-loop record-conforms-μ-loop
 record-conforms-has-required-requires t c κs = let s = (c .before .before .before .before .before .before .before .before .before .before .before) in record { level = s .args .levels; type = s .pre .1 .1 .0; value = s .pre .1 .1 .1 }
 
--- src/conforms.rt:137:5
+-- src/conforms.rt:114:5
 record-conforms-tested-requires : (t : ℕ) → record-conforms-lts.Need-tested-requires (
   u16-at-reads.Asked,
   u16-at-reads.Learnt,
@@ -2056,7 +1950,7 @@ record-conforms-tested-requires : (t : ℕ) → record-conforms-lts.Need-tested-
 ) (record-conforms-at t) record-conforms.Post record-conforms-Inv-loop record-conforms-μ-loop
 record-conforms-tested-requires t c κs = search needs
 
--- src/conforms.rt:103:1
+-- src/conforms.rt:79:1
 record-conforms-returns-2 : (t : ℕ) → record-conforms-lts.Need-returns-2 (
   u16-at-reads.Asked,
   u16-at-reads.Learnt,
@@ -2074,6 +1968,8 @@ record-conforms-returns-2 t c = c .tested .ensures ∙ ap (λ (b : Bool). verdic
 pub +conforms+members-conform+pair-conforms+record-conforms-spec : {M : Type 1} → statement M
 +conforms+members-conform+pair-conforms+record-conforms-spec =
     close μ-conforms μ-members-conform μ-pair-conforms μ-record-conforms (λ t. conforms-lts.spec (
+      takes-kind-reads.Asked,
+      takes-kind-reads.Learnt,
       members-conform-below t,
       members-conform.Post,
       record-conforms-below t,
@@ -2088,23 +1984,20 @@ pub +conforms+members-conform+pair-conforms+record-conforms-spec : {M : Type 1} 
       is-action-of-reads.Learnt,
       call-returns-reads.Asked,
       call-returns-reads.Learnt,
-      takes-kind-reads.Asked,
-      takes-kind-reads.Learnt,
     )
     (conforms-at t)
     conforms.Post
     (conforms-shared-slice-read-k t)
-    (conforms-shared-slice-read-j t)
+    (conforms-shared-slice-read-takes-kind t)
+    (conforms-takes-kind-requires t)
     (conforms-returns t)
     (conforms-sub-members-conform t)
     (conforms-part-members-conform-start t)
     (conforms-part-members-conform-end t)
     (conforms-sub-members-conform-2 t)
     (conforms-members-conform-requires t)
-    (conforms-returns-2 t)
     (conforms-sub-record-conforms t)
     (conforms-record-conforms-requires t)
-    (conforms-returns-3 t)
     (conforms-sub-stands t)
     (conforms-part-stands-start t)
     (conforms-part-stands-end t)
@@ -2112,23 +2005,19 @@ pub +conforms+members-conform+pair-conforms+record-conforms-spec : {M : Type 1} 
     (conforms-u16-at-requires-2 t)
     (conforms-stands-requires t)
     (conforms-tested-requires t)
-    (conforms-returns-4 t)
     (conforms-u16-at-requires-3 t)
     (conforms-u16-at-requires-4 t)
     (conforms-is-action-of-requires t)
     (conforms-tested-requires-2 t)
-    (conforms-returns-5 t)
     (conforms-u16-at-requires-5 t)
     (conforms-sub-call-returns t)
     (conforms-call-returns-requires t)
-    (conforms-takes-kind-requires t)
-    (conforms-tested-requires-3 t)
+    (conforms-returns-2 t)
+    (conforms-returns-3 t)
+    (conforms-returns-4 t)
+    (conforms-returns-5 t)
     (conforms-returns-6 t)
-    (conforms-returns-7 t)
-    (conforms-returns-8 t)
-    (conforms-returns-9 t)
-    (conforms-returns-10 t)
-    (conforms-returns-11 t))
+    (conforms-returns-7 t))
     (λ t. members-conform-lts.spec (
       u16-at-reads.Asked,
       u16-at-reads.Learnt,
@@ -2240,10 +2129,10 @@ pub +conforms+members-conform+pair-conforms+record-conforms-spec : {M : Type 1} 
     (record-conforms-part-c-start-2 t)
     (record-conforms-part-c-end-2 t)
     (record-conforms-sub-ahead t)
+    (record-conforms-sub-x t)
+    (record-conforms-part-x-start t)
+    (record-conforms-part-x-end t)
     (record-conforms-shared-slice-read-pair-conforms t)
-    (record-conforms-sub-pair-conforms t)
-    (record-conforms-part-pair-conforms-start t)
-    (record-conforms-part-pair-conforms-end t)
     (record-conforms-pair-conforms-requires t)
     (record-conforms-enum-told t)
     (record-conforms-returns t)

@@ -1,10 +1,8 @@
 use Rattle.forms.specs.Laws.Parts.{pos}
-use Rattle.forms.specs.Parts.{rd}
 use borrow.Author.Tests.{eq-eqb, ne-eqb, lt-ltb, le-ltb}
 use lib.ListN.{getD}
-use lib.Dec.{eqb, ltb}
+use lib.Dec.{eqb}
 use Prim.Native.Nat.{ℕ}
-use mathlib.Core.Bool.{Bool, not, _||_, _&&_}
 use mathlib.Core.Path.{refl, ap₂, sym, _∙_}
 use native.Mathlib.Omega.{arith}
 use borrow.Author.Needs.{needs}

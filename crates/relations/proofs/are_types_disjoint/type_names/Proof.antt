@@ -1,38 +1,31 @@
+-- `relations::are_types_disjoint::type_names` meets its contract. Assumes nothing.
 use native.Mathlib.Omega.{arith}
 use Rattle.forms.specs.Laws.Views.{not-empty, is-entity}
 use Rattle.relations.specs.Laws.Disjoint.{named-entity, named-action, named-nothing}
 use Rattle.relations.proofs.are_types_disjoint.type_names.Statement.{statement}
 use Rattle.relations.proofs.are_types_disjoint.type_names.Tie as tie
-use Rattle.relations.proofs.are_types_disjoint.type_names.Reads as reads
-use Rattle.relations.proofs.are_types_disjoint.type_names.Lts as lts
-use Rattle.forms.proofs.numbers.u16_at.Reads as u16-at-reads
 
--- src/are_types_disjoint.rt:24:13
 shared-slice-read-k : tie.Need-shared-slice-read-k
 shared-slice-read-k c =
     let start = c .before .before in
     not-empty 16 (start .args .t .now) (start .pre)
 
--- src/are_types_disjoint.rt:26:62
 u16-at-requires : tie.Need-u16-at-requires
 u16-at-requires c κs =
     let start = c .before .before .before in
     let s = is-entity 16 (start .args .t .now) (start .pre) (c .match .keys1) in
     omega (arith, s .sized)
 
--- src/are_types_disjoint.rt:20:1
 returns : tie.Need-returns
 returns c =
     let start = c .before .before .before .before in
     named-entity 16 (start .args .t .now) (start .pre) (c .before .match .keys1) (c .u16-at .result) (c .u16-at .ensures .0)
 
--- src/are_types_disjoint.rt:20:1
 returns-2 : tie.Need-returns-2
 returns-2 c =
     let start = c .before .before .before in
     named-action 16 (start .args .t .now) (start .pre) (c .match .keys2)
 
--- src/are_types_disjoint.rt:20:1
 returns-3 : tie.Need-returns-3
 returns-3 c =
     let start = c .before .before .before in

@@ -1,3 +1,4 @@
+-- `relations::is_consistent_with::attribute_consistent`, `relations::is_consistent_with::attributes_consistent`, `relations::is_consistent_with::is_consistent_with` meet their contracts. Assumes nothing.
 use mathlib.Core.Path.{refl, _∙_}
 use Prim.Native.Nat.{_+_, _*_}
 use native.Mathlib.Omega.{arith}
@@ -95,103 +96,48 @@ is-consistent-with-below t =
     (falls 2 is-consistent-with-kinds.ps _<_ μ-is-consistent-with t)
     is-consistent-with.Pre
 
--- src/is_consistent_with.rt:108:63
-attribute-consistent-u16-at-requires : (t : ℕ) → attribute-consistent-lts.Need-u16-at-requires (
-  u16-at-reads.Asked,
-  u16-at-reads.Learnt,
-  find-reads.Asked,
-  find-reads.Learnt,
-  is-consistent-with-below t,
-  is-consistent-with.Post,
-) (attribute-consistent-at t) attribute-consistent.Post
+abbrev attribute-consistent-claims : ℕ → attribute-consistent-lts.Claims
+attribute-consistent-claims t = (u16-at-reads.Asked, u16-at-reads.Learnt, find-reads.Asked, find-reads.Learnt, is-consistent-with-below t, is-consistent-with.Post)
+
+abbrev attributes-consistent-claims : ℕ → attributes-consistent-lts.Claims
+attributes-consistent-claims t = (u16-at-reads.Asked, u16-at-reads.Learnt, skip-below-reads.Asked, skip-below-reads.Learnt, attribute-consistent-below t, attribute-consistent.Post)
+
+abbrev is-consistent-with-claims : ℕ → is-consistent-with-lts.Claims
+is-consistent-with-claims t = (entity-consistent-reads.Asked, entity-consistent-reads.Learnt, kind-consistent-reads.Asked, kind-consistent-reads.Learnt, is-consistent-with-below t, is-consistent-with.Post, u16-at-reads.Asked, u16-at-reads.Learnt, attributes-consistent-below t, attributes-consistent.Post, names-covered-reads.Asked, names-covered-reads.Learnt, same-bytes-reads.Asked, same-bytes-reads.Learnt, kind-is-plain-reads.Asked, kind-is-plain-reads.Learnt)
+
+attribute-consistent-u16-at-requires : (t : ℕ) → attribute-consistent-lts.Need-u16-at-requires (attribute-consistent-claims t) (attribute-consistent-at t) attribute-consistent.Post
 attribute-consistent-u16-at-requires t c κs = omega arith
 
--- src/is_consistent_with.rt:108:29
-attribute-consistent-find-requires : (t : ℕ) → attribute-consistent-lts.Need-find-requires (
-  u16-at-reads.Asked,
-  u16-at-reads.Learnt,
-  find-reads.Asked,
-  find-reads.Learnt,
-  is-consistent-with-below t,
-  is-consistent-with.Post,
-) (attribute-consistent-at t) attribute-consistent.Post
+attribute-consistent-find-requires : (t : ℕ) → attribute-consistent-lts.Need-find-requires (attribute-consistent-claims t) (attribute-consistent-at t) attribute-consistent.Post
 attribute-consistent-find-requires t c κs =
     let start = c .before .before .before .before .before in
     laid (start .pre .1 .0 .sound)
 
--- src/is_consistent_with.rt:108:19
-attribute-consistent-enum-known-i : (t : ℕ) → attribute-consistent-lts.Need-enum-known-i (
-  u16-at-reads.Asked,
-  u16-at-reads.Learnt,
-  find-reads.Asked,
-  find-reads.Learnt,
-  is-consistent-with-below t,
-  is-consistent-with.Post,
-) (attribute-consistent-at t) attribute-consistent.Post
+attribute-consistent-enum-known-i : (t : ℕ) → attribute-consistent-lts.Need-enum-known-i (attribute-consistent-claims t) (attribute-consistent-at t) attribute-consistent.Post
 attribute-consistent-enum-known-i t c = search needs
 
--- src/is_consistent_with.rt:109:12
-attribute-consistent-enum-told : (t : ℕ) → attribute-consistent-lts.Need-enum-told (
-  u16-at-reads.Asked,
-  u16-at-reads.Learnt,
-  find-reads.Asked,
-  find-reads.Learnt,
-  is-consistent-with-below t,
-  is-consistent-with.Post,
-) (attribute-consistent-at t) attribute-consistent.Post
+attribute-consistent-enum-told : (t : ℕ) → attribute-consistent-lts.Need-enum-told (attribute-consistent-claims t) (attribute-consistent-at t) attribute-consistent.Post
 attribute-consistent-enum-told t c = search needs
 
--- src/is_consistent_with.rt:110:13
-attribute-consistent-returns : (t : ℕ) → attribute-consistent-lts.Need-returns (
-  u16-at-reads.Asked,
-  u16-at-reads.Learnt,
-  find-reads.Asked,
-  find-reads.Learnt,
-  is-consistent-with-below t,
-  is-consistent-with.Post,
-) (attribute-consistent-at t) attribute-consistent.Post
+attribute-consistent-returns : (t : ℕ) → attribute-consistent-lts.Need-returns (attribute-consistent-claims t) (attribute-consistent-at t) attribute-consistent.Post
 attribute-consistent-returns t c =
     let start = c .before .before .before .before .before .before .before .before .before in
     let after-u16-at = c .before .before .before .before in
     let after-find = c .before .before .before in
     met-open (start .pre .1 .0) (eqb (start .args .openness) 1) (start .args .f .now) (dec (start .args .levels) (start .args .u .now)) (after-u16-at .u16-at .result) (after-u16-at .u16-at .ensures .0) (after-find .find .result) (after-find .find .ensures) (c .before .enum-told .given .1) (eq-eqb (start .args .openness) 1 (c .if1 .taken))
 
--- src/is_consistent_with.rt:112:16
 attribute-consistent-shared-slice-read-result :
-    (t : ℕ) → attribute-consistent-lts.Need-shared-slice-read-result (
-      u16-at-reads.Asked,
-      u16-at-reads.Learnt,
-      find-reads.Asked,
-      find-reads.Learnt,
-      is-consistent-with-below t,
-      is-consistent-with.Post,
-    ) (attribute-consistent-at t) attribute-consistent.Post
+    (t : ℕ) → attribute-consistent-lts.Need-shared-slice-read-result (attribute-consistent-claims t) (attribute-consistent-at t) attribute-consistent.Post
 attribute-consistent-shared-slice-read-result t c = search needs
 
--- src/is_consistent_with.rt:112:9
-attribute-consistent-returns-2 : (t : ℕ) → attribute-consistent-lts.Need-returns-2 (
-  u16-at-reads.Asked,
-  u16-at-reads.Learnt,
-  find-reads.Asked,
-  find-reads.Learnt,
-  is-consistent-with-below t,
-  is-consistent-with.Post,
-) (attribute-consistent-at t) attribute-consistent.Post
+attribute-consistent-returns-2 : (t : ℕ) → attribute-consistent-lts.Need-returns-2 (attribute-consistent-claims t) (attribute-consistent-at t) attribute-consistent.Post
 attribute-consistent-returns-2 t c =
     let start = c .before .before .before .before .before .before .before .before .before .before in
     let after-u16-at = c .before .before .before .before .before in
     let after-find = c .before .before .before .before in
     met-closed (start .pre .1 .0) (eqb (start .args .openness) 1) (start .args .f .now) (dec (start .args .levels) (start .args .u .now)) (after-u16-at .u16-at .result) (after-u16-at .u16-at .ensures .0) (after-find .find .result) (after-find .find .ensures) (c .before .before .enum-told .given .1) (ne-eqb (start .args .openness) 1 (c .before .if1 .left))
 
--- src/is_consistent_with.rt:114:14
-attribute-consistent-mul-at : (t : ℕ) → attribute-consistent-lts.Need-mul-at (
-  u16-at-reads.Asked,
-  u16-at-reads.Learnt,
-  find-reads.Asked,
-  find-reads.Learnt,
-  is-consistent-with-below t,
-  is-consistent-with.Post,
-) (attribute-consistent-at t) attribute-consistent.Post
+attribute-consistent-mul-at : (t : ℕ) → attribute-consistent-lts.Need-mul-at (attribute-consistent-claims t) (attribute-consistent-at t) attribute-consistent.Post
 attribute-consistent-mul-at t c =
     let start = c .before .before .before .before .before .before .before .before .before in
     let after-u16-at = c .before .before .before .before in
@@ -199,15 +145,7 @@ attribute-consistent-mul-at t c =
     let after-i = c .before in
     omega (arith, met-here (start .pre .1 .0) (eqb (start .args .openness) 1) (start .args .f .now) (dec (start .args .levels) (start .args .u .now)) (after-u16-at .u16-at .result) (after-u16-at .u16-at .ensures .0) (after-find .find .result) (after-find .find .ensures) (after-i .i .given .0 .0) (after-i .i .given .0 .1 .0) (after-i .i .given .1) .past-is .room, start .good .1 .0 .0)
 
--- src/is_consistent_with.rt:115:22
-attribute-consistent-sub-u16-at : (t : ℕ) → attribute-consistent-lts.Need-sub-u16-at (
-  u16-at-reads.Asked,
-  u16-at-reads.Learnt,
-  find-reads.Asked,
-  find-reads.Learnt,
-  is-consistent-with-below t,
-  is-consistent-with.Post,
-) (attribute-consistent-at t) attribute-consistent.Post
+attribute-consistent-sub-u16-at : (t : ℕ) → attribute-consistent-lts.Need-sub-u16-at (attribute-consistent-claims t) (attribute-consistent-at t) attribute-consistent.Post
 attribute-consistent-sub-u16-at t c =
     let start = c .before .before .before .before .before .before .before .before .before in
     let after-u16-at = c .before .before .before .before in
@@ -215,15 +153,7 @@ attribute-consistent-sub-u16-at t c =
     let after-i = c .before in
     omega (arith, met-here (start .pre .1 .0) (eqb (start .args .openness) 1) (start .args .f .now) (dec (start .args .levels) (start .args .u .now)) (after-u16-at .u16-at .result) (after-u16-at .u16-at .ensures .0) (after-find .find .result) (after-find .find .ensures) (after-i .i .given .0 .0) (after-i .i .given .0 .1 .0) (after-i .i .given .1) .past-is .room)
 
--- src/is_consistent_with.rt:115:22
-attribute-consistent-part-u16-at-start : (t : ℕ) → attribute-consistent-lts.Need-part-u16-at-start (
-  u16-at-reads.Asked,
-  u16-at-reads.Learnt,
-  find-reads.Asked,
-  find-reads.Learnt,
-  is-consistent-with-below t,
-  is-consistent-with.Post,
-) (attribute-consistent-at t) attribute-consistent.Post
+attribute-consistent-part-u16-at-start : (t : ℕ) → attribute-consistent-lts.Need-part-u16-at-start (attribute-consistent-claims t) (attribute-consistent-at t) attribute-consistent.Post
 attribute-consistent-part-u16-at-start t c =
     let start = c .before .before .before .before .before .before .before .before .before in
     let after-u16-at = c .before .before .before .before in
@@ -231,26 +161,10 @@ attribute-consistent-part-u16-at-start t c =
     let after-i = c .before in
     omega (arith, met-here (start .pre .1 .0) (eqb (start .args .openness) 1) (start .args .f .now) (dec (start .args .levels) (start .args .u .now)) (after-u16-at .u16-at .result) (after-u16-at .u16-at .ensures .0) (after-find .find .result) (after-find .find .ensures) (after-i .i .given .0 .0) (after-i .i .given .0 .1 .0) (after-i .i .given .1) .past-is .room)
 
--- src/is_consistent_with.rt:115:22
-attribute-consistent-part-u16-at-end : (t : ℕ) → attribute-consistent-lts.Need-part-u16-at-end (
-  u16-at-reads.Asked,
-  u16-at-reads.Learnt,
-  find-reads.Asked,
-  find-reads.Learnt,
-  is-consistent-with-below t,
-  is-consistent-with.Post,
-) (attribute-consistent-at t) attribute-consistent.Post
+attribute-consistent-part-u16-at-end : (t : ℕ) → attribute-consistent-lts.Need-part-u16-at-end (attribute-consistent-claims t) (attribute-consistent-at t) attribute-consistent.Post
 attribute-consistent-part-u16-at-end t c = omega arith
 
--- src/is_consistent_with.rt:115:9
-attribute-consistent-u16-at-requires-2 : (t : ℕ) → attribute-consistent-lts.Need-u16-at-requires-2 (
-  u16-at-reads.Asked,
-  u16-at-reads.Learnt,
-  find-reads.Asked,
-  find-reads.Learnt,
-  is-consistent-with-below t,
-  is-consistent-with.Post,
-) (attribute-consistent-at t) attribute-consistent.Post
+attribute-consistent-u16-at-requires-2 : (t : ℕ) → attribute-consistent-lts.Need-u16-at-requires-2 (attribute-consistent-claims t) (attribute-consistent-at t) attribute-consistent.Post
 attribute-consistent-u16-at-requires-2 t c κs =
     let start = c .before .before .before .before .before .before .before .before .before .before in
     let after-u16-at = c .before .before .before .before .before in
@@ -258,15 +172,7 @@ attribute-consistent-u16-at-requires-2 t c κs =
     let after-i = c .before .before in
     omega (arith, met-entry (start .pre .1 .0) (eqb (start .args .openness) 1) (start .args .f .now) (dec (start .args .levels) (start .args .u .now)) (after-u16-at .u16-at .result) (after-u16-at .u16-at .ensures .0) (after-find .find .result) (after-find .find .ensures) (after-i .i .given .0 .0) (after-i .i .given .0 .1 .0) (after-i .i .given .1) .room)
 
--- src/is_consistent_with.rt:116:13
-attribute-consistent-sub-b : (t : ℕ) → attribute-consistent-lts.Need-sub-b (
-  u16-at-reads.Asked,
-  u16-at-reads.Learnt,
-  find-reads.Asked,
-  find-reads.Learnt,
-  is-consistent-with-below t,
-  is-consistent-with.Post,
-) (attribute-consistent-at t) attribute-consistent.Post
+attribute-consistent-sub-b : (t : ℕ) → attribute-consistent-lts.Need-sub-b (attribute-consistent-claims t) (attribute-consistent-at t) attribute-consistent.Post
 attribute-consistent-sub-b t c =
     let start = c .before .before .before .before .before .before .before .before .before .before .before in
     let after-u16-at = c .before .before .before .before .before .before in
@@ -274,15 +180,7 @@ attribute-consistent-sub-b t c =
     let after-i = c .before .before .before in
     omega (arith, met-here (start .pre .1 .0) (eqb (start .args .openness) 1) (start .args .f .now) (dec (start .args .levels) (start .args .u .now)) (after-u16-at .u16-at .result) (after-u16-at .u16-at .ensures .0) (after-find .find .result) (after-find .find .ensures) (after-i .i .given .0 .0) (after-i .i .given .0 .1 .0) (after-i .i .given .1) .past-is .inside)
 
--- src/is_consistent_with.rt:116:13
-attribute-consistent-part-b-start : (t : ℕ) → attribute-consistent-lts.Need-part-b-start (
-  u16-at-reads.Asked,
-  u16-at-reads.Learnt,
-  find-reads.Asked,
-  find-reads.Learnt,
-  is-consistent-with-below t,
-  is-consistent-with.Post,
-) (attribute-consistent-at t) attribute-consistent.Post
+attribute-consistent-part-b-start : (t : ℕ) → attribute-consistent-lts.Need-part-b-start (attribute-consistent-claims t) (attribute-consistent-at t) attribute-consistent.Post
 attribute-consistent-part-b-start t c =
     let start = c .before .before .before .before .before .before .before .before .before .before .before in
     let after-u16-at = c .before .before .before .before .before .before in
@@ -290,27 +188,11 @@ attribute-consistent-part-b-start t c =
     let after-i = c .before .before .before in
     omega (arith, met-here (start .pre .1 .0) (eqb (start .args .openness) 1) (start .args .f .now) (dec (start .args .levels) (start .args .u .now)) (after-u16-at .u16-at .result) (after-u16-at .u16-at .ensures .0) (after-find .find .result) (after-find .find .ensures) (after-i .i .given .0 .0) (after-i .i .given .0 .1 .0) (after-i .i .given .1) .past-is .inside)
 
--- src/is_consistent_with.rt:116:13
-attribute-consistent-part-b-end : (t : ℕ) → attribute-consistent-lts.Need-part-b-end (
-  u16-at-reads.Asked,
-  u16-at-reads.Learnt,
-  find-reads.Asked,
-  find-reads.Learnt,
-  is-consistent-with-below t,
-  is-consistent-with.Post,
-) (attribute-consistent-at t) attribute-consistent.Post
+attribute-consistent-part-b-end : (t : ℕ) → attribute-consistent-lts.Need-part-b-end (attribute-consistent-claims t) (attribute-consistent-at t) attribute-consistent.Post
 attribute-consistent-part-b-end t c = omega arith
 
--- src/is_consistent_with.rt:117:24
 attribute-consistent-sub-is-consistent-with :
-    (t : ℕ) → attribute-consistent-lts.Need-sub-is-consistent-with (
-      u16-at-reads.Asked,
-      u16-at-reads.Learnt,
-      find-reads.Asked,
-      find-reads.Learnt,
-      is-consistent-with-below t,
-      is-consistent-with.Post,
-    ) (attribute-consistent-at t) attribute-consistent.Post
+    (t : ℕ) → attribute-consistent-lts.Need-sub-is-consistent-with (attribute-consistent-claims t) (attribute-consistent-at t) attribute-consistent.Post
 attribute-consistent-sub-is-consistent-with t c =
     let start = c .before .before .before .before .before .before .before .before .before .before .before .before in
     let after-u16-at = c .before .before .before .before .before .before .before in
@@ -318,16 +200,8 @@ attribute-consistent-sub-is-consistent-with t c =
     let after-i = c .before .before .before .before in
     omega (arith, met-entry (start .pre .1 .0) (eqb (start .args .openness) 1) (start .args .f .now) (dec (start .args .levels) (start .args .u .now)) (after-u16-at .u16-at .result) (after-u16-at .u16-at .ensures .0) (after-find .find .result) (after-find .find .ensures) (after-i .i .given .0 .0) (after-i .i .given .0 .1 .0) (after-i .i .given .1) .fit, c .before .u16-at2 .ensures .0)
 
--- src/is_consistent_with.rt:117:24
 attribute-consistent-part-is-consistent-with-start :
-    (t : ℕ) → attribute-consistent-lts.Need-part-is-consistent-with-start (
-      u16-at-reads.Asked,
-      u16-at-reads.Learnt,
-      find-reads.Asked,
-      find-reads.Learnt,
-      is-consistent-with-below t,
-      is-consistent-with.Post,
-    ) (attribute-consistent-at t) attribute-consistent.Post
+    (t : ℕ) → attribute-consistent-lts.Need-part-is-consistent-with-start (attribute-consistent-claims t) (attribute-consistent-at t) attribute-consistent.Post
 attribute-consistent-part-is-consistent-with-start t c =
     let start = c .before .before .before .before .before .before .before .before .before .before .before .before in
     let after-u16-at = c .before .before .before .before .before .before .before in
@@ -335,16 +209,8 @@ attribute-consistent-part-is-consistent-with-start t c =
     let after-i = c .before .before .before .before in
     omega (arith, met-entry (start .pre .1 .0) (eqb (start .args .openness) 1) (start .args .f .now) (dec (start .args .levels) (start .args .u .now)) (after-u16-at .u16-at .result) (after-u16-at .u16-at .ensures .0) (after-find .find .result) (after-find .find .ensures) (after-i .i .given .0 .0) (after-i .i .given .0 .1 .0) (after-i .i .given .1) .fit, c .before .u16-at2 .ensures .0)
 
--- src/is_consistent_with.rt:117:24
 attribute-consistent-part-is-consistent-with-end :
-    (t : ℕ) → attribute-consistent-lts.Need-part-is-consistent-with-end (
-      u16-at-reads.Asked,
-      u16-at-reads.Learnt,
-      find-reads.Asked,
-      find-reads.Learnt,
-      is-consistent-with-below t,
-      is-consistent-with.Post,
-    ) (attribute-consistent-at t) attribute-consistent.Post
+    (t : ℕ) → attribute-consistent-lts.Need-part-is-consistent-with-end (attribute-consistent-claims t) (attribute-consistent-at t) attribute-consistent.Post
 attribute-consistent-part-is-consistent-with-end t c =
     let start = c .before .before .before .before .before .before .before .before .before .before .before .before in
     let after-u16-at = c .before .before .before .before .before .before .before in
@@ -352,16 +218,8 @@ attribute-consistent-part-is-consistent-with-end t c =
     let after-i = c .before .before .before .before in
     omega (arith, met-entry (start .pre .1 .0) (eqb (start .args .openness) 1) (start .args .f .now) (dec (start .args .levels) (start .args .u .now)) (after-u16-at .u16-at .result) (after-u16-at .u16-at .ensures .0) (after-find .find .result) (after-find .find .ensures) (after-i .i .given .0 .0) (after-i .i .given .0 .1 .0) (after-i .i .given .1) .fit, c .before .u16-at2 .ensures .0)
 
--- src/is_consistent_with.rt:117:5
 attribute-consistent-is-consistent-with-requires :
-    (t : ℕ) → attribute-consistent-lts.Need-is-consistent-with-requires (
-      u16-at-reads.Asked,
-      u16-at-reads.Learnt,
-      find-reads.Asked,
-      find-reads.Learnt,
-      is-consistent-with-below t,
-      is-consistent-with.Post,
-    ) (attribute-consistent-at t) attribute-consistent.Post
+    (t : ℕ) → attribute-consistent-lts.Need-is-consistent-with-requires (attribute-consistent-claims t) (attribute-consistent-at t) attribute-consistent.Post
 attribute-consistent-is-consistent-with-requires t c κs =
     let start = c .before .before .before .before .before .before .before .before .before .before .before .before .before in
     let after-u16-at = c .before .before .before .before .before .before .before .before in
@@ -369,15 +227,7 @@ attribute-consistent-is-consistent-with-requires t c κs =
     let after-i = c .before .before .before .before .before in
     (omega (arith, start .pre .0), (rw (c .before .before .u16-at2 .ensures .0) (met-entry (start .pre .1 .0) (eqb (start .args .openness) 1) (start .args .f .now) (dec (start .args .levels) (start .args .u .now)) (after-u16-at .u16-at .result) (after-u16-at .u16-at .ensures .0) (after-find .find .result) (after-find .find .ensures) (after-i .i .given .0 .0) (after-i .i .given .0 .1 .0) (after-i .i .given .1) .body), start .pre .1 .1 .1))
 
--- src/is_consistent_with.rt:102:1
-attribute-consistent-returns-3 : (t : ℕ) → attribute-consistent-lts.Need-returns-3 (
-  u16-at-reads.Asked,
-  u16-at-reads.Learnt,
-  find-reads.Asked,
-  find-reads.Learnt,
-  is-consistent-with-below t,
-  is-consistent-with.Post,
-) (attribute-consistent-at t) attribute-consistent.Post
+attribute-consistent-returns-3 : (t : ℕ) → attribute-consistent-lts.Need-returns-3 (attribute-consistent-claims t) (attribute-consistent-at t) attribute-consistent.Post
 attribute-consistent-returns-3 t c =
     let start = c .before .before .before .before .before .before .before .before .before .before .before .before .before .before in
     let after-u16-at = c .before .before .before .before .before .before .before .before .before in
@@ -392,188 +242,56 @@ attributes-consistent-Inv-loop openness es bs n fs cs m levels e₀ b₀ left₀
 abbrev attributes-consistent-μ-loop : attributes-consistent-lts.MeasureT-loop
 attributes-consistent-μ-loop openness es bs n fs cs m levels e₀ b₀ left₀ f₀ c₀ more₀ e b left f c more = more
 
--- src/is_consistent_with.rt:132:5
-attributes-consistent-loop-holds : (t : ℕ) → attributes-consistent-lts.Need-loop-holds (
-  u16-at-reads.Asked,
-  u16-at-reads.Learnt,
-  skip-below-reads.Asked,
-  skip-below-reads.Learnt,
-  attribute-consistent-below t,
-  attribute-consistent.Post,
-)
-    (attributes-consistent-at t)
-    attributes-consistent.Post
-    attributes-consistent-Inv-loop
-    attributes-consistent-μ-loop
+attributes-consistent-loop-holds : (t : ℕ) → attributes-consistent-lts.Need-loop-holds (attributes-consistent-claims t) (attributes-consistent-at t) attributes-consistent.Post attributes-consistent-Inv-loop attributes-consistent-μ-loop
 attributes-consistent-loop-holds t c =
     let start = c .before .before .before .before in
     meeting-start (eqb (start .args .openness) 1) (start .pre .1 .0) (start .pre .1 .1)
 
--- src/is_consistent_with.rt:133:63
-attributes-consistent-u16-at-requires : (t : ℕ) → attributes-consistent-lts.Need-u16-at-requires (
-  u16-at-reads.Asked,
-  u16-at-reads.Learnt,
-  skip-below-reads.Asked,
-  skip-below-reads.Learnt,
-  attribute-consistent-below t,
-  attribute-consistent.Post,
-)
-    (attributes-consistent-at t)
-    attributes-consistent.Post
-    attributes-consistent-Inv-loop
-    attributes-consistent-μ-loop
+attributes-consistent-u16-at-requires : (t : ℕ) → attributes-consistent-lts.Need-u16-at-requires (attributes-consistent-claims t) (attributes-consistent-at t) attributes-consistent.Post attributes-consistent-Inv-loop attributes-consistent-μ-loop
 attributes-consistent-u16-at-requires t c κs = omega (arith, meeting-core (c .before .loop .inv) (c .loop-test .taken) .room)
 
--- src/is_consistent_with.rt:133:13
 attributes-consistent-skip-below-requires :
-    (t : ℕ) → attributes-consistent-lts.Need-skip-below-requires (
-      u16-at-reads.Asked,
-      u16-at-reads.Learnt,
-      skip-below-reads.Asked,
-      skip-below-reads.Learnt,
-      attribute-consistent-below t,
-      attribute-consistent.Post,
-    )
-    (attributes-consistent-at t)
-    attributes-consistent.Post
-    attributes-consistent-Inv-loop
-    attributes-consistent-μ-loop
+    (t : ℕ) → attributes-consistent-lts.Need-skip-below-requires (attributes-consistent-claims t) (attributes-consistent-at t) attributes-consistent.Post attributes-consistent-Inv-loop attributes-consistent-μ-loop
 attributes-consistent-skip-below-requires t c κs = laid (c .before .before .loop .inv .listed .sound)
 
--- src/is_consistent_with.rt:136:18
-attributes-consistent-mul-at : (t : ℕ) → attributes-consistent-lts.Need-mul-at (
-  u16-at-reads.Asked,
-  u16-at-reads.Learnt,
-  skip-below-reads.Asked,
-  skip-below-reads.Learnt,
-  attribute-consistent-below t,
-  attribute-consistent.Post,
-)
-    (attributes-consistent-at t)
-    attributes-consistent.Post
-    attributes-consistent-Inv-loop
-    attributes-consistent-μ-loop
+attributes-consistent-mul-at : (t : ℕ) → attributes-consistent-lts.Need-mul-at (attributes-consistent-claims t) (attributes-consistent-at t) attributes-consistent.Post attributes-consistent-Inv-loop attributes-consistent-μ-loop
 attributes-consistent-mul-at t c =
     let start = c .before .before .before .before .before .before .before .before in
     let at-loop = c .before .before .before in
     let after-u16-at = c .before in
     omega (arith, meeting-past (at-loop .loop .inv) (c .before .before .loop-test .taken) (after-u16-at .u16-at .result) (after-u16-at .u16-at .ensures .0) (c .skip-below .result .entries) (c .skip-below .result .bytes) (c .skip-below .ensures .0) (c .skip-below .ensures .1) .room, at-loop .loop .inv .few, at-loop .loop .inv .listed .sound .sized, start .pre .1 .0 .sized, start .good .1 .0 .0)
 
--- src/is_consistent_with.rt:137:13
-attributes-consistent-sub-e : (t : ℕ) → attributes-consistent-lts.Need-sub-e (
-  u16-at-reads.Asked,
-  u16-at-reads.Learnt,
-  skip-below-reads.Asked,
-  skip-below-reads.Learnt,
-  attribute-consistent-below t,
-  attribute-consistent.Post,
-)
-    (attributes-consistent-at t)
-    attributes-consistent.Post
-    attributes-consistent-Inv-loop
-    attributes-consistent-μ-loop
+attributes-consistent-sub-e : (t : ℕ) → attributes-consistent-lts.Need-sub-e (attributes-consistent-claims t) (attributes-consistent-at t) attributes-consistent.Post attributes-consistent-Inv-loop attributes-consistent-μ-loop
 attributes-consistent-sub-e t c =
     let after-u16-at = c .before in
     omega (arith, meeting-past (c .before .before .before .loop .inv) (c .before .before .loop-test .taken) (after-u16-at .u16-at .result) (after-u16-at .u16-at .ensures .0) (c .skip-below .result .entries) (c .skip-below .result .bytes) (c .skip-below .ensures .0) (c .skip-below .ensures .1) .room)
 
--- src/is_consistent_with.rt:137:13
-attributes-consistent-part-e-start : (t : ℕ) → attributes-consistent-lts.Need-part-e-start (
-  u16-at-reads.Asked,
-  u16-at-reads.Learnt,
-  skip-below-reads.Asked,
-  skip-below-reads.Learnt,
-  attribute-consistent-below t,
-  attribute-consistent.Post,
-)
-    (attributes-consistent-at t)
-    attributes-consistent.Post
-    attributes-consistent-Inv-loop
-    attributes-consistent-μ-loop
+attributes-consistent-part-e-start : (t : ℕ) → attributes-consistent-lts.Need-part-e-start (attributes-consistent-claims t) (attributes-consistent-at t) attributes-consistent.Post attributes-consistent-Inv-loop attributes-consistent-μ-loop
 attributes-consistent-part-e-start t c =
     let after-u16-at = c .before in
     omega (arith, meeting-past (c .before .before .before .loop .inv) (c .before .before .loop-test .taken) (after-u16-at .u16-at .result) (after-u16-at .u16-at .ensures .0) (c .skip-below .result .entries) (c .skip-below .result .bytes) (c .skip-below .ensures .0) (c .skip-below .ensures .1) .room)
 
--- src/is_consistent_with.rt:137:13
-attributes-consistent-part-e-end : (t : ℕ) → attributes-consistent-lts.Need-part-e-end (
-  u16-at-reads.Asked,
-  u16-at-reads.Learnt,
-  skip-below-reads.Asked,
-  skip-below-reads.Learnt,
-  attribute-consistent-below t,
-  attribute-consistent.Post,
-)
-    (attributes-consistent-at t)
-    attributes-consistent.Post
-    attributes-consistent-Inv-loop
-    attributes-consistent-μ-loop
+attributes-consistent-part-e-end : (t : ℕ) → attributes-consistent-lts.Need-part-e-end (attributes-consistent-claims t) (attributes-consistent-at t) attributes-consistent.Post attributes-consistent-Inv-loop attributes-consistent-μ-loop
 attributes-consistent-part-e-end t c = omega arith
 
--- src/is_consistent_with.rt:138:13
-attributes-consistent-sub-b : (t : ℕ) → attributes-consistent-lts.Need-sub-b (
-  u16-at-reads.Asked,
-  u16-at-reads.Learnt,
-  skip-below-reads.Asked,
-  skip-below-reads.Learnt,
-  attribute-consistent-below t,
-  attribute-consistent.Post,
-)
-    (attributes-consistent-at t)
-    attributes-consistent.Post
-    attributes-consistent-Inv-loop
-    attributes-consistent-μ-loop
+attributes-consistent-sub-b : (t : ℕ) → attributes-consistent-lts.Need-sub-b (attributes-consistent-claims t) (attributes-consistent-at t) attributes-consistent.Post attributes-consistent-Inv-loop attributes-consistent-μ-loop
 attributes-consistent-sub-b t c =
     let at-loop = c .before .before .before .before in
     let after-u16-at = c .before .before in
     let after-skip-below = c .before in
     omega (arith, meeting-past (at-loop .loop .inv) (c .before .before .before .loop-test .taken) (after-u16-at .u16-at .result) (after-u16-at .u16-at .ensures .0) (after-skip-below .skip-below .result .entries) (after-skip-below .skip-below .result .bytes) (after-skip-below .skip-below .ensures .0) (after-skip-below .skip-below .ensures .1) .inside)
 
--- src/is_consistent_with.rt:138:13
-attributes-consistent-part-b-start : (t : ℕ) → attributes-consistent-lts.Need-part-b-start (
-  u16-at-reads.Asked,
-  u16-at-reads.Learnt,
-  skip-below-reads.Asked,
-  skip-below-reads.Learnt,
-  attribute-consistent-below t,
-  attribute-consistent.Post,
-)
-    (attributes-consistent-at t)
-    attributes-consistent.Post
-    attributes-consistent-Inv-loop
-    attributes-consistent-μ-loop
+attributes-consistent-part-b-start : (t : ℕ) → attributes-consistent-lts.Need-part-b-start (attributes-consistent-claims t) (attributes-consistent-at t) attributes-consistent.Post attributes-consistent-Inv-loop attributes-consistent-μ-loop
 attributes-consistent-part-b-start t c =
     let at-loop = c .before .before .before .before in
     let after-u16-at = c .before .before in
     let after-skip-below = c .before in
     omega (arith, meeting-past (at-loop .loop .inv) (c .before .before .before .loop-test .taken) (after-u16-at .u16-at .result) (after-u16-at .u16-at .ensures .0) (after-skip-below .skip-below .result .entries) (after-skip-below .skip-below .result .bytes) (after-skip-below .skip-below .ensures .0) (after-skip-below .skip-below .ensures .1) .inside)
 
--- src/is_consistent_with.rt:138:13
-attributes-consistent-part-b-end : (t : ℕ) → attributes-consistent-lts.Need-part-b-end (
-  u16-at-reads.Asked,
-  u16-at-reads.Learnt,
-  skip-below-reads.Asked,
-  skip-below-reads.Learnt,
-  attribute-consistent-below t,
-  attribute-consistent.Post,
-)
-    (attributes-consistent-at t)
-    attributes-consistent.Post
-    attributes-consistent-Inv-loop
-    attributes-consistent-μ-loop
+attributes-consistent-part-b-end : (t : ℕ) → attributes-consistent-lts.Need-part-b-end (attributes-consistent-claims t) (attributes-consistent-at t) attributes-consistent.Post attributes-consistent-Inv-loop attributes-consistent-μ-loop
 attributes-consistent-part-b-end t c = omega arith
 
--- src/is_consistent_with.rt:139:9
-attributes-consistent-sub-left : (t : ℕ) → attributes-consistent-lts.Need-sub-left (
-  u16-at-reads.Asked,
-  u16-at-reads.Learnt,
-  skip-below-reads.Asked,
-  skip-below-reads.Learnt,
-  attribute-consistent-below t,
-  attribute-consistent.Post,
-)
-    (attributes-consistent-at t)
-    attributes-consistent.Post
-    attributes-consistent-Inv-loop
-    attributes-consistent-μ-loop
+attributes-consistent-sub-left : (t : ℕ) → attributes-consistent-lts.Need-sub-left (attributes-consistent-claims t) (attributes-consistent-at t) attributes-consistent.Post attributes-consistent-Inv-loop attributes-consistent-μ-loop
 attributes-consistent-sub-left t c =
     let at-loop = c .before .before .before .before .before in
     let in-loop = c .before .before .before .before in
@@ -581,96 +299,36 @@ attributes-consistent-sub-left t c =
     let after-skip-below = c .before .before in
     omega (arith, meeting-past (at-loop .loop .inv) (in-loop .loop-test .taken) (after-u16-at .u16-at .result) (after-u16-at .u16-at .ensures .0) (after-skip-below .skip-below .result .entries) (after-skip-below .skip-below .result .bytes) (after-skip-below .skip-below .ensures .0) (after-skip-below .skip-below .ensures .1) .most)
 
--- src/is_consistent_with.rt:140:13
 attributes-consistent-u16-at-requires-2 :
-    (t : ℕ) → attributes-consistent-lts.Need-u16-at-requires-2 (
-      u16-at-reads.Asked,
-      u16-at-reads.Learnt,
-      skip-below-reads.Asked,
-      skip-below-reads.Learnt,
-      attribute-consistent-below t,
-      attribute-consistent.Post,
-    )
-    (attributes-consistent-at t)
-    attributes-consistent.Post
-    attributes-consistent-Inv-loop
-    attributes-consistent-μ-loop
+    (t : ℕ) → attributes-consistent-lts.Need-u16-at-requires-2 (attributes-consistent-claims t) (attributes-consistent-at t) attributes-consistent.Post attributes-consistent-Inv-loop attributes-consistent-μ-loop
 attributes-consistent-u16-at-requires-2 t c κs =
     let at-loop = c .before .before .before .before .before in
     let in-loop = c .before .before .before .before in
     omega (arith, meeting-core (at-loop .loop .inv) (in-loop .loop-test .taken) .room)
 
--- src/is_consistent_with.rt:141:59
 attributes-consistent-sub-attribute-consistent :
-    (t : ℕ) → attributes-consistent-lts.Need-sub-attribute-consistent (
-      u16-at-reads.Asked,
-      u16-at-reads.Learnt,
-      skip-below-reads.Asked,
-      skip-below-reads.Learnt,
-      attribute-consistent-below t,
-      attribute-consistent.Post,
-    )
-    (attributes-consistent-at t)
-    attributes-consistent.Post
-    attributes-consistent-Inv-loop
-    attributes-consistent-μ-loop
+    (t : ℕ) → attributes-consistent-lts.Need-sub-attribute-consistent (attributes-consistent-claims t) (attributes-consistent-at t) attributes-consistent.Post attributes-consistent-Inv-loop attributes-consistent-μ-loop
 attributes-consistent-sub-attribute-consistent t c =
     let at-loop = c .before .before .before .before .before .before in
     let in-loop = c .before .before .before .before .before in
     omega (arith, meeting-core (at-loop .loop .inv) (in-loop .loop-test .taken) .fit, c .u16-at2 .ensures .0)
 
--- src/is_consistent_with.rt:141:59
 attributes-consistent-part-attribute-consistent-start :
-    (t : ℕ) → attributes-consistent-lts.Need-part-attribute-consistent-start (
-      u16-at-reads.Asked,
-      u16-at-reads.Learnt,
-      skip-below-reads.Asked,
-      skip-below-reads.Learnt,
-      attribute-consistent-below t,
-      attribute-consistent.Post,
-    )
-    (attributes-consistent-at t)
-    attributes-consistent.Post
-    attributes-consistent-Inv-loop
-    attributes-consistent-μ-loop
+    (t : ℕ) → attributes-consistent-lts.Need-part-attribute-consistent-start (attributes-consistent-claims t) (attributes-consistent-at t) attributes-consistent.Post attributes-consistent-Inv-loop attributes-consistent-μ-loop
 attributes-consistent-part-attribute-consistent-start t c =
     let at-loop = c .before .before .before .before .before .before in
     let in-loop = c .before .before .before .before .before in
     omega (arith, meeting-core (at-loop .loop .inv) (in-loop .loop-test .taken) .fit, c .u16-at2 .ensures .0)
 
--- src/is_consistent_with.rt:141:59
 attributes-consistent-part-attribute-consistent-end :
-    (t : ℕ) → attributes-consistent-lts.Need-part-attribute-consistent-end (
-      u16-at-reads.Asked,
-      u16-at-reads.Learnt,
-      skip-below-reads.Asked,
-      skip-below-reads.Learnt,
-      attribute-consistent-below t,
-      attribute-consistent.Post,
-    )
-    (attributes-consistent-at t)
-    attributes-consistent.Post
-    attributes-consistent-Inv-loop
-    attributes-consistent-μ-loop
+    (t : ℕ) → attributes-consistent-lts.Need-part-attribute-consistent-end (attributes-consistent-claims t) (attributes-consistent-at t) attributes-consistent.Post attributes-consistent-Inv-loop attributes-consistent-μ-loop
 attributes-consistent-part-attribute-consistent-end t c =
     let at-loop = c .before .before .before .before .before .before in
     let in-loop = c .before .before .before .before .before in
     omega (arith, meeting-core (at-loop .loop .inv) (in-loop .loop-test .taken) .fit, c .u16-at2 .ensures .0)
 
--- src/is_consistent_with.rt:141:13
 attributes-consistent-attribute-consistent-requires :
-    (t : ℕ) → attributes-consistent-lts.Need-attribute-consistent-requires (
-      u16-at-reads.Asked,
-      u16-at-reads.Learnt,
-      skip-below-reads.Asked,
-      skip-below-reads.Learnt,
-      attribute-consistent-below t,
-      attribute-consistent.Post,
-    )
-    (attributes-consistent-at t)
-    attributes-consistent.Post
-    attributes-consistent-Inv-loop
-    attributes-consistent-μ-loop
+    (t : ℕ) → attributes-consistent-lts.Need-attribute-consistent-requires (attributes-consistent-claims t) (attributes-consistent-at t) attributes-consistent.Post attributes-consistent-Inv-loop attributes-consistent-μ-loop
 attributes-consistent-attribute-consistent-requires t c κs =
     let start = c .before .before .before .before .before .before .before .before .before .before .before .before in
     let at-loop = c .before .before .before .before .before .before .before in
@@ -679,19 +337,7 @@ attributes-consistent-attribute-consistent-requires t c κs =
     let after-skip-below = c .before .before .before .before in
     (omega (arith, start .pre .0), (meeting-list (at-loop .loop .inv) (in-loop .loop-test .taken) (after-u16-at .u16-at .result) (after-u16-at .u16-at .ensures .0) (after-skip-below .skip-below .result .entries) (after-skip-below .skip-below .result .bytes) (after-skip-below .skip-below .ensures .0) (after-skip-below .skip-below .ensures .1), (meeting-core (at-loop .loop .inv) (in-loop .loop-test .taken) .room, rw (c .before .u16-at2 .ensures .0) (meeting-core (at-loop .loop .inv) (in-loop .loop-test .taken) .body))))
 
--- src/is_consistent_with.rt:142:13
-attributes-consistent-returns : (t : ℕ) → attributes-consistent-lts.Need-returns (
-  u16-at-reads.Asked,
-  u16-at-reads.Learnt,
-  skip-below-reads.Asked,
-  skip-below-reads.Learnt,
-  attribute-consistent-below t,
-  attribute-consistent.Post,
-)
-    (attributes-consistent-at t)
-    attributes-consistent.Post
-    attributes-consistent-Inv-loop
-    attributes-consistent-μ-loop
+attributes-consistent-returns : (t : ℕ) → attributes-consistent-lts.Need-returns (attributes-consistent-claims t) (attributes-consistent-at t) attributes-consistent.Post attributes-consistent-Inv-loop attributes-consistent-μ-loop
 attributes-consistent-returns t c =
     let at-loop = c .before .before .before .before .before .before .before .before .before in
     let in-loop = c .before .before .before .before .before .before .before .before in
@@ -701,153 +347,45 @@ attributes-consistent-returns t c =
     let after-attribute-consistent = c .before in
     meeting-not (at-loop .loop .inv) (in-loop .loop-test .taken) (after-u16-at .u16-at .result) (after-u16-at .u16-at .ensures .0) (after-skip-below .skip-below .result .entries) (after-skip-below .skip-below .result .bytes) (after-skip-below .skip-below .ensures .0) (after-skip-below .skip-below .ensures .1) (after-u16-at2 .u16-at2 .result) (after-u16-at2 .u16-at2 .ensures .0) (after-attribute-consistent .attribute-consistent .result) (after-attribute-consistent .attribute-consistent .ensures) (c .if1 .taken)
 
--- src/is_consistent_with.rt:144:13
-attributes-consistent-sub-f : (t : ℕ) → attributes-consistent-lts.Need-sub-f (
-  u16-at-reads.Asked,
-  u16-at-reads.Learnt,
-  skip-below-reads.Asked,
-  skip-below-reads.Learnt,
-  attribute-consistent-below t,
-  attribute-consistent.Post,
-)
-    (attributes-consistent-at t)
-    attributes-consistent.Post
-    attributes-consistent-Inv-loop
-    attributes-consistent-μ-loop
+attributes-consistent-sub-f : (t : ℕ) → attributes-consistent-lts.Need-sub-f (attributes-consistent-claims t) (attributes-consistent-at t) attributes-consistent.Post attributes-consistent-Inv-loop attributes-consistent-μ-loop
 attributes-consistent-sub-f t c =
     let at-loop = c .before .before .before .before .before .before .before .before .before in
     let in-loop = c .before .before .before .before .before .before .before .before in
     omega (arith, meeting-core (at-loop .loop .inv) (in-loop .loop-test .taken) .room)
 
--- src/is_consistent_with.rt:144:13
-attributes-consistent-part-f-start : (t : ℕ) → attributes-consistent-lts.Need-part-f-start (
-  u16-at-reads.Asked,
-  u16-at-reads.Learnt,
-  skip-below-reads.Asked,
-  skip-below-reads.Learnt,
-  attribute-consistent-below t,
-  attribute-consistent.Post,
-)
-    (attributes-consistent-at t)
-    attributes-consistent.Post
-    attributes-consistent-Inv-loop
-    attributes-consistent-μ-loop
+attributes-consistent-part-f-start : (t : ℕ) → attributes-consistent-lts.Need-part-f-start (attributes-consistent-claims t) (attributes-consistent-at t) attributes-consistent.Post attributes-consistent-Inv-loop attributes-consistent-μ-loop
 attributes-consistent-part-f-start t c =
     let at-loop = c .before .before .before .before .before .before .before .before .before in
     let in-loop = c .before .before .before .before .before .before .before .before in
     omega (arith, meeting-core (at-loop .loop .inv) (in-loop .loop-test .taken) .room)
 
--- src/is_consistent_with.rt:144:13
-attributes-consistent-part-f-end : (t : ℕ) → attributes-consistent-lts.Need-part-f-end (
-  u16-at-reads.Asked,
-  u16-at-reads.Learnt,
-  skip-below-reads.Asked,
-  skip-below-reads.Learnt,
-  attribute-consistent-below t,
-  attribute-consistent.Post,
-)
-    (attributes-consistent-at t)
-    attributes-consistent.Post
-    attributes-consistent-Inv-loop
-    attributes-consistent-μ-loop
+attributes-consistent-part-f-end : (t : ℕ) → attributes-consistent-lts.Need-part-f-end (attributes-consistent-claims t) (attributes-consistent-at t) attributes-consistent.Post attributes-consistent-Inv-loop attributes-consistent-μ-loop
 attributes-consistent-part-f-end t c = omega arith
 
--- src/is_consistent_with.rt:145:13
-attributes-consistent-sub-c : (t : ℕ) → attributes-consistent-lts.Need-sub-c (
-  u16-at-reads.Asked,
-  u16-at-reads.Learnt,
-  skip-below-reads.Asked,
-  skip-below-reads.Learnt,
-  attribute-consistent-below t,
-  attribute-consistent.Post,
-)
-    (attributes-consistent-at t)
-    attributes-consistent.Post
-    attributes-consistent-Inv-loop
-    attributes-consistent-μ-loop
+attributes-consistent-sub-c : (t : ℕ) → attributes-consistent-lts.Need-sub-c (attributes-consistent-claims t) (attributes-consistent-at t) attributes-consistent.Post attributes-consistent-Inv-loop attributes-consistent-μ-loop
 attributes-consistent-sub-c t c =
     let at-loop = c .before .before .before .before .before .before .before .before .before .before in
     let in-loop = c .before .before .before .before .before .before .before .before .before in
     let after-u16-at2 = c .before .before .before .before in
     omega (arith, meeting-core (at-loop .loop .inv) (in-loop .loop-test .taken) .fit, after-u16-at2 .u16-at2 .ensures .0)
 
--- src/is_consistent_with.rt:145:13
-attributes-consistent-part-c-start : (t : ℕ) → attributes-consistent-lts.Need-part-c-start (
-  u16-at-reads.Asked,
-  u16-at-reads.Learnt,
-  skip-below-reads.Asked,
-  skip-below-reads.Learnt,
-  attribute-consistent-below t,
-  attribute-consistent.Post,
-)
-    (attributes-consistent-at t)
-    attributes-consistent.Post
-    attributes-consistent-Inv-loop
-    attributes-consistent-μ-loop
+attributes-consistent-part-c-start : (t : ℕ) → attributes-consistent-lts.Need-part-c-start (attributes-consistent-claims t) (attributes-consistent-at t) attributes-consistent.Post attributes-consistent-Inv-loop attributes-consistent-μ-loop
 attributes-consistent-part-c-start t c =
     let at-loop = c .before .before .before .before .before .before .before .before .before .before in
     let in-loop = c .before .before .before .before .before .before .before .before .before in
     let after-u16-at2 = c .before .before .before .before in
     omega (arith, meeting-core (at-loop .loop .inv) (in-loop .loop-test .taken) .fit, after-u16-at2 .u16-at2 .ensures .0)
 
--- src/is_consistent_with.rt:145:13
-attributes-consistent-part-c-end : (t : ℕ) → attributes-consistent-lts.Need-part-c-end (
-  u16-at-reads.Asked,
-  u16-at-reads.Learnt,
-  skip-below-reads.Asked,
-  skip-below-reads.Learnt,
-  attribute-consistent-below t,
-  attribute-consistent.Post,
-)
-    (attributes-consistent-at t)
-    attributes-consistent.Post
-    attributes-consistent-Inv-loop
-    attributes-consistent-μ-loop
+attributes-consistent-part-c-end : (t : ℕ) → attributes-consistent-lts.Need-part-c-end (attributes-consistent-claims t) (attributes-consistent-at t) attributes-consistent.Post attributes-consistent-Inv-loop attributes-consistent-μ-loop
 attributes-consistent-part-c-end t c = omega arith
 
--- src/is_consistent_with.rt:146:9
-attributes-consistent-sub-more : (t : ℕ) → attributes-consistent-lts.Need-sub-more (
-  u16-at-reads.Asked,
-  u16-at-reads.Learnt,
-  skip-below-reads.Asked,
-  skip-below-reads.Learnt,
-  attribute-consistent-below t,
-  attribute-consistent.Post,
-)
-    (attributes-consistent-at t)
-    attributes-consistent.Post
-    attributes-consistent-Inv-loop
-    attributes-consistent-μ-loop
+attributes-consistent-sub-more : (t : ℕ) → attributes-consistent-lts.Need-sub-more (attributes-consistent-claims t) (attributes-consistent-at t) attributes-consistent.Post attributes-consistent-Inv-loop attributes-consistent-μ-loop
 attributes-consistent-sub-more t c = omega arith
 
--- src/is_consistent_with.rt:132:5
-attributes-consistent-loop-less : (t : ℕ) → attributes-consistent-lts.Need-loop-less (
-  u16-at-reads.Asked,
-  u16-at-reads.Learnt,
-  skip-below-reads.Asked,
-  skip-below-reads.Learnt,
-  attribute-consistent-below t,
-  attribute-consistent.Post,
-)
-    (attributes-consistent-at t)
-    attributes-consistent.Post
-    attributes-consistent-Inv-loop
-    attributes-consistent-μ-loop
+attributes-consistent-loop-less : (t : ℕ) → attributes-consistent-lts.Need-loop-less (attributes-consistent-claims t) (attributes-consistent-at t) attributes-consistent.Post attributes-consistent-Inv-loop attributes-consistent-μ-loop
 attributes-consistent-loop-less t c = omega arith
 
--- src/is_consistent_with.rt:132:5
-attributes-consistent-loop-again : (t : ℕ) → attributes-consistent-lts.Need-loop-again (
-  u16-at-reads.Asked,
-  u16-at-reads.Learnt,
-  skip-below-reads.Asked,
-  skip-below-reads.Learnt,
-  attribute-consistent-below t,
-  attribute-consistent.Post,
-)
-    (attributes-consistent-at t)
-    attributes-consistent.Post
-    attributes-consistent-Inv-loop
-    attributes-consistent-μ-loop
+attributes-consistent-loop-again : (t : ℕ) → attributes-consistent-lts.Need-loop-again (attributes-consistent-claims t) (attributes-consistent-at t) attributes-consistent.Post attributes-consistent-Inv-loop attributes-consistent-μ-loop
 attributes-consistent-loop-again t c =
     let at-loop = c .before .before .before .before .before .before .before .before .before .before .before in
     let in-loop = c .before .before .before .before .before .before .before .before .before .before in
@@ -857,728 +395,158 @@ attributes-consistent-loop-again t c =
     let after-attribute-consistent = c .before .before .before in
     meeting-again (at-loop .loop .inv) (in-loop .loop-test .taken) (after-u16-at .u16-at .result) (after-u16-at .u16-at .ensures .0) (after-skip-below .skip-below .result .entries) (after-skip-below .skip-below .result .bytes) (after-skip-below .skip-below .ensures .0) (after-skip-below .skip-below .ensures .1) (after-u16-at2 .u16-at2 .result) (after-u16-at2 .u16-at2 .ensures .0) (after-attribute-consistent .attribute-consistent .result) (after-attribute-consistent .attribute-consistent .ensures) (c .before .before .if1 .left)
 
--- src/is_consistent_with.rt:121:1
-attributes-consistent-returns-2 : (t : ℕ) → attributes-consistent-lts.Need-returns-2 (
-  u16-at-reads.Asked,
-  u16-at-reads.Learnt,
-  skip-below-reads.Asked,
-  skip-below-reads.Learnt,
-  attribute-consistent-below t,
-  attribute-consistent.Post,
-)
-    (attributes-consistent-at t)
-    attributes-consistent.Post
-    attributes-consistent-Inv-loop
-    attributes-consistent-μ-loop
+attributes-consistent-returns-2 : (t : ℕ) → attributes-consistent-lts.Need-returns-2 (attributes-consistent-claims t) (attributes-consistent-at t) attributes-consistent.Post attributes-consistent-Inv-loop attributes-consistent-μ-loop
 attributes-consistent-returns-2 t c = meeting-end (c .before .loop .inv) (c .loop-test .left)
 
--- src/is_consistent_with.rt:157:13
-is-consistent-with-shared-slice-read-j : (t : ℕ) → is-consistent-with-lts.Need-shared-slice-read-j (
-  entity-consistent-reads.Asked,
-  entity-consistent-reads.Learnt,
-  kind-consistent-reads.Asked,
-  kind-consistent-reads.Learnt,
-  is-consistent-with-below t,
-  is-consistent-with.Post,
-  u16-at-reads.Asked,
-  u16-at-reads.Learnt,
-  attributes-consistent-below t,
-  attributes-consistent.Post,
-  names-covered-reads.Asked,
-  names-covered-reads.Learnt,
-  same-bytes-reads.Asked,
-  same-bytes-reads.Learnt,
-  kind-is-plain-reads.Asked,
-  kind-is-plain-reads.Learnt,
-) (is-consistent-with-at t) is-consistent-with.Post
+is-consistent-with-shared-slice-read-j : (t : ℕ) → is-consistent-with-lts.Need-shared-slice-read-j (is-consistent-with-claims t) (is-consistent-with-at t) is-consistent-with.Post
 is-consistent-with-shared-slice-read-j t c =
     let start = c .before .before .before in
     not-empty (start .args .levels) (start .args .t0 .now) (start .pre .1 .0)
 
--- src/is_consistent_with.rt:158:13
-is-consistent-with-shared-slice-read-k : (t : ℕ) → is-consistent-with-lts.Need-shared-slice-read-k (
-  entity-consistent-reads.Asked,
-  entity-consistent-reads.Learnt,
-  kind-consistent-reads.Asked,
-  kind-consistent-reads.Learnt,
-  is-consistent-with-below t,
-  is-consistent-with.Post,
-  u16-at-reads.Asked,
-  u16-at-reads.Learnt,
-  attributes-consistent-below t,
-  attributes-consistent.Post,
-  names-covered-reads.Asked,
-  names-covered-reads.Learnt,
-  same-bytes-reads.Asked,
-  same-bytes-reads.Learnt,
-  kind-is-plain-reads.Asked,
-  kind-is-plain-reads.Learnt,
-) (is-consistent-with-at t) is-consistent-with.Post
+is-consistent-with-shared-slice-read-k : (t : ℕ) → is-consistent-with-lts.Need-shared-slice-read-k (is-consistent-with-claims t) (is-consistent-with-at t) is-consistent-with.Post
 is-consistent-with-shared-slice-read-k t c =
     let start = c .before .before .before .before in
     not-empty (start .args .levels) (start .args .t1 .now) (start .pre .1 .1)
 
--- src/is_consistent_with.rt:160:9
 is-consistent-with-entity-consistent-requires :
-    (t : ℕ) → is-consistent-with-lts.Need-entity-consistent-requires (
-      entity-consistent-reads.Asked,
-      entity-consistent-reads.Learnt,
-      kind-consistent-reads.Asked,
-      kind-consistent-reads.Learnt,
-      is-consistent-with-below t,
-      is-consistent-with.Post,
-      u16-at-reads.Asked,
-      u16-at-reads.Learnt,
-      attributes-consistent-below t,
-      attributes-consistent.Post,
-      names-covered-reads.Asked,
-      names-covered-reads.Learnt,
-      same-bytes-reads.Asked,
-      same-bytes-reads.Learnt,
-      kind-is-plain-reads.Asked,
-      kind-is-plain-reads.Learnt,
-    ) (is-consistent-with-at t) is-consistent-with.Post
+    (t : ℕ) → is-consistent-with-lts.Need-entity-consistent-requires (is-consistent-with-claims t) (is-consistent-with-at t) is-consistent-with.Post
 is-consistent-with-entity-consistent-requires t c κs =
     let start = c .before .before .before .before .before in
     ((start .pre .1 .0), entity-form (is-entity (start .args .levels) (start .args .t1 .now) (start .pre .1 .1) (c .if1 .taken)))
 
--- src/is_consistent_with.rt:160:9
-is-consistent-with-returns : (t : ℕ) → is-consistent-with-lts.Need-returns (
-  entity-consistent-reads.Asked,
-  entity-consistent-reads.Learnt,
-  kind-consistent-reads.Asked,
-  kind-consistent-reads.Learnt,
-  is-consistent-with-below t,
-  is-consistent-with.Post,
-  u16-at-reads.Asked,
-  u16-at-reads.Learnt,
-  attributes-consistent-below t,
-  attributes-consistent.Post,
-  names-covered-reads.Asked,
-  names-covered-reads.Learnt,
-  same-bytes-reads.Asked,
-  same-bytes-reads.Learnt,
-  kind-is-plain-reads.Asked,
-  kind-is-plain-reads.Learnt,
-) (is-consistent-with-at t) is-consistent-with.Post
+is-consistent-with-returns : (t : ℕ) → is-consistent-with-lts.Need-returns (is-consistent-with-claims t) (is-consistent-with-at t) is-consistent-with.Post
 is-consistent-with-returns t c =
     let start = c .before .before .before .before .before .before in
     c .entity-consistent .ensures ∙ with-entity (start .args .levels) (start .args .t0 .now) (start .args .t1 .now) (start .pre .1 .0) (start .pre .1 .1) (c .before .if1 .taken)
 
--- src/is_consistent_with.rt:163:9
 is-consistent-with-kind-consistent-requires :
-    (t : ℕ) → is-consistent-with-lts.Need-kind-consistent-requires (
-      entity-consistent-reads.Asked,
-      entity-consistent-reads.Learnt,
-      kind-consistent-reads.Asked,
-      kind-consistent-reads.Learnt,
-      is-consistent-with-below t,
-      is-consistent-with.Post,
-      u16-at-reads.Asked,
-      u16-at-reads.Learnt,
-      attributes-consistent-below t,
-      attributes-consistent.Post,
-      names-covered-reads.Asked,
-      names-covered-reads.Learnt,
-      same-bytes-reads.Asked,
-      same-bytes-reads.Learnt,
-      kind-is-plain-reads.Asked,
-      kind-is-plain-reads.Learnt,
-    ) (is-consistent-with-at t) is-consistent-with.Post
+    (t : ℕ) → is-consistent-with-lts.Need-kind-consistent-requires (is-consistent-with-claims t) (is-consistent-with-at t) is-consistent-with.Post
 is-consistent-with-kind-consistent-requires t c κs = search needs
 
--- src/is_consistent_with.rt:163:9
-is-consistent-with-returns-2 : (t : ℕ) → is-consistent-with-lts.Need-returns-2 (
-  entity-consistent-reads.Asked,
-  entity-consistent-reads.Learnt,
-  kind-consistent-reads.Asked,
-  kind-consistent-reads.Learnt,
-  is-consistent-with-below t,
-  is-consistent-with.Post,
-  u16-at-reads.Asked,
-  u16-at-reads.Learnt,
-  attributes-consistent-below t,
-  attributes-consistent.Post,
-  names-covered-reads.Asked,
-  names-covered-reads.Learnt,
-  same-bytes-reads.Asked,
-  same-bytes-reads.Learnt,
-  kind-is-plain-reads.Asked,
-  kind-is-plain-reads.Learnt,
-) (is-consistent-with-at t) is-consistent-with.Post
+is-consistent-with-returns-2 : (t : ℕ) → is-consistent-with-lts.Need-returns-2 (is-consistent-with-claims t) (is-consistent-with-at t) is-consistent-with.Post
 is-consistent-with-returns-2 t c =
     let start = c .before .before .before .before .before .before .before in
     c .kind-consistent .ensures ∙ unlike-kinds (start .args .levels) (start .args .t0 .now) (start .args .t1 .now) (start .pre .1 .0) (start .pre .1 .1) (c .before .before .if1 .left) (c .before .if2 .taken)
 
--- src/is_consistent_with.rt:166:41
 is-consistent-with-sub-is-consistent-with :
-    (t : ℕ) → is-consistent-with-lts.Need-sub-is-consistent-with (
-      entity-consistent-reads.Asked,
-      entity-consistent-reads.Learnt,
-      kind-consistent-reads.Asked,
-      kind-consistent-reads.Learnt,
-      is-consistent-with-below t,
-      is-consistent-with.Post,
-      u16-at-reads.Asked,
-      u16-at-reads.Learnt,
-      attributes-consistent-below t,
-      attributes-consistent.Post,
-      names-covered-reads.Asked,
-      names-covered-reads.Learnt,
-      same-bytes-reads.Asked,
-      same-bytes-reads.Learnt,
-      kind-is-plain-reads.Asked,
-      kind-is-plain-reads.Learnt,
-    ) (is-consistent-with-at t) is-consistent-with.Post
+    (t : ℕ) → is-consistent-with-lts.Need-sub-is-consistent-with (is-consistent-with-claims t) (is-consistent-with-at t) is-consistent-with.Post
 is-consistent-with-sub-is-consistent-with t c =
     let start = c .before .before .before .before .before .before .before in
     omega (arith, not-empty (start .args .levels) (start .args .t0 .now) (start .pre .1 .0))
 
--- src/is_consistent_with.rt:166:41
 is-consistent-with-part-is-consistent-with-start :
-    (t : ℕ) → is-consistent-with-lts.Need-part-is-consistent-with-start (
-      entity-consistent-reads.Asked,
-      entity-consistent-reads.Learnt,
-      kind-consistent-reads.Asked,
-      kind-consistent-reads.Learnt,
-      is-consistent-with-below t,
-      is-consistent-with.Post,
-      u16-at-reads.Asked,
-      u16-at-reads.Learnt,
-      attributes-consistent-below t,
-      attributes-consistent.Post,
-      names-covered-reads.Asked,
-      names-covered-reads.Learnt,
-      same-bytes-reads.Asked,
-      same-bytes-reads.Learnt,
-      kind-is-plain-reads.Asked,
-      kind-is-plain-reads.Learnt,
-    ) (is-consistent-with-at t) is-consistent-with.Post
+    (t : ℕ) → is-consistent-with-lts.Need-part-is-consistent-with-start (is-consistent-with-claims t) (is-consistent-with-at t) is-consistent-with.Post
 is-consistent-with-part-is-consistent-with-start t c =
     let start = c .before .before .before .before .before .before .before in
     omega (arith, not-empty (start .args .levels) (start .args .t0 .now) (start .pre .1 .0))
 
--- src/is_consistent_with.rt:166:41
 is-consistent-with-part-is-consistent-with-end :
-    (t : ℕ) → is-consistent-with-lts.Need-part-is-consistent-with-end (
-      entity-consistent-reads.Asked,
-      entity-consistent-reads.Learnt,
-      kind-consistent-reads.Asked,
-      kind-consistent-reads.Learnt,
-      is-consistent-with-below t,
-      is-consistent-with.Post,
-      u16-at-reads.Asked,
-      u16-at-reads.Learnt,
-      attributes-consistent-below t,
-      attributes-consistent.Post,
-      names-covered-reads.Asked,
-      names-covered-reads.Learnt,
-      same-bytes-reads.Asked,
-      same-bytes-reads.Learnt,
-      kind-is-plain-reads.Asked,
-      kind-is-plain-reads.Learnt,
-    ) (is-consistent-with-at t) is-consistent-with.Post
+    (t : ℕ) → is-consistent-with-lts.Need-part-is-consistent-with-end (is-consistent-with-claims t) (is-consistent-with-at t) is-consistent-with.Post
 is-consistent-with-part-is-consistent-with-end t c = omega arith
 
--- src/is_consistent_with.rt:166:64
 is-consistent-with-sub-is-consistent-with-2 :
-    (t : ℕ) → is-consistent-with-lts.Need-sub-is-consistent-with-2 (
-      entity-consistent-reads.Asked,
-      entity-consistent-reads.Learnt,
-      kind-consistent-reads.Asked,
-      kind-consistent-reads.Learnt,
-      is-consistent-with-below t,
-      is-consistent-with.Post,
-      u16-at-reads.Asked,
-      u16-at-reads.Learnt,
-      attributes-consistent-below t,
-      attributes-consistent.Post,
-      names-covered-reads.Asked,
-      names-covered-reads.Learnt,
-      same-bytes-reads.Asked,
-      same-bytes-reads.Learnt,
-      kind-is-plain-reads.Asked,
-      kind-is-plain-reads.Learnt,
-    ) (is-consistent-with-at t) is-consistent-with.Post
+    (t : ℕ) → is-consistent-with-lts.Need-sub-is-consistent-with-2 (is-consistent-with-claims t) (is-consistent-with-at t) is-consistent-with.Post
 is-consistent-with-sub-is-consistent-with-2 t c =
     let start = c .before .before .before .before .before .before .before .before in
     omega (arith, not-empty (start .args .levels) (start .args .t1 .now) (start .pre .1 .1))
 
--- src/is_consistent_with.rt:166:64
 is-consistent-with-part-is-consistent-with-start-2 :
-    (t : ℕ) → is-consistent-with-lts.Need-part-is-consistent-with-start-2 (
-      entity-consistent-reads.Asked,
-      entity-consistent-reads.Learnt,
-      kind-consistent-reads.Asked,
-      kind-consistent-reads.Learnt,
-      is-consistent-with-below t,
-      is-consistent-with.Post,
-      u16-at-reads.Asked,
-      u16-at-reads.Learnt,
-      attributes-consistent-below t,
-      attributes-consistent.Post,
-      names-covered-reads.Asked,
-      names-covered-reads.Learnt,
-      same-bytes-reads.Asked,
-      same-bytes-reads.Learnt,
-      kind-is-plain-reads.Asked,
-      kind-is-plain-reads.Learnt,
-    ) (is-consistent-with-at t) is-consistent-with.Post
+    (t : ℕ) → is-consistent-with-lts.Need-part-is-consistent-with-start-2 (is-consistent-with-claims t) (is-consistent-with-at t) is-consistent-with.Post
 is-consistent-with-part-is-consistent-with-start-2 t c =
     let start = c .before .before .before .before .before .before .before .before in
     omega (arith, not-empty (start .args .levels) (start .args .t1 .now) (start .pre .1 .1))
 
--- src/is_consistent_with.rt:166:64
 is-consistent-with-part-is-consistent-with-end-2 :
-    (t : ℕ) → is-consistent-with-lts.Need-part-is-consistent-with-end-2 (
-      entity-consistent-reads.Asked,
-      entity-consistent-reads.Learnt,
-      kind-consistent-reads.Asked,
-      kind-consistent-reads.Learnt,
-      is-consistent-with-below t,
-      is-consistent-with.Post,
-      u16-at-reads.Asked,
-      u16-at-reads.Learnt,
-      attributes-consistent-below t,
-      attributes-consistent.Post,
-      names-covered-reads.Asked,
-      names-covered-reads.Learnt,
-      same-bytes-reads.Asked,
-      same-bytes-reads.Learnt,
-      kind-is-plain-reads.Asked,
-      kind-is-plain-reads.Learnt,
-    ) (is-consistent-with-at t) is-consistent-with.Post
+    (t : ℕ) → is-consistent-with-lts.Need-part-is-consistent-with-end-2 (is-consistent-with-claims t) (is-consistent-with-at t) is-consistent-with.Post
 is-consistent-with-part-is-consistent-with-end-2 t c = omega arith
 
--- src/is_consistent_with.rt:166:87
 is-consistent-with-sub-is-consistent-with-3 :
-    (t : ℕ) → is-consistent-with-lts.Need-sub-is-consistent-with-3 (
-      entity-consistent-reads.Asked,
-      entity-consistent-reads.Learnt,
-      kind-consistent-reads.Asked,
-      kind-consistent-reads.Learnt,
-      is-consistent-with-below t,
-      is-consistent-with.Post,
-      u16-at-reads.Asked,
-      u16-at-reads.Learnt,
-      attributes-consistent-below t,
-      attributes-consistent.Post,
-      names-covered-reads.Asked,
-      names-covered-reads.Learnt,
-      same-bytes-reads.Asked,
-      same-bytes-reads.Learnt,
-      kind-is-plain-reads.Asked,
-      kind-is-plain-reads.Learnt,
-    ) (is-consistent-with-at t) is-consistent-with.Post
+    (t : ℕ) → is-consistent-with-lts.Need-sub-is-consistent-with-3 (is-consistent-with-claims t) (is-consistent-with-at t) is-consistent-with.Post
 is-consistent-with-sub-is-consistent-with-3 t c =
     let start = c .before .before .before .before .before .before .before .before .before in
     omega (arith, is-set (start .args .levels) (start .args .t1 .now) (start .pre .1 .1) (c .before .before .match .keys1) .deep)
 
--- src/is_consistent_with.rt:166:22
 is-consistent-with-is-consistent-with-requires :
-    (t : ℕ) → is-consistent-with-lts.Need-is-consistent-with-requires (
-      entity-consistent-reads.Asked,
-      entity-consistent-reads.Learnt,
-      kind-consistent-reads.Asked,
-      kind-consistent-reads.Learnt,
-      is-consistent-with-below t,
-      is-consistent-with.Post,
-      u16-at-reads.Asked,
-      u16-at-reads.Learnt,
-      attributes-consistent-below t,
-      attributes-consistent.Post,
-      names-covered-reads.Asked,
-      names-covered-reads.Learnt,
-      same-bytes-reads.Asked,
-      same-bytes-reads.Learnt,
-      kind-is-plain-reads.Asked,
-      kind-is-plain-reads.Learnt,
-    ) (is-consistent-with-at t) is-consistent-with.Post
+    (t : ℕ) → is-consistent-with-lts.Need-is-consistent-with-requires (is-consistent-with-claims t) (is-consistent-with-at t) is-consistent-with.Post
 is-consistent-with-is-consistent-with-requires t c κs =
     let start = c .before .before .before .before .before .before .before .before .before in
     let at-match-keys1 = c .before .before in
     let s = is-set (start .args .levels) (start .args .t1 .now) (start .pre .1 .1) (at-match-keys1 .match .keys1) in
     (omega (arith, start .pre .0, s .deep), (is-set (start .args .levels) (start .args .t0 .now) (start .pre .1 .0) ((c .before .before .before .if2 .left) ∙ at-match-keys1 .match .keys1) .good, s .good))
 
--- src/is_consistent_with.rt:168:17
-is-consistent-with-u16-at-requires : (t : ℕ) → is-consistent-with-lts.Need-u16-at-requires (
-  entity-consistent-reads.Asked,
-  entity-consistent-reads.Learnt,
-  kind-consistent-reads.Asked,
-  kind-consistent-reads.Learnt,
-  is-consistent-with-below t,
-  is-consistent-with.Post,
-  u16-at-reads.Asked,
-  u16-at-reads.Learnt,
-  attributes-consistent-below t,
-  attributes-consistent.Post,
-  names-covered-reads.Asked,
-  names-covered-reads.Learnt,
-  same-bytes-reads.Asked,
-  same-bytes-reads.Learnt,
-  kind-is-plain-reads.Asked,
-  kind-is-plain-reads.Learnt,
-) (is-consistent-with-at t) is-consistent-with.Post
+is-consistent-with-u16-at-requires : (t : ℕ) → is-consistent-with-lts.Need-u16-at-requires (is-consistent-with-claims t) (is-consistent-with-at t) is-consistent-with.Post
 is-consistent-with-u16-at-requires t c κs =
     let start = c .before .before .before .before .before .before .before in
     omega (arith, (is-record (start .args .levels) (start .args .t0 .now) (start .pre .1 .0) ((c .before .if2 .left) ∙ c .match .keys2)) .some)
 
--- src/is_consistent_with.rt:169:17
-is-consistent-with-u16-at-requires-2 : (t : ℕ) → is-consistent-with-lts.Need-u16-at-requires-2 (
-  entity-consistent-reads.Asked,
-  entity-consistent-reads.Learnt,
-  kind-consistent-reads.Asked,
-  kind-consistent-reads.Learnt,
-  is-consistent-with-below t,
-  is-consistent-with.Post,
-  u16-at-reads.Asked,
-  u16-at-reads.Learnt,
-  attributes-consistent-below t,
-  attributes-consistent.Post,
-  names-covered-reads.Asked,
-  names-covered-reads.Learnt,
-  same-bytes-reads.Asked,
-  same-bytes-reads.Learnt,
-  kind-is-plain-reads.Asked,
-  kind-is-plain-reads.Learnt,
-) (is-consistent-with-at t) is-consistent-with.Post
+is-consistent-with-u16-at-requires-2 : (t : ℕ) → is-consistent-with-lts.Need-u16-at-requires-2 (is-consistent-with-claims t) (is-consistent-with-at t) is-consistent-with.Post
 is-consistent-with-u16-at-requires-2 t c κs =
     let start = c .before .before .before .before .before .before .before .before in
     omega (arith, (is-record (start .args .levels) (start .args .t1 .now) (start .pre .1 .1) (c .before .match .keys2)) .some)
 
--- src/is_consistent_with.rt:170:45
-is-consistent-with-mul-p : (t : ℕ) → is-consistent-with-lts.Need-mul-p (
-  entity-consistent-reads.Asked,
-  entity-consistent-reads.Learnt,
-  kind-consistent-reads.Asked,
-  kind-consistent-reads.Learnt,
-  is-consistent-with-below t,
-  is-consistent-with.Post,
-  u16-at-reads.Asked,
-  u16-at-reads.Learnt,
-  attributes-consistent-below t,
-  attributes-consistent.Post,
-  names-covered-reads.Asked,
-  names-covered-reads.Learnt,
-  same-bytes-reads.Asked,
-  same-bytes-reads.Learnt,
-  kind-is-plain-reads.Asked,
-  kind-is-plain-reads.Learnt,
-) (is-consistent-with-at t) is-consistent-with.Post
+is-consistent-with-mul-p : (t : ℕ) → is-consistent-with-lts.Need-mul-p (is-consistent-with-claims t) (is-consistent-with-at t) is-consistent-with.Post
 is-consistent-with-mul-p t c = omega arith
 
--- src/is_consistent_with.rt:170:21
-is-consistent-with-add-p : (t : ℕ) → is-consistent-with-lts.Need-add-p (
-  entity-consistent-reads.Asked,
-  entity-consistent-reads.Learnt,
-  kind-consistent-reads.Asked,
-  kind-consistent-reads.Learnt,
-  is-consistent-with-below t,
-  is-consistent-with.Post,
-  u16-at-reads.Asked,
-  u16-at-reads.Learnt,
-  attributes-consistent-below t,
-  attributes-consistent.Post,
-  names-covered-reads.Asked,
-  names-covered-reads.Learnt,
-  same-bytes-reads.Asked,
-  same-bytes-reads.Learnt,
-  kind-is-plain-reads.Asked,
-  kind-is-plain-reads.Learnt,
-) (is-consistent-with-at t) is-consistent-with.Post
+is-consistent-with-add-p : (t : ℕ) → is-consistent-with-lts.Need-add-p (is-consistent-with-claims t) (is-consistent-with-at t) is-consistent-with.Post
 is-consistent-with-add-p t c = omega arith
 
--- src/is_consistent_with.rt:171:45
-is-consistent-with-mul-q : (t : ℕ) → is-consistent-with-lts.Need-mul-q (
-  entity-consistent-reads.Asked,
-  entity-consistent-reads.Learnt,
-  kind-consistent-reads.Asked,
-  kind-consistent-reads.Learnt,
-  is-consistent-with-below t,
-  is-consistent-with.Post,
-  u16-at-reads.Asked,
-  u16-at-reads.Learnt,
-  attributes-consistent-below t,
-  attributes-consistent.Post,
-  names-covered-reads.Asked,
-  names-covered-reads.Learnt,
-  same-bytes-reads.Asked,
-  same-bytes-reads.Learnt,
-  kind-is-plain-reads.Asked,
-  kind-is-plain-reads.Learnt,
-) (is-consistent-with-at t) is-consistent-with.Post
+is-consistent-with-mul-q : (t : ℕ) → is-consistent-with-lts.Need-mul-q (is-consistent-with-claims t) (is-consistent-with-at t) is-consistent-with.Post
 is-consistent-with-mul-q t c = omega arith
 
--- src/is_consistent_with.rt:171:21
-is-consistent-with-add-q : (t : ℕ) → is-consistent-with-lts.Need-add-q (
-  entity-consistent-reads.Asked,
-  entity-consistent-reads.Learnt,
-  kind-consistent-reads.Asked,
-  kind-consistent-reads.Learnt,
-  is-consistent-with-below t,
-  is-consistent-with.Post,
-  u16-at-reads.Asked,
-  u16-at-reads.Learnt,
-  attributes-consistent-below t,
-  attributes-consistent.Post,
-  names-covered-reads.Asked,
-  names-covered-reads.Learnt,
-  same-bytes-reads.Asked,
-  same-bytes-reads.Learnt,
-  kind-is-plain-reads.Asked,
-  kind-is-plain-reads.Learnt,
-) (is-consistent-with-at t) is-consistent-with.Post
+is-consistent-with-add-q : (t : ℕ) → is-consistent-with-lts.Need-add-q (is-consistent-with-claims t) (is-consistent-with-at t) is-consistent-with.Post
 is-consistent-with-add-q t c = omega arith
 
--- src/is_consistent_with.rt:172:22
-is-consistent-with-sub-es : (t : ℕ) → is-consistent-with-lts.Need-sub-es (
-  entity-consistent-reads.Asked,
-  entity-consistent-reads.Learnt,
-  kind-consistent-reads.Asked,
-  kind-consistent-reads.Learnt,
-  is-consistent-with-below t,
-  is-consistent-with.Post,
-  u16-at-reads.Asked,
-  u16-at-reads.Learnt,
-  attributes-consistent-below t,
-  attributes-consistent.Post,
-  names-covered-reads.Asked,
-  names-covered-reads.Learnt,
-  same-bytes-reads.Asked,
-  same-bytes-reads.Learnt,
-  kind-is-plain-reads.Asked,
-  kind-is-plain-reads.Learnt,
-) (is-consistent-with-at t) is-consistent-with.Post
+is-consistent-with-sub-es : (t : ℕ) → is-consistent-with-lts.Need-sub-es (is-consistent-with-claims t) (is-consistent-with-at t) is-consistent-with.Post
 is-consistent-with-sub-es t c =
     let start = c .before .before .before .before .before .before .before .before .before in
     omega (arith, (is-record (start .args .levels) (start .args .t0 .now) (start .pre .1 .0) ((c .before .before .before .if2 .left) ∙ c .before .before .match .keys2)) .fit, c .before .u16-at .ensures .0)
 
--- src/is_consistent_with.rt:172:22
-is-consistent-with-part-es-start : (t : ℕ) → is-consistent-with-lts.Need-part-es-start (
-  entity-consistent-reads.Asked,
-  entity-consistent-reads.Learnt,
-  kind-consistent-reads.Asked,
-  kind-consistent-reads.Learnt,
-  is-consistent-with-below t,
-  is-consistent-with.Post,
-  u16-at-reads.Asked,
-  u16-at-reads.Learnt,
-  attributes-consistent-below t,
-  attributes-consistent.Post,
-  names-covered-reads.Asked,
-  names-covered-reads.Learnt,
-  same-bytes-reads.Asked,
-  same-bytes-reads.Learnt,
-  kind-is-plain-reads.Asked,
-  kind-is-plain-reads.Learnt,
-) (is-consistent-with-at t) is-consistent-with.Post
+is-consistent-with-part-es-start : (t : ℕ) → is-consistent-with-lts.Need-part-es-start (is-consistent-with-claims t) (is-consistent-with-at t) is-consistent-with.Post
 is-consistent-with-part-es-start t c = omega arith
 
--- src/is_consistent_with.rt:172:22
-is-consistent-with-part-es-end : (t : ℕ) → is-consistent-with-lts.Need-part-es-end (
-  entity-consistent-reads.Asked,
-  entity-consistent-reads.Learnt,
-  kind-consistent-reads.Asked,
-  kind-consistent-reads.Learnt,
-  is-consistent-with-below t,
-  is-consistent-with.Post,
-  u16-at-reads.Asked,
-  u16-at-reads.Learnt,
-  attributes-consistent-below t,
-  attributes-consistent.Post,
-  names-covered-reads.Asked,
-  names-covered-reads.Learnt,
-  same-bytes-reads.Asked,
-  same-bytes-reads.Learnt,
-  kind-is-plain-reads.Asked,
-  kind-is-plain-reads.Learnt,
-) (is-consistent-with-at t) is-consistent-with.Post
+is-consistent-with-part-es-end : (t : ℕ) → is-consistent-with-lts.Need-part-es-end (is-consistent-with-claims t) (is-consistent-with-at t) is-consistent-with.Post
 is-consistent-with-part-es-end t c =
     let start = c .before .before .before .before .before .before .before .before .before in
     omega (arith, (is-record (start .args .levels) (start .args .t0 .now) (start .pre .1 .0) ((c .before .before .before .if2 .left) ∙ c .before .before .match .keys2)) .fit, c .before .u16-at .ensures .0)
 
--- src/is_consistent_with.rt:173:22
-is-consistent-with-sub-fs : (t : ℕ) → is-consistent-with-lts.Need-sub-fs (
-  entity-consistent-reads.Asked,
-  entity-consistent-reads.Learnt,
-  kind-consistent-reads.Asked,
-  kind-consistent-reads.Learnt,
-  is-consistent-with-below t,
-  is-consistent-with.Post,
-  u16-at-reads.Asked,
-  u16-at-reads.Learnt,
-  attributes-consistent-below t,
-  attributes-consistent.Post,
-  names-covered-reads.Asked,
-  names-covered-reads.Learnt,
-  same-bytes-reads.Asked,
-  same-bytes-reads.Learnt,
-  kind-is-plain-reads.Asked,
-  kind-is-plain-reads.Learnt,
-) (is-consistent-with-at t) is-consistent-with.Post
+is-consistent-with-sub-fs : (t : ℕ) → is-consistent-with-lts.Need-sub-fs (is-consistent-with-claims t) (is-consistent-with-at t) is-consistent-with.Post
 is-consistent-with-sub-fs t c =
     let start = c .before .before .before .before .before .before .before .before .before .before in
     omega (arith, (is-record (start .args .levels) (start .args .t1 .now) (start .pre .1 .1) (c .before .before .before .match .keys2)) .fit, c .before .u16-at2 .ensures .0)
 
--- src/is_consistent_with.rt:173:22
-is-consistent-with-part-fs-start : (t : ℕ) → is-consistent-with-lts.Need-part-fs-start (
-  entity-consistent-reads.Asked,
-  entity-consistent-reads.Learnt,
-  kind-consistent-reads.Asked,
-  kind-consistent-reads.Learnt,
-  is-consistent-with-below t,
-  is-consistent-with.Post,
-  u16-at-reads.Asked,
-  u16-at-reads.Learnt,
-  attributes-consistent-below t,
-  attributes-consistent.Post,
-  names-covered-reads.Asked,
-  names-covered-reads.Learnt,
-  same-bytes-reads.Asked,
-  same-bytes-reads.Learnt,
-  kind-is-plain-reads.Asked,
-  kind-is-plain-reads.Learnt,
-) (is-consistent-with-at t) is-consistent-with.Post
+is-consistent-with-part-fs-start : (t : ℕ) → is-consistent-with-lts.Need-part-fs-start (is-consistent-with-claims t) (is-consistent-with-at t) is-consistent-with.Post
 is-consistent-with-part-fs-start t c = omega arith
 
--- src/is_consistent_with.rt:173:22
-is-consistent-with-part-fs-end : (t : ℕ) → is-consistent-with-lts.Need-part-fs-end (
-  entity-consistent-reads.Asked,
-  entity-consistent-reads.Learnt,
-  kind-consistent-reads.Asked,
-  kind-consistent-reads.Learnt,
-  is-consistent-with-below t,
-  is-consistent-with.Post,
-  u16-at-reads.Asked,
-  u16-at-reads.Learnt,
-  attributes-consistent-below t,
-  attributes-consistent.Post,
-  names-covered-reads.Asked,
-  names-covered-reads.Learnt,
-  same-bytes-reads.Asked,
-  same-bytes-reads.Learnt,
-  kind-is-plain-reads.Asked,
-  kind-is-plain-reads.Learnt,
-) (is-consistent-with-at t) is-consistent-with.Post
+is-consistent-with-part-fs-end : (t : ℕ) → is-consistent-with-lts.Need-part-fs-end (is-consistent-with-claims t) (is-consistent-with-at t) is-consistent-with.Post
 is-consistent-with-part-fs-end t c =
     let start = c .before .before .before .before .before .before .before .before .before .before in
     omega (arith, (is-record (start .args .levels) (start .args .t1 .now) (start .pre .1 .1) (c .before .before .before .match .keys2)) .fit, c .before .u16-at2 .ensures .0)
 
--- src/is_consistent_with.rt:174:22
-is-consistent-with-sub-cs : (t : ℕ) → is-consistent-with-lts.Need-sub-cs (
-  entity-consistent-reads.Asked,
-  entity-consistent-reads.Learnt,
-  kind-consistent-reads.Asked,
-  kind-consistent-reads.Learnt,
-  is-consistent-with-below t,
-  is-consistent-with.Post,
-  u16-at-reads.Asked,
-  u16-at-reads.Learnt,
-  attributes-consistent-below t,
-  attributes-consistent.Post,
-  names-covered-reads.Asked,
-  names-covered-reads.Learnt,
-  same-bytes-reads.Asked,
-  same-bytes-reads.Learnt,
-  kind-is-plain-reads.Asked,
-  kind-is-plain-reads.Learnt,
-) (is-consistent-with-at t) is-consistent-with.Post
+is-consistent-with-sub-cs : (t : ℕ) → is-consistent-with-lts.Need-sub-cs (is-consistent-with-claims t) (is-consistent-with-at t) is-consistent-with.Post
 is-consistent-with-sub-cs t c =
     let start = c .before .before .before .before .before .before .before .before .before .before .before in
     let at-match-keys2 = c .before .before .before .before in
     omega (arith, (is-record (start .args .levels) (start .args .t1 .now) (start .pre .1 .1) (at-match-keys2 .match .keys2)) .fit, c .before .before .u16-at2 .ensures .0)
 
--- src/is_consistent_with.rt:174:22
-is-consistent-with-part-cs-start : (t : ℕ) → is-consistent-with-lts.Need-part-cs-start (
-  entity-consistent-reads.Asked,
-  entity-consistent-reads.Learnt,
-  kind-consistent-reads.Asked,
-  kind-consistent-reads.Learnt,
-  is-consistent-with-below t,
-  is-consistent-with.Post,
-  u16-at-reads.Asked,
-  u16-at-reads.Learnt,
-  attributes-consistent-below t,
-  attributes-consistent.Post,
-  names-covered-reads.Asked,
-  names-covered-reads.Learnt,
-  same-bytes-reads.Asked,
-  same-bytes-reads.Learnt,
-  kind-is-plain-reads.Asked,
-  kind-is-plain-reads.Learnt,
-) (is-consistent-with-at t) is-consistent-with.Post
+is-consistent-with-part-cs-start : (t : ℕ) → is-consistent-with-lts.Need-part-cs-start (is-consistent-with-claims t) (is-consistent-with-at t) is-consistent-with.Post
 is-consistent-with-part-cs-start t c =
     let start = c .before .before .before .before .before .before .before .before .before .before .before in
     let at-match-keys2 = c .before .before .before .before in
     omega (arith, (is-record (start .args .levels) (start .args .t1 .now) (start .pre .1 .1) (at-match-keys2 .match .keys2)) .fit, c .before .before .u16-at2 .ensures .0)
 
--- src/is_consistent_with.rt:174:22
-is-consistent-with-part-cs-end : (t : ℕ) → is-consistent-with-lts.Need-part-cs-end (
-  entity-consistent-reads.Asked,
-  entity-consistent-reads.Learnt,
-  kind-consistent-reads.Asked,
-  kind-consistent-reads.Learnt,
-  is-consistent-with-below t,
-  is-consistent-with.Post,
-  u16-at-reads.Asked,
-  u16-at-reads.Learnt,
-  attributes-consistent-below t,
-  attributes-consistent.Post,
-  names-covered-reads.Asked,
-  names-covered-reads.Learnt,
-  same-bytes-reads.Asked,
-  same-bytes-reads.Learnt,
-  kind-is-plain-reads.Asked,
-  kind-is-plain-reads.Learnt,
-) (is-consistent-with-at t) is-consistent-with.Post
+is-consistent-with-part-cs-end : (t : ℕ) → is-consistent-with-lts.Need-part-cs-end (is-consistent-with-claims t) (is-consistent-with-at t) is-consistent-with.Post
 is-consistent-with-part-cs-end t c = omega arith
 
--- src/is_consistent_with.rt:175:39
 is-consistent-with-shared-slice-read-attributes-consistent :
-    (t : ℕ) → is-consistent-with-lts.Need-shared-slice-read-attributes-consistent (
-      entity-consistent-reads.Asked,
-      entity-consistent-reads.Learnt,
-      kind-consistent-reads.Asked,
-      kind-consistent-reads.Learnt,
-      is-consistent-with-below t,
-      is-consistent-with.Post,
-      u16-at-reads.Asked,
-      u16-at-reads.Learnt,
-      attributes-consistent-below t,
-      attributes-consistent.Post,
-      names-covered-reads.Asked,
-      names-covered-reads.Learnt,
-      same-bytes-reads.Asked,
-      same-bytes-reads.Learnt,
-      kind-is-plain-reads.Asked,
-      kind-is-plain-reads.Learnt,
-    ) (is-consistent-with-at t) is-consistent-with.Post
+    (t : ℕ) → is-consistent-with-lts.Need-shared-slice-read-attributes-consistent (is-consistent-with-claims t) (is-consistent-with-at t) is-consistent-with.Post
 is-consistent-with-shared-slice-read-attributes-consistent t c =
     let start = c .before .before .before .before .before .before .before .before .before .before .before .before .before in
     let else2 = c .before .before .before .before .before .before .before in
     let at-match-keys2 = c .before .before .before .before .before .before in
     omega (arith, (is-record (start .args .levels) (start .args .t0 .now) (start .pre .1 .0) ((else2 .if2 .left) ∙ at-match-keys2 .match .keys2)) .some)
 
--- src/is_consistent_with.rt:175:67
 is-consistent-with-sub-attributes-consistent :
-    (t : ℕ) → is-consistent-with-lts.Need-sub-attributes-consistent (
-      entity-consistent-reads.Asked,
-      entity-consistent-reads.Learnt,
-      kind-consistent-reads.Asked,
-      kind-consistent-reads.Learnt,
-      is-consistent-with-below t,
-      is-consistent-with.Post,
-      u16-at-reads.Asked,
-      u16-at-reads.Learnt,
-      attributes-consistent-below t,
-      attributes-consistent.Post,
-      names-covered-reads.Asked,
-      names-covered-reads.Learnt,
-      same-bytes-reads.Asked,
-      same-bytes-reads.Learnt,
-      kind-is-plain-reads.Asked,
-      kind-is-plain-reads.Learnt,
-    ) (is-consistent-with-at t) is-consistent-with.Post
+    (t : ℕ) → is-consistent-with-lts.Need-sub-attributes-consistent (is-consistent-with-claims t) (is-consistent-with-at t) is-consistent-with.Post
 is-consistent-with-sub-attributes-consistent t c =
     let start = c .before .before .before .before .before .before .before .before .before .before .before .before .before in
     let else2 = c .before .before .before .before .before .before .before in
@@ -1586,26 +554,8 @@ is-consistent-with-sub-attributes-consistent t c =
     let after-u16-at = c .before .before .before .before .before in
     omega (arith, (is-record (start .args .levels) (start .args .t0 .now) (start .pre .1 .0) ((else2 .if2 .left) ∙ at-match-keys2 .match .keys2)) .fit, after-u16-at .u16-at .ensures .0)
 
--- src/is_consistent_with.rt:175:67
 is-consistent-with-part-attributes-consistent-start :
-    (t : ℕ) → is-consistent-with-lts.Need-part-attributes-consistent-start (
-      entity-consistent-reads.Asked,
-      entity-consistent-reads.Learnt,
-      kind-consistent-reads.Asked,
-      kind-consistent-reads.Learnt,
-      is-consistent-with-below t,
-      is-consistent-with.Post,
-      u16-at-reads.Asked,
-      u16-at-reads.Learnt,
-      attributes-consistent-below t,
-      attributes-consistent.Post,
-      names-covered-reads.Asked,
-      names-covered-reads.Learnt,
-      same-bytes-reads.Asked,
-      same-bytes-reads.Learnt,
-      kind-is-plain-reads.Asked,
-      kind-is-plain-reads.Learnt,
-    ) (is-consistent-with-at t) is-consistent-with.Post
+    (t : ℕ) → is-consistent-with-lts.Need-part-attributes-consistent-start (is-consistent-with-claims t) (is-consistent-with-at t) is-consistent-with.Post
 is-consistent-with-part-attributes-consistent-start t c =
     let start = c .before .before .before .before .before .before .before .before .before .before .before .before .before in
     let else2 = c .before .before .before .before .before .before .before in
@@ -1613,74 +563,20 @@ is-consistent-with-part-attributes-consistent-start t c =
     let after-u16-at = c .before .before .before .before .before in
     omega (arith, (is-record (start .args .levels) (start .args .t0 .now) (start .pre .1 .0) ((else2 .if2 .left) ∙ at-match-keys2 .match .keys2)) .fit, after-u16-at .u16-at .ensures .0)
 
--- src/is_consistent_with.rt:175:67
 is-consistent-with-part-attributes-consistent-end :
-    (t : ℕ) → is-consistent-with-lts.Need-part-attributes-consistent-end (
-      entity-consistent-reads.Asked,
-      entity-consistent-reads.Learnt,
-      kind-consistent-reads.Asked,
-      kind-consistent-reads.Learnt,
-      is-consistent-with-below t,
-      is-consistent-with.Post,
-      u16-at-reads.Asked,
-      u16-at-reads.Learnt,
-      attributes-consistent-below t,
-      attributes-consistent.Post,
-      names-covered-reads.Asked,
-      names-covered-reads.Learnt,
-      same-bytes-reads.Asked,
-      same-bytes-reads.Learnt,
-      kind-is-plain-reads.Asked,
-      kind-is-plain-reads.Learnt,
-    ) (is-consistent-with-at t) is-consistent-with.Post
+    (t : ℕ) → is-consistent-with-lts.Need-part-attributes-consistent-end (is-consistent-with-claims t) (is-consistent-with-at t) is-consistent-with.Post
 is-consistent-with-part-attributes-consistent-end t c = omega arith
 
--- src/is_consistent_with.rt:175:91
 is-consistent-with-sub-attributes-consistent-2 :
-    (t : ℕ) → is-consistent-with-lts.Need-sub-attributes-consistent-2 (
-      entity-consistent-reads.Asked,
-      entity-consistent-reads.Learnt,
-      kind-consistent-reads.Asked,
-      kind-consistent-reads.Learnt,
-      is-consistent-with-below t,
-      is-consistent-with.Post,
-      u16-at-reads.Asked,
-      u16-at-reads.Learnt,
-      attributes-consistent-below t,
-      attributes-consistent.Post,
-      names-covered-reads.Asked,
-      names-covered-reads.Learnt,
-      same-bytes-reads.Asked,
-      same-bytes-reads.Learnt,
-      kind-is-plain-reads.Asked,
-      kind-is-plain-reads.Learnt,
-    ) (is-consistent-with-at t) is-consistent-with.Post
+    (t : ℕ) → is-consistent-with-lts.Need-sub-attributes-consistent-2 (is-consistent-with-claims t) (is-consistent-with-at t) is-consistent-with.Post
 is-consistent-with-sub-attributes-consistent-2 t c =
     let start = c .before .before .before .before .before .before .before .before .before .before .before .before .before .before in
     let else2 = c .before .before .before .before .before .before .before .before in
     let at-match-keys2 = c .before .before .before .before .before .before .before in
     omega (arith, (is-record (start .args .levels) (start .args .t0 .now) (start .pre .1 .0) ((else2 .if2 .left) ∙ at-match-keys2 .match .keys2)) .deep)
 
--- src/is_consistent_with.rt:175:17
 is-consistent-with-attributes-consistent-requires :
-    (t : ℕ) → is-consistent-with-lts.Need-attributes-consistent-requires (
-      entity-consistent-reads.Asked,
-      entity-consistent-reads.Learnt,
-      kind-consistent-reads.Asked,
-      kind-consistent-reads.Learnt,
-      is-consistent-with-below t,
-      is-consistent-with.Post,
-      u16-at-reads.Asked,
-      u16-at-reads.Learnt,
-      attributes-consistent-below t,
-      attributes-consistent.Post,
-      names-covered-reads.Asked,
-      names-covered-reads.Learnt,
-      same-bytes-reads.Asked,
-      same-bytes-reads.Learnt,
-      kind-is-plain-reads.Asked,
-      kind-is-plain-reads.Learnt,
-    ) (is-consistent-with-at t) is-consistent-with.Post
+    (t : ℕ) → is-consistent-with-lts.Need-attributes-consistent-requires (is-consistent-with-claims t) (is-consistent-with-at t) is-consistent-with.Post
 is-consistent-with-attributes-consistent-requires t c κs =
     let start = c .before .before .before .before .before .before .before .before .before .before .before .before .before .before in
     let else2 = c .before .before .before .before .before .before .before .before in
@@ -1689,25 +585,7 @@ is-consistent-with-attributes-consistent-requires t c κs =
     let after-u16-at2 = c .before .before .before .before .before in
     (omega (arith, start .pre .0, (is-record (start .args .levels) (start .args .t0 .now) (start .pre .1 .0) ((else2 .if2 .left) ∙ at-match-keys2 .match .keys2)) .deep), (rw (after-u16-at .u16-at .ensures .0) ((is-record (start .args .levels) (start .args .t0 .now) (start .pre .1 .0) ((else2 .if2 .left) ∙ at-match-keys2 .match .keys2)) .sound), rw (after-u16-at2 .u16-at2 .ensures .0) ((is-record (start .args .levels) (start .args .t1 .now) (start .pre .1 .1) (at-match-keys2 .match .keys2)) .sound)))
 
--- src/is_consistent_with.rt:176:17
-is-consistent-with-returns-3 : (t : ℕ) → is-consistent-with-lts.Need-returns-3 (
-  entity-consistent-reads.Asked,
-  entity-consistent-reads.Learnt,
-  kind-consistent-reads.Asked,
-  kind-consistent-reads.Learnt,
-  is-consistent-with-below t,
-  is-consistent-with.Post,
-  u16-at-reads.Asked,
-  u16-at-reads.Learnt,
-  attributes-consistent-below t,
-  attributes-consistent.Post,
-  names-covered-reads.Asked,
-  names-covered-reads.Learnt,
-  same-bytes-reads.Asked,
-  same-bytes-reads.Learnt,
-  kind-is-plain-reads.Asked,
-  kind-is-plain-reads.Learnt,
-) (is-consistent-with-at t) is-consistent-with.Post
+is-consistent-with-returns-3 : (t : ℕ) → is-consistent-with-lts.Need-returns-3 (is-consistent-with-claims t) (is-consistent-with-at t) is-consistent-with.Post
 is-consistent-with-returns-3 t c =
     let start = c .before .before .before .before .before .before .before .before .before .before .before .before .before .before .before .before in
     let else2 = c .before .before .before .before .before .before .before .before .before .before in
@@ -1717,51 +595,15 @@ is-consistent-with-returns-3 t c =
     let after-attributes-consistent = c .before in
     record-not (start .args .levels) (start .args .t0 .now) (start .args .t1 .now) (start .pre .1 .0) (start .pre .1 .1) (else2 .if2 .left) (at-match-keys2 .match .keys2) (after-u16-at .u16-at .result) (after-u16-at2 .u16-at2 .result) (after-u16-at .u16-at .ensures .0) (after-u16-at2 .u16-at2 .ensures .0) (after-attributes-consistent .attributes-consistent .result) (after-attributes-consistent .attributes-consistent .ensures) (c .if3 .taken)
 
--- src/is_consistent_with.rt:178:34
 is-consistent-with-shared-slice-read-names-covered :
-    (t : ℕ) → is-consistent-with-lts.Need-shared-slice-read-names-covered (
-      entity-consistent-reads.Asked,
-      entity-consistent-reads.Learnt,
-      kind-consistent-reads.Asked,
-      kind-consistent-reads.Learnt,
-      is-consistent-with-below t,
-      is-consistent-with.Post,
-      u16-at-reads.Asked,
-      u16-at-reads.Learnt,
-      attributes-consistent-below t,
-      attributes-consistent.Post,
-      names-covered-reads.Asked,
-      names-covered-reads.Learnt,
-      same-bytes-reads.Asked,
-      same-bytes-reads.Learnt,
-      kind-is-plain-reads.Asked,
-      kind-is-plain-reads.Learnt,
-    ) (is-consistent-with-at t) is-consistent-with.Post
+    (t : ℕ) → is-consistent-with-lts.Need-shared-slice-read-names-covered (is-consistent-with-claims t) (is-consistent-with-at t) is-consistent-with.Post
 is-consistent-with-shared-slice-read-names-covered t c =
     let start = c .before .before .before .before .before .before .before .before .before .before .before .before .before .before .before .before .before in
     let at-match-keys2 = c .before .before .before .before .before .before .before .before .before .before in
     omega (arith, (is-record (start .args .levels) (start .args .t1 .now) (start .pre .1 .1) (at-match-keys2 .match .keys2)) .some)
 
--- src/is_consistent_with.rt:178:13
 is-consistent-with-names-covered-requires :
-    (t : ℕ) → is-consistent-with-lts.Need-names-covered-requires (
-      entity-consistent-reads.Asked,
-      entity-consistent-reads.Learnt,
-      kind-consistent-reads.Asked,
-      kind-consistent-reads.Learnt,
-      is-consistent-with-below t,
-      is-consistent-with.Post,
-      u16-at-reads.Asked,
-      u16-at-reads.Learnt,
-      attributes-consistent-below t,
-      attributes-consistent.Post,
-      names-covered-reads.Asked,
-      names-covered-reads.Learnt,
-      same-bytes-reads.Asked,
-      same-bytes-reads.Learnt,
-      kind-is-plain-reads.Asked,
-      kind-is-plain-reads.Learnt,
-    ) (is-consistent-with-at t) is-consistent-with.Post
+    (t : ℕ) → is-consistent-with-lts.Need-names-covered-requires (is-consistent-with-claims t) (is-consistent-with-at t) is-consistent-with.Post
 is-consistent-with-names-covered-requires t c κs =
     let start = c .before .before .before .before .before .before .before .before .before .before .before .before .before .before .before .before .before in
     let else2 = c .before .before .before .before .before .before .before .before .before .before .before in
@@ -1770,92 +612,20 @@ is-consistent-with-names-covered-requires t c κs =
     let after-u16-at2 = c .before .before .before .before .before .before .before .before in
     (rw (after-u16-at .u16-at .ensures .0) (entries-up ((is-record (start .args .levels) (start .args .t0 .now) (start .pre .1 .0) ((else2 .if2 .left) ∙ at-match-keys2 .match .keys2)) .sound) _ refl), rw (after-u16-at2 .u16-at2 .ensures .0) (core-list ((is-record (start .args .levels) (start .args .t1 .now) (start .pre .1 .1) (at-match-keys2 .match .keys2)) .sound)))
 
--- src/is_consistent_with.rt:180:28
-is-consistent-with-same-bytes-requires : (t : ℕ) → is-consistent-with-lts.Need-same-bytes-requires (
-  entity-consistent-reads.Asked,
-  entity-consistent-reads.Learnt,
-  kind-consistent-reads.Asked,
-  kind-consistent-reads.Learnt,
-  is-consistent-with-below t,
-  is-consistent-with.Post,
-  u16-at-reads.Asked,
-  u16-at-reads.Learnt,
-  attributes-consistent-below t,
-  attributes-consistent.Post,
-  names-covered-reads.Asked,
-  names-covered-reads.Learnt,
-  same-bytes-reads.Asked,
-  same-bytes-reads.Learnt,
-  kind-is-plain-reads.Asked,
-  kind-is-plain-reads.Learnt,
-) (is-consistent-with-at t) is-consistent-with.Post
+is-consistent-with-same-bytes-requires : (t : ℕ) → is-consistent-with-lts.Need-same-bytes-requires (is-consistent-with-claims t) (is-consistent-with-at t) is-consistent-with.Post
 is-consistent-with-same-bytes-requires t c κs = search needs
 
--- src/is_consistent_with.rt:181:14
 is-consistent-with-kind-is-plain-requires :
-    (t : ℕ) → is-consistent-with-lts.Need-kind-is-plain-requires (
-      entity-consistent-reads.Asked,
-      entity-consistent-reads.Learnt,
-      kind-consistent-reads.Asked,
-      kind-consistent-reads.Learnt,
-      is-consistent-with-below t,
-      is-consistent-with.Post,
-      u16-at-reads.Asked,
-      u16-at-reads.Learnt,
-      attributes-consistent-below t,
-      attributes-consistent.Post,
-      names-covered-reads.Asked,
-      names-covered-reads.Learnt,
-      same-bytes-reads.Asked,
-      same-bytes-reads.Learnt,
-      kind-is-plain-reads.Asked,
-      kind-is-plain-reads.Learnt,
-    ) (is-consistent-with-at t) is-consistent-with.Post
+    (t : ℕ) → is-consistent-with-lts.Need-kind-is-plain-requires (is-consistent-with-claims t) (is-consistent-with-at t) is-consistent-with.Post
 is-consistent-with-kind-is-plain-requires t c κs = search needs
 
--- src/is_consistent_with.rt:152:1
-is-consistent-with-returns-4 : (t : ℕ) → is-consistent-with-lts.Need-returns-4 (
-  entity-consistent-reads.Asked,
-  entity-consistent-reads.Learnt,
-  kind-consistent-reads.Asked,
-  kind-consistent-reads.Learnt,
-  is-consistent-with-below t,
-  is-consistent-with.Post,
-  u16-at-reads.Asked,
-  u16-at-reads.Learnt,
-  attributes-consistent-below t,
-  attributes-consistent.Post,
-  names-covered-reads.Asked,
-  names-covered-reads.Learnt,
-  same-bytes-reads.Asked,
-  same-bytes-reads.Learnt,
-  kind-is-plain-reads.Asked,
-  kind-is-plain-reads.Learnt,
-) (is-consistent-with-at t) is-consistent-with.Post
+is-consistent-with-returns-4 : (t : ℕ) → is-consistent-with-lts.Need-returns-4 (is-consistent-with-claims t) (is-consistent-with-at t) is-consistent-with.Post
 is-consistent-with-returns-4 t c =
     let start = c .before .before .before .before .before .before .before .before .before .before in
     let else2 = c .before .before .before .before in
     with-set (start .args .levels) (start .args .t0 .now) (start .args .t1 .now) (start .pre .1 .0) (start .pre .1 .1) (else2 .if2 .left) (c .before .before .before .match .keys1) (c .is-consistent-with .result) (c .is-consistent-with .ensures)
 
--- src/is_consistent_with.rt:152:1
-is-consistent-with-returns-5 : (t : ℕ) → is-consistent-with-lts.Need-returns-5 (
-  entity-consistent-reads.Asked,
-  entity-consistent-reads.Learnt,
-  kind-consistent-reads.Asked,
-  kind-consistent-reads.Learnt,
-  is-consistent-with-below t,
-  is-consistent-with.Post,
-  u16-at-reads.Asked,
-  u16-at-reads.Learnt,
-  attributes-consistent-below t,
-  attributes-consistent.Post,
-  names-covered-reads.Asked,
-  names-covered-reads.Learnt,
-  same-bytes-reads.Asked,
-  same-bytes-reads.Learnt,
-  kind-is-plain-reads.Asked,
-  kind-is-plain-reads.Learnt,
-) (is-consistent-with-at t) is-consistent-with.Post
+is-consistent-with-returns-5 : (t : ℕ) → is-consistent-with-lts.Need-returns-5 (is-consistent-with-claims t) (is-consistent-with-at t) is-consistent-with.Post
 is-consistent-with-returns-5 t c =
     let start = c .before .before .before .before .before .before .before .before .before .before .before .before .before .before .before .before .before .before in
     let else2 = c .before .before .before .before .before .before .before .before .before .before .before .before in
@@ -1865,50 +635,14 @@ is-consistent-with-returns-5 t c =
     let after-attributes-consistent = c .before .before .before in
     with-record (start .args .levels) (start .args .t0 .now) (start .args .t1 .now) (start .pre .1 .0) (start .pre .1 .1) (else2 .if2 .left) (at-match-keys2 .match .keys2) (after-u16-at .u16-at .result) (after-u16-at2 .u16-at2 .result) (after-u16-at .u16-at .ensures .0) (after-u16-at2 .u16-at2 .ensures .0) (after-attributes-consistent .attributes-consistent .result) (after-attributes-consistent .attributes-consistent .ensures) (c .before .before .if3 .left) (c .names-covered .result) (c .names-covered .ensures)
 
--- src/is_consistent_with.rt:152:1
-is-consistent-with-returns-6 : (t : ℕ) → is-consistent-with-lts.Need-returns-6 (
-  entity-consistent-reads.Asked,
-  entity-consistent-reads.Learnt,
-  kind-consistent-reads.Asked,
-  kind-consistent-reads.Learnt,
-  is-consistent-with-below t,
-  is-consistent-with.Post,
-  u16-at-reads.Asked,
-  u16-at-reads.Learnt,
-  attributes-consistent-below t,
-  attributes-consistent.Post,
-  names-covered-reads.Asked,
-  names-covered-reads.Learnt,
-  same-bytes-reads.Asked,
-  same-bytes-reads.Learnt,
-  kind-is-plain-reads.Asked,
-  kind-is-plain-reads.Learnt,
-) (is-consistent-with-at t) is-consistent-with.Post
+is-consistent-with-returns-6 : (t : ℕ) → is-consistent-with-lts.Need-returns-6 (is-consistent-with-claims t) (is-consistent-with-at t) is-consistent-with.Post
 is-consistent-with-returns-6 t c =
     let start = c .before .before .before .before .before .before .before .before in
     let after-shared-slice-known = c .before .before .before .before .before .before .before in
     let after-shared-slice-known2 = c .before .before .before .before .before .before in
     c .same-bytes .ensures ∙ with-extension (start .args .levels) (start .args .t0 .now) (start .args .t1 .now) (start .pre .1 .0) (start .pre .1 .1) (c .before .before .if2 .left) (all-bytes (start .args .t0 .now) (λ i. after-shared-slice-known .shared-slice-known .given i .fits)) (all-bytes (start .args .t1 .now) (λ i. after-shared-slice-known2 .shared-slice-known2 .given i .fits)) (c .before .match .keys3)
 
--- src/is_consistent_with.rt:152:1
-is-consistent-with-returns-7 : (t : ℕ) → is-consistent-with-lts.Need-returns-7 (
-  entity-consistent-reads.Asked,
-  entity-consistent-reads.Learnt,
-  kind-consistent-reads.Asked,
-  kind-consistent-reads.Learnt,
-  is-consistent-with-below t,
-  is-consistent-with.Post,
-  u16-at-reads.Asked,
-  u16-at-reads.Learnt,
-  attributes-consistent-below t,
-  attributes-consistent.Post,
-  names-covered-reads.Asked,
-  names-covered-reads.Learnt,
-  same-bytes-reads.Asked,
-  same-bytes-reads.Learnt,
-  kind-is-plain-reads.Asked,
-  kind-is-plain-reads.Learnt,
-) (is-consistent-with-at t) is-consistent-with.Post
+is-consistent-with-returns-7 : (t : ℕ) → is-consistent-with-lts.Need-returns-7 (is-consistent-with-claims t) (is-consistent-with-at t) is-consistent-with.Post
 is-consistent-with-returns-7 t c =
     let start = c .before .before .before .before .before .before .before .before in
     let r = c .before .match .rest in
@@ -1921,16 +655,7 @@ pub +attribute-consistent+attributes-consistent+is-consistent-with-spec :
     μ-attribute-consistent
     μ-attributes-consistent
     μ-is-consistent-with
-    (λ t. attribute-consistent-lts.spec (
-      u16-at-reads.Asked,
-      u16-at-reads.Learnt,
-      find-reads.Asked,
-      find-reads.Learnt,
-      is-consistent-with-below t,
-      is-consistent-with.Post,
-    )
-    (attribute-consistent-at t)
-    attribute-consistent.Post
+    (λ t. attribute-consistent-lts.spec (attribute-consistent-claims t) (attribute-consistent-at t) attribute-consistent.Post
     (attribute-consistent-u16-at-requires t)
     (attribute-consistent-find-requires t)
     (attribute-consistent-enum-known-i t)
@@ -1951,18 +676,7 @@ pub +attribute-consistent+attributes-consistent+is-consistent-with-spec :
     (attribute-consistent-part-is-consistent-with-end t)
     (attribute-consistent-is-consistent-with-requires t)
     (attribute-consistent-returns-3 t))
-    (λ t. attributes-consistent-lts.spec (
-      u16-at-reads.Asked,
-      u16-at-reads.Learnt,
-      skip-below-reads.Asked,
-      skip-below-reads.Learnt,
-      attribute-consistent-below t,
-      attribute-consistent.Post,
-    )
-    (attributes-consistent-at t)
-    attributes-consistent.Post
-    attributes-consistent-Inv-loop
-    attributes-consistent-μ-loop
+    (λ t. attributes-consistent-lts.spec (attributes-consistent-claims t) (attributes-consistent-at t) attributes-consistent.Post attributes-consistent-Inv-loop attributes-consistent-μ-loop
     (attributes-consistent-loop-holds t)
     (attributes-consistent-u16-at-requires t)
     (attributes-consistent-skip-below-requires t)
@@ -1990,26 +704,7 @@ pub +attribute-consistent+attributes-consistent+is-consistent-with-spec :
     (attributes-consistent-loop-less t)
     (attributes-consistent-loop-again t)
     (attributes-consistent-returns-2 t))
-    λ t. is-consistent-with-lts.spec (
-      entity-consistent-reads.Asked,
-      entity-consistent-reads.Learnt,
-      kind-consistent-reads.Asked,
-      kind-consistent-reads.Learnt,
-      is-consistent-with-below t,
-      is-consistent-with.Post,
-      u16-at-reads.Asked,
-      u16-at-reads.Learnt,
-      attributes-consistent-below t,
-      attributes-consistent.Post,
-      names-covered-reads.Asked,
-      names-covered-reads.Learnt,
-      same-bytes-reads.Asked,
-      same-bytes-reads.Learnt,
-      kind-is-plain-reads.Asked,
-      kind-is-plain-reads.Learnt,
-    )
-    (is-consistent-with-at t)
-    is-consistent-with.Post
+    λ t. is-consistent-with-lts.spec (is-consistent-with-claims t) (is-consistent-with-at t) is-consistent-with.Post
     (is-consistent-with-shared-slice-read-j t)
     (is-consistent-with-shared-slice-read-k t)
     (is-consistent-with-entity-consistent-requires t)

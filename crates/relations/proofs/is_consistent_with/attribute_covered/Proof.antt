@@ -1,3 +1,4 @@
+-- `relations::is_consistent_with::attribute_covered` meets its contract. Assumes nothing.
 use mathlib.Core.Path.{refl}
 use lib.Dec.{eqb}
 use borrow.Author.Tests.{eq-eqb, ne-eqb}
@@ -7,32 +8,23 @@ use Rattle.relations.specs.Laws.Covered.{covered-open, covered-optional,
 use borrow.Author.Needs.{needs}
 use Rattle.relations.proofs.is_consistent_with.attribute_covered.Statement.{statement}
 use Rattle.relations.proofs.is_consistent_with.attribute_covered.Tie as tie
-use Rattle.relations.proofs.is_consistent_with.attribute_covered.Reads as reads
-use Rattle.relations.proofs.is_consistent_with.attribute_covered.Lts as lts
-use Rattle.forms.proofs.numbers.u16_at.Reads as u16-at-reads
-use Rattle.forms.proofs.search.find.Reads as find-reads
 
--- src/is_consistent_with.rt:61:9
 returns : tie.Need-returns
 returns c =
     let start = c .before .before .before .before in
     covered-open (eqb (start .args .openness) 1) (entryNames (start .args .m) (start .args .fs .now)) (start .args .e .now) (eq-eqb (start .args .openness) 1 (c .if1 .taken))
 
--- src/is_consistent_with.rt:63:8
 shared-slice-read-if2 : tie.Need-shared-slice-read-if2
 shared-slice-read-if2 c = search needs
 
--- src/is_consistent_with.rt:64:9
 returns-2 : tie.Need-returns-2
 returns-2 c =
     let start = c .before .before .before .before .before .before in
     covered-optional (eqb (start .args .openness) 1) (entryNames (start .args .m) (start .args .fs .now)) (start .args .e .now) (ne-eqb (start .args .openness) 1 (c .before .before .if1 .left)) (c .if2 .taken)
 
--- src/is_consistent_with.rt:66:61
 u16-at-requires : tie.Need-u16-at-requires
 u16-at-requires c κs = search needs
 
--- src/is_consistent_with.rt:66:27
 find-requires : tie.Need-find-requires
 find-requires c κs =
     let start = c .before .before .before .before .before .before .before in
@@ -41,11 +33,9 @@ find-requires c κs =
 enum-told : tie.Need-enum-told
 enum-told c = search needs
 
--- src/is_consistent_with.rt:67:9
 enum-told-2 : tie.Need-enum-told-2
 enum-told-2 c = search needs
 
--- src/is_consistent_with.rt:67:9
 returns-3 : tie.Need-returns-3
 returns-3 c =
     let start = c .before .before .before .before .before .before .before .before .before .before in
@@ -55,7 +45,6 @@ returns-3 c =
     let after-find = c .before .before in
     covered-not (eqb (start .args .openness) 1) (entryNames (start .args .m) (start .args .fs .now)) (start .args .e .now) (ne-eqb (start .args .openness) 1 (else1 .if1 .left)) (start .args .m) (start .args .fs .now) (start .args .cs .now) (start .pre .1) refl (after-u16-at .u16-at .result) (after-u16-at .u16-at .ensures .0) (after-find .find .result) (after-find .find .ensures) (else2 .if2 .left) (c .enum-told2 .given .1)
 
--- src/is_consistent_with.rt:55:1
 returns-4 : tie.Need-returns-4
 returns-4 c =
     let start = c .before .before .before .before .before .before .before .before .before .before in

@@ -1,3 +1,4 @@
+-- `relations::is_consistent_with::entity_consistent` meets its contract. Assumes nothing.
 use native.Mathlib.Omega.{arith}
 use Rattle.forms.specs.Laws.Views.{not-empty, is-entity, is-action}
 use Rattle.relations.specs.Laws.Names.{entity-form, entity-names, first-of}
@@ -5,74 +6,57 @@ use Rattle.relations.specs.Laws.Meets.{entity-any, entity-name, entity-a
 use borrow.Author.Needs.{needs}
 use Rattle.relations.proofs.is_consistent_with.entity_consistent.Statement.{statement}
 use Rattle.relations.proofs.is_consistent_with.entity_consistent.Tie as tie
-use Rattle.relations.proofs.is_consistent_with.entity_consistent.Reads as reads
-use Rattle.relations.proofs.is_consistent_with.entity_consistent.Lts as lts
-use Rattle.forms.proofs.numbers.u16_at.Reads as u16-at-reads
-use Rattle.relations.proofs.names.names_share.Reads as names-share-reads
 
--- src/is_consistent_with.rt:45:13
 shared-slice-read-j : tie.Need-shared-slice-read-j
 shared-slice-read-j c =
     let start = c .before .before .before in
     not-empty (start .args .levels) (start .args .t0 .now) (start .pre .0)
 
--- src/is_consistent_with.rt:48:37
 sub-names-share : tie.Need-sub-names-share
 sub-names-share c =
     let start = c .before .before .before .before in
     omega (arith, is-entity (start .args .levels) (start .args .t0 .now) (start .pre .0) (c .match .keys2) .some)
 
--- src/is_consistent_with.rt:48:37
 part-names-share-start : tie.Need-part-names-share-start
 part-names-share-start c =
     let start = c .before .before .before .before in
     omega (arith, is-entity (start .args .levels) (start .args .t0 .now) (start .pre .0) (c .match .keys2) .some)
 
--- src/is_consistent_with.rt:48:37
 part-names-share-end : tie.Need-part-names-share-end
 part-names-share-end c = search needs
 
--- src/is_consistent_with.rt:48:65
 u16-at-requires : tie.Need-u16-at-requires
 u16-at-requires c κs =
     let start = c .before .before .before .before .before in
     omega (arith, is-entity (start .args .levels) (start .args .t0 .now) (start .pre .0) (c .before .match .keys2) .some)
 
--- src/is_consistent_with.rt:48:98
 sub-names-share-2 : tie.Need-sub-names-share-2
 sub-names-share-2 c = search needs
 
--- src/is_consistent_with.rt:48:98
 part-names-share-start-2 : tie.Need-part-names-share-start-2
 part-names-share-start-2 c = search needs
 
--- src/is_consistent_with.rt:48:98
 part-names-share-end-2 : tie.Need-part-names-share-end-2
 part-names-share-end-2 c = search needs
 
--- src/is_consistent_with.rt:48:25
 names-share-requires : tie.Need-names-share-requires
 names-share-requires c κs =
     let start = c .before .before .before .before .before .before .before in
     (rw (c .before .u16-at .ensures .0) (entity-names (entity-form (is-entity (start .args .levels) (start .args .t0 .now) (start .pre .0) (c .before .before .before .match .keys2)))), first-of (start .pre .1))
 
--- src/is_consistent_with.rt:49:25
 u16-at-requires-2 : tie.Need-u16-at-requires-2
 u16-at-requires-2 c κs =
     let start = c .before .before .before .before in
     omega (arith, is-action (start .args .levels) (start .args .t0 .now) (start .pre .0) (c .match .keys3) .some)
 
--- src/is_consistent_with.rt:49:59
 u16-at-requires-3 : tie.Need-u16-at-requires-3
 u16-at-requires-3 c κs = search needs
 
--- src/is_consistent_with.rt:40:1
 returns : tie.Need-returns
 returns c =
     let start = c .before .before .before .before in
     entity-any (start .args .levels) (start .args .t0 .now) (start .args .t1 .now) (start .pre .0) (start .pre .1) (c .match .keys1)
 
--- src/is_consistent_with.rt:40:1
 returns-2 : tie.Need-returns-2
 returns-2 c =
     let start = c .before .before .before .before .before .before .before .before in
@@ -80,14 +64,12 @@ returns-2 c =
     let after-u16-at = c .before .before in
     entity-name (start .args .levels) (start .args .t0 .now) (start .args .t1 .now) (start .pre .0) (start .pre .1) (at-match-keys2 .match .keys2) (after-u16-at .u16-at .result) (after-u16-at .u16-at .ensures .0) (c .names-share .result) (c .names-share .ensures)
 
--- src/is_consistent_with.rt:40:1
 returns-3 : tie.Need-returns-3
 returns-3 c =
     let start = c .before .before .before .before .before .before in
     let after-u16-at2 = c .before in
     entity-action (start .args .levels) (start .args .t0 .now) (start .args .t1 .now) (start .pre .0) (start .pre .1) (c .before .before .match .keys3) (after-u16-at2 .u16-at2 .result) (c .u16-at3 .result) (after-u16-at2 .u16-at2 .ensures .0) (c .u16-at3 .ensures .0)
 
--- src/is_consistent_with.rt:40:1
 returns-4 : tie.Need-returns-4
 returns-4 c =
     let start = c .before .before .before .before in

@@ -1,30 +1,25 @@
+-- `relations::is_consistent_with::kind_consistent` meets its contract. Assumes nothing.
 use mathlib.Core.Path.{refl, sym, _∙_}
 use borrow.Author.Tests.{eq-eqb, ne-eqb}
 use Rattle.relations.specs.Laws.Meets.{meets-bool, meets-set, meets-other}
 use Rattle.relations.proofs.is_consistent_with.kind_consistent.Statement.{statement}
 use Rattle.relations.proofs.is_consistent_with.kind_consistent.Tie as tie
-use Rattle.relations.proofs.is_consistent_with.kind_consistent.Reads as reads
-use Rattle.relations.proofs.is_consistent_with.kind_consistent.Lts as lts
 
--- src/is_consistent_with.rt:30:17
 returns : tie.Need-returns
 returns c =
     let start = c .before .before in
     sym (meets-bool (start .args .j) (start .args .k) (c .before .match .keys1) ∙ rw (eq-eqb (start .args .j) 1 (c .if1 .taken)) refl)
 
--- src/is_consistent_with.rt:24:1
 returns-2 : tie.Need-returns-2
 returns-2 c =
     let start = c .before .before in
     sym (meets-bool (start .args .j) (start .args .k) (c .before .match .keys1) ∙ rw (ne-eqb (start .args .j) 1 (c .if1 .left)) refl)
 
--- src/is_consistent_with.rt:24:1
 returns-3 : tie.Need-returns-3
 returns-3 c =
     let start = c .before in
     sym (meets-set (start .args .j) (start .args .k) (c .match .keys2))
 
--- src/is_consistent_with.rt:24:1
 returns-4 : tie.Need-returns-4
 returns-4 c =
     let start = c .before in

@@ -1,3 +1,4 @@
+-- `relations::is_consistent_with::names_covered` meets its contract. Assumes nothing.
 use native.Mathlib.Omega.{arith}
 use lib.Dec.{eqb}
 use Rattle.forms.specs.Laws.Attributes.{laid}
@@ -7,11 +8,6 @@ use Rattle.relations.specs.Laws.Covered.{Covering, covering-start, cover
 use borrow.Author.Needs.{needs}
 use Rattle.relations.proofs.is_consistent_with.names_covered.Statement.{statement}
 use Rattle.relations.proofs.is_consistent_with.names_covered.Tie as tie
-use Rattle.relations.proofs.is_consistent_with.names_covered.Reads as reads
-use Rattle.relations.proofs.is_consistent_with.names_covered.Lts as lts
-use Rattle.forms.proofs.numbers.u16_at.Reads as u16-at-reads
-use Rattle.forms.proofs.search.skip_below.Reads as skip-below-reads
-use Rattle.relations.proofs.is_consistent_with.attribute_covered.Reads as attribute-covered-reads
 
 abbrev Inv-loop : tie.InvT-loop
 Inv-loop es n openness fs cs m e₀ left₀ f₀ c₀ more₀ e left f c more = Covering (eqb openness 1) (allCovered n (eqb openness 1) (entryNames m fs) es) m left e more f c
@@ -19,21 +15,17 @@ Inv-loop es n openness fs cs m e₀ left₀ f₀ c₀ more₀ e left f c more = 
 abbrev μ-loop : tie.MeasureT-loop
 μ-loop es n openness fs cs m e₀ left₀ f₀ c₀ more₀ e left f c more = left
 
--- src/is_consistent_with.rt:83:5
 loop-holds : tie.Need-loop-holds Inv-loop μ-loop
 loop-holds c =
     let start = c .before .before .before in
     covering-start (eqb (start .args .openness) 1) (start .pre .0) (start .pre .1)
 
--- src/is_consistent_with.rt:84:63
 u16-at-requires : tie.Need-u16-at-requires Inv-loop μ-loop
 u16-at-requires c κs = omega (arith, c .before .loop .inv .entries .sized)
 
--- src/is_consistent_with.rt:84:13
 skip-below-requires : tie.Need-skip-below-requires Inv-loop μ-loop
 skip-below-requires c κs = laid (c .before .before .loop .inv .core .sound)
 
--- src/is_consistent_with.rt:87:18
 mul-at : tie.Need-mul-at Inv-loop μ-loop
 mul-at c =
     let start = c .before .before .before .before .before .before .before in
@@ -41,23 +33,19 @@ mul-at c =
     let after-u16-at = c .before in
     omega (arith, covering-past (at-loop .loop .inv) (c .before .before .loop-test .taken) (after-u16-at .u16-at .result) (after-u16-at .u16-at .ensures .0) (c .skip-below .result .entries) (c .skip-below .result .bytes) (c .skip-below .ensures .0) (c .skip-below .ensures .1) .room, at-loop .loop .inv .few, at-loop .loop .inv .core .sound .sized, start .pre .1 .sound .sized, start .good .1 .1 .1 .0 .0)
 
--- src/is_consistent_with.rt:88:13
 sub-f : tie.Need-sub-f Inv-loop μ-loop
 sub-f c =
     let after-u16-at = c .before in
     omega (arith, covering-past (c .before .before .before .loop .inv) (c .before .before .loop-test .taken) (after-u16-at .u16-at .result) (after-u16-at .u16-at .ensures .0) (c .skip-below .result .entries) (c .skip-below .result .bytes) (c .skip-below .ensures .0) (c .skip-below .ensures .1) .room)
 
--- src/is_consistent_with.rt:88:13
 part-f-start : tie.Need-part-f-start Inv-loop μ-loop
 part-f-start c =
     let after-u16-at = c .before in
     omega (arith, covering-past (c .before .before .before .loop .inv) (c .before .before .loop-test .taken) (after-u16-at .u16-at .result) (after-u16-at .u16-at .ensures .0) (c .skip-below .result .entries) (c .skip-below .result .bytes) (c .skip-below .ensures .0) (c .skip-below .ensures .1) .room)
 
--- src/is_consistent_with.rt:88:13
 part-f-end : tie.Need-part-f-end Inv-loop μ-loop
 part-f-end c = search needs
 
--- src/is_consistent_with.rt:89:13
 sub-c : tie.Need-sub-c Inv-loop μ-loop
 sub-c c =
     let at-loop = c .before .before .before .before in
@@ -65,7 +53,6 @@ sub-c c =
     let after-skip-below = c .before in
     omega (arith, covering-past (at-loop .loop .inv) (c .before .before .before .loop-test .taken) (after-u16-at .u16-at .result) (after-u16-at .u16-at .ensures .0) (after-skip-below .skip-below .result .entries) (after-skip-below .skip-below .result .bytes) (after-skip-below .skip-below .ensures .0) (after-skip-below .skip-below .ensures .1) .inside)
 
--- src/is_consistent_with.rt:89:13
 part-c-start : tie.Need-part-c-start Inv-loop μ-loop
 part-c-start c =
     let at-loop = c .before .before .before .before in
@@ -73,11 +60,9 @@ part-c-start c =
     let after-skip-below = c .before in
     omega (arith, covering-past (at-loop .loop .inv) (c .before .before .before .loop-test .taken) (after-u16-at .u16-at .result) (after-u16-at .u16-at .ensures .0) (after-skip-below .skip-below .result .entries) (after-skip-below .skip-below .result .bytes) (after-skip-below .skip-below .ensures .0) (after-skip-below .skip-below .ensures .1) .inside)
 
--- src/is_consistent_with.rt:89:13
 part-c-end : tie.Need-part-c-end Inv-loop μ-loop
 part-c-end c = search needs
 
--- src/is_consistent_with.rt:90:9
 sub-more : tie.Need-sub-more Inv-loop μ-loop
 sub-more c =
     let at-loop = c .before .before .before .before .before in
@@ -86,7 +71,6 @@ sub-more c =
     let after-skip-below = c .before .before in
     omega (arith, covering-past (at-loop .loop .inv) (in-loop .loop-test .taken) (after-u16-at .u16-at .result) (after-u16-at .u16-at .ensures .0) (after-skip-below .skip-below .result .entries) (after-skip-below .skip-below .result .bytes) (after-skip-below .skip-below .ensures .0) (after-skip-below .skip-below .ensures .1) .most)
 
--- src/is_consistent_with.rt:91:13
 attribute-covered-requires : tie.Need-attribute-covered-requires Inv-loop μ-loop
 attribute-covered-requires c κs =
     let at-loop = c .before .before .before .before .before in
@@ -95,7 +79,6 @@ attribute-covered-requires c κs =
     let after-skip-below = c .before .before in
     (omega (arith, at-loop .loop .inv .entries .sized), covering-core (at-loop .loop .inv) (in-loop .loop-test .taken) (after-u16-at .u16-at .result) (after-u16-at .u16-at .ensures .0) (after-skip-below .skip-below .result .entries) (after-skip-below .skip-below .result .bytes) (after-skip-below .skip-below .ensures .0) (after-skip-below .skip-below .ensures .1))
 
--- src/is_consistent_with.rt:92:13
 returns : tie.Need-returns Inv-loop μ-loop
 returns c =
     let at-loop = c .before .before .before .before .before .before .before in
@@ -105,31 +88,25 @@ returns c =
     let after-attribute-covered = c .before in
     covering-not (at-loop .loop .inv) (in-loop .loop-test .taken) (after-u16-at .u16-at .result) (after-u16-at .u16-at .ensures .0) (after-skip-below .skip-below .result .entries) (after-skip-below .skip-below .result .bytes) (after-skip-below .skip-below .ensures .0) (after-skip-below .skip-below .ensures .1) (after-attribute-covered .attribute-covered .result) (after-attribute-covered .attribute-covered .ensures) (c .if1 .taken)
 
--- src/is_consistent_with.rt:94:13
 sub-e : tie.Need-sub-e Inv-loop μ-loop
 sub-e c =
     let at-loop = c .before .before .before .before .before .before .before in
     omega (arith, at-loop .loop .inv .entries .sized)
 
--- src/is_consistent_with.rt:94:13
 part-e-start : tie.Need-part-e-start Inv-loop μ-loop
 part-e-start c =
     let at-loop = c .before .before .before .before .before .before .before in
     omega (arith, at-loop .loop .inv .entries .sized)
 
--- src/is_consistent_with.rt:94:13
 part-e-end : tie.Need-part-e-end Inv-loop μ-loop
 part-e-end c = search needs
 
--- src/is_consistent_with.rt:95:9
 sub-left : tie.Need-sub-left Inv-loop μ-loop
 sub-left c = search needs
 
--- src/is_consistent_with.rt:83:5
 loop-less : tie.Need-loop-less Inv-loop μ-loop
 loop-less c = search needs
 
--- src/is_consistent_with.rt:83:5
 loop-again : tie.Need-loop-again Inv-loop μ-loop
 loop-again c =
     let at-loop = c .before .before .before .before .before .before .before .before in
@@ -139,7 +116,6 @@ loop-again c =
     let after-attribute-covered = c .before .before in
     covering-again (at-loop .loop .inv) (in-loop .loop-test .taken) (after-u16-at .u16-at .result) (after-u16-at .u16-at .ensures .0) (after-skip-below .skip-below .result .entries) (after-skip-below .skip-below .result .bytes) (after-skip-below .skip-below .ensures .0) (after-skip-below .skip-below .ensures .1) (after-attribute-covered .attribute-covered .result) (after-attribute-covered .attribute-covered .ensures) (c .before .if1 .left)
 
--- src/is_consistent_with.rt:73:1
 returns-2 : tie.Need-returns-2 Inv-loop μ-loop
 returns-2 c = covering-end (c .before .loop .inv) (c .loop-test .left)
 

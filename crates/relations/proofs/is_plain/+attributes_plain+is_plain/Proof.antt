@@ -1,3 +1,4 @@
+-- `relations::is_plain::attributes_plain`, `relations::is_plain::is_plain` meet their contracts. Assumes nothing.
 use mathlib.Core.Path.{_∙_}
 use Prim.Native.Nat.{_+_, _*_}
 use native.Mathlib.Omega.{arith}
@@ -48,75 +49,39 @@ abbrev is-plain-below : ℕ → In 1 is-plain-kinds.ps
 is-plain-below t =
     and 1 is-plain-kinds.ps (falls 1 is-plain-kinds.ps _<_ μ-is-plain t) is-plain.Pre
 
+abbrev attributes-plain-claims : ℕ → attributes-plain-lts.Claims
+attributes-plain-claims t = (u16-at-reads.Asked, u16-at-reads.Learnt, is-plain-below t, is-plain.Post)
+
+abbrev is-plain-claims : ℕ → is-plain-lts.Claims
+is-plain-claims t = (is-plain-below t, is-plain.Post, u16-at-reads.Asked, u16-at-reads.Learnt, attributes-plain-below t, attributes-plain.Post, kind-is-plain-reads.Asked, kind-is-plain-reads.Learnt)
+
 abbrev attributes-plain-Inv-loop : attributes-plain-lts.InvT-loop
 attributes-plain-Inv-loop es bs n levels e₀ b₀ left₀ e b left = PlainLeft levels (decA (dec levels) n es bs) left e b
 
 abbrev attributes-plain-μ-loop : attributes-plain-lts.MeasureT-loop
 attributes-plain-μ-loop es bs n levels e₀ b₀ left₀ e b left = left
 
--- src/is_plain.rt:30:5
-attributes-plain-loop-holds : (t : ℕ) → attributes-plain-lts.Need-loop-holds (
-  u16-at-reads.Asked,
-  u16-at-reads.Learnt,
-  is-plain-below t,
-  is-plain.Post,
-) (attributes-plain-at t) attributes-plain.Post attributes-plain-Inv-loop attributes-plain-μ-loop
+attributes-plain-loop-holds : (t : ℕ) → attributes-plain-lts.Need-loop-holds (attributes-plain-claims t) (attributes-plain-at t) attributes-plain.Post attributes-plain-Inv-loop attributes-plain-μ-loop
 attributes-plain-loop-holds t c = plain-start (c .before .before .pre .1)
 
--- src/is_plain.rt:31:13
-attributes-plain-u16-at-requires : (t : ℕ) → attributes-plain-lts.Need-u16-at-requires (
-  u16-at-reads.Asked,
-  u16-at-reads.Learnt,
-  is-plain-below t,
-  is-plain.Post,
-) (attributes-plain-at t) attributes-plain.Post attributes-plain-Inv-loop attributes-plain-μ-loop
+attributes-plain-u16-at-requires : (t : ℕ) → attributes-plain-lts.Need-u16-at-requires (attributes-plain-claims t) (attributes-plain-at t) attributes-plain.Post attributes-plain-Inv-loop attributes-plain-μ-loop
 attributes-plain-u16-at-requires t c κs = omega arith
 
--- src/is_plain.rt:32:22
-attributes-plain-sub-is-plain : (t : ℕ) → attributes-plain-lts.Need-sub-is-plain (
-  u16-at-reads.Asked,
-  u16-at-reads.Learnt,
-  is-plain-below t,
-  is-plain.Post,
-) (attributes-plain-at t) attributes-plain.Post attributes-plain-Inv-loop attributes-plain-μ-loop
+attributes-plain-sub-is-plain : (t : ℕ) → attributes-plain-lts.Need-sub-is-plain (attributes-plain-claims t) (attributes-plain-at t) attributes-plain.Post attributes-plain-Inv-loop attributes-plain-μ-loop
 attributes-plain-sub-is-plain t c = omega (arith, plain-first (c .before .before .loop .inv) (c .before .loop-test .taken) .fit, c .u16-at .ensures .0)
 
--- src/is_plain.rt:32:22
-attributes-plain-part-is-plain-start : (t : ℕ) → attributes-plain-lts.Need-part-is-plain-start (
-  u16-at-reads.Asked,
-  u16-at-reads.Learnt,
-  is-plain-below t,
-  is-plain.Post,
-) (attributes-plain-at t) attributes-plain.Post attributes-plain-Inv-loop attributes-plain-μ-loop
+attributes-plain-part-is-plain-start : (t : ℕ) → attributes-plain-lts.Need-part-is-plain-start (attributes-plain-claims t) (attributes-plain-at t) attributes-plain.Post attributes-plain-Inv-loop attributes-plain-μ-loop
 attributes-plain-part-is-plain-start t c = omega arith
 
--- src/is_plain.rt:32:22
-attributes-plain-part-is-plain-end : (t : ℕ) → attributes-plain-lts.Need-part-is-plain-end (
-  u16-at-reads.Asked,
-  u16-at-reads.Learnt,
-  is-plain-below t,
-  is-plain.Post,
-) (attributes-plain-at t) attributes-plain.Post attributes-plain-Inv-loop attributes-plain-μ-loop
+attributes-plain-part-is-plain-end : (t : ℕ) → attributes-plain-lts.Need-part-is-plain-end (attributes-plain-claims t) (attributes-plain-at t) attributes-plain.Post attributes-plain-Inv-loop attributes-plain-μ-loop
 attributes-plain-part-is-plain-end t c = omega (arith, plain-first (c .before .before .loop .inv) (c .before .loop-test .taken) .fit, c .u16-at .ensures .0)
 
--- src/is_plain.rt:32:13
-attributes-plain-is-plain-requires : (t : ℕ) → attributes-plain-lts.Need-is-plain-requires (
-  u16-at-reads.Asked,
-  u16-at-reads.Learnt,
-  is-plain-below t,
-  is-plain.Post,
-) (attributes-plain-at t) attributes-plain.Post attributes-plain-Inv-loop attributes-plain-μ-loop
+attributes-plain-is-plain-requires : (t : ℕ) → attributes-plain-lts.Need-is-plain-requires (attributes-plain-claims t) (attributes-plain-at t) attributes-plain.Post attributes-plain-Inv-loop attributes-plain-μ-loop
 attributes-plain-is-plain-requires t c κs =
     let start = c .before .before .before .before .before .before in
     (omega (arith, start .pre .0), rw (c .before .u16-at .ensures .0) (plain-first (c .before .before .before .loop .inv) (c .before .before .loop-test .taken) .body))
 
--- src/is_plain.rt:33:13
-attributes-plain-returns : (t : ℕ) → attributes-plain-lts.Need-returns (
-  u16-at-reads.Asked,
-  u16-at-reads.Learnt,
-  is-plain-below t,
-  is-plain.Post,
-) (attributes-plain-at t) attributes-plain.Post attributes-plain-Inv-loop attributes-plain-μ-loop
+attributes-plain-returns : (t : ℕ) → attributes-plain-lts.Need-returns (attributes-plain-claims t) (attributes-plain-at t) attributes-plain.Post attributes-plain-Inv-loop attributes-plain-μ-loop
 attributes-plain-returns t c =
     let at-loop = c .before .before .before .before .before in
     let in-loop = c .before .before .before .before in
@@ -124,93 +89,39 @@ attributes-plain-returns t c =
     let after-is-plain = c .before in
     plain-not (at-loop .loop .inv) (in-loop .loop-test .taken) (after-u16-at .u16-at .result) (after-u16-at .u16-at .ensures .0) (after-is-plain .is-plain .result) (after-is-plain .is-plain .ensures) (c .if1 .taken)
 
--- src/is_plain.rt:35:13
-attributes-plain-sub-e : (t : ℕ) → attributes-plain-lts.Need-sub-e (
-  u16-at-reads.Asked,
-  u16-at-reads.Learnt,
-  is-plain-below t,
-  is-plain.Post,
-) (attributes-plain-at t) attributes-plain.Post attributes-plain-Inv-loop attributes-plain-μ-loop
+attributes-plain-sub-e : (t : ℕ) → attributes-plain-lts.Need-sub-e (attributes-plain-claims t) (attributes-plain-at t) attributes-plain.Post attributes-plain-Inv-loop attributes-plain-μ-loop
 attributes-plain-sub-e t c = omega arith
 
--- src/is_plain.rt:35:13
-attributes-plain-part-e-start : (t : ℕ) → attributes-plain-lts.Need-part-e-start (
-  u16-at-reads.Asked,
-  u16-at-reads.Learnt,
-  is-plain-below t,
-  is-plain.Post,
-) (attributes-plain-at t) attributes-plain.Post attributes-plain-Inv-loop attributes-plain-μ-loop
+attributes-plain-part-e-start : (t : ℕ) → attributes-plain-lts.Need-part-e-start (attributes-plain-claims t) (attributes-plain-at t) attributes-plain.Post attributes-plain-Inv-loop attributes-plain-μ-loop
 attributes-plain-part-e-start t c = omega arith
 
--- src/is_plain.rt:35:13
-attributes-plain-part-e-end : (t : ℕ) → attributes-plain-lts.Need-part-e-end (
-  u16-at-reads.Asked,
-  u16-at-reads.Learnt,
-  is-plain-below t,
-  is-plain.Post,
-) (attributes-plain-at t) attributes-plain.Post attributes-plain-Inv-loop attributes-plain-μ-loop
+attributes-plain-part-e-end : (t : ℕ) → attributes-plain-lts.Need-part-e-end (attributes-plain-claims t) (attributes-plain-at t) attributes-plain.Post attributes-plain-Inv-loop attributes-plain-μ-loop
 attributes-plain-part-e-end t c = omega arith
 
--- src/is_plain.rt:36:13
-attributes-plain-sub-b : (t : ℕ) → attributes-plain-lts.Need-sub-b (
-  u16-at-reads.Asked,
-  u16-at-reads.Learnt,
-  is-plain-below t,
-  is-plain.Post,
-) (attributes-plain-at t) attributes-plain.Post attributes-plain-Inv-loop attributes-plain-μ-loop
+attributes-plain-sub-b : (t : ℕ) → attributes-plain-lts.Need-sub-b (attributes-plain-claims t) (attributes-plain-at t) attributes-plain.Post attributes-plain-Inv-loop attributes-plain-μ-loop
 attributes-plain-sub-b t c =
     let at-loop = c .before .before .before .before .before .before in
     let in-loop = c .before .before .before .before .before in
     let after-u16-at = c .before .before .before .before in
     omega (arith, plain-first (at-loop .loop .inv) (in-loop .loop-test .taken) .fit, after-u16-at .u16-at .ensures .0)
 
--- src/is_plain.rt:36:13
-attributes-plain-part-b-start : (t : ℕ) → attributes-plain-lts.Need-part-b-start (
-  u16-at-reads.Asked,
-  u16-at-reads.Learnt,
-  is-plain-below t,
-  is-plain.Post,
-) (attributes-plain-at t) attributes-plain.Post attributes-plain-Inv-loop attributes-plain-μ-loop
+attributes-plain-part-b-start : (t : ℕ) → attributes-plain-lts.Need-part-b-start (attributes-plain-claims t) (attributes-plain-at t) attributes-plain.Post attributes-plain-Inv-loop attributes-plain-μ-loop
 attributes-plain-part-b-start t c =
     let at-loop = c .before .before .before .before .before .before in
     let in-loop = c .before .before .before .before .before in
     let after-u16-at = c .before .before .before .before in
     omega (arith, plain-first (at-loop .loop .inv) (in-loop .loop-test .taken) .fit, after-u16-at .u16-at .ensures .0)
 
--- src/is_plain.rt:36:13
-attributes-plain-part-b-end : (t : ℕ) → attributes-plain-lts.Need-part-b-end (
-  u16-at-reads.Asked,
-  u16-at-reads.Learnt,
-  is-plain-below t,
-  is-plain.Post,
-) (attributes-plain-at t) attributes-plain.Post attributes-plain-Inv-loop attributes-plain-μ-loop
+attributes-plain-part-b-end : (t : ℕ) → attributes-plain-lts.Need-part-b-end (attributes-plain-claims t) (attributes-plain-at t) attributes-plain.Post attributes-plain-Inv-loop attributes-plain-μ-loop
 attributes-plain-part-b-end t c = omega arith
 
--- src/is_plain.rt:37:9
-attributes-plain-sub-left : (t : ℕ) → attributes-plain-lts.Need-sub-left (
-  u16-at-reads.Asked,
-  u16-at-reads.Learnt,
-  is-plain-below t,
-  is-plain.Post,
-) (attributes-plain-at t) attributes-plain.Post attributes-plain-Inv-loop attributes-plain-μ-loop
+attributes-plain-sub-left : (t : ℕ) → attributes-plain-lts.Need-sub-left (attributes-plain-claims t) (attributes-plain-at t) attributes-plain.Post attributes-plain-Inv-loop attributes-plain-μ-loop
 attributes-plain-sub-left t c = omega arith
 
--- src/is_plain.rt:30:5
-attributes-plain-loop-less : (t : ℕ) → attributes-plain-lts.Need-loop-less (
-  u16-at-reads.Asked,
-  u16-at-reads.Learnt,
-  is-plain-below t,
-  is-plain.Post,
-) (attributes-plain-at t) attributes-plain.Post attributes-plain-Inv-loop attributes-plain-μ-loop
+attributes-plain-loop-less : (t : ℕ) → attributes-plain-lts.Need-loop-less (attributes-plain-claims t) (attributes-plain-at t) attributes-plain.Post attributes-plain-Inv-loop attributes-plain-μ-loop
 attributes-plain-loop-less t c = omega arith
 
--- src/is_plain.rt:30:5
-attributes-plain-loop-again : (t : ℕ) → attributes-plain-lts.Need-loop-again (
-  u16-at-reads.Asked,
-  u16-at-reads.Learnt,
-  is-plain-below t,
-  is-plain.Post,
-) (attributes-plain-at t) attributes-plain.Post attributes-plain-Inv-loop attributes-plain-μ-loop
+attributes-plain-loop-again : (t : ℕ) → attributes-plain-lts.Need-loop-again (attributes-plain-claims t) (attributes-plain-at t) attributes-plain.Post attributes-plain-Inv-loop attributes-plain-μ-loop
 attributes-plain-loop-again t c =
     let at-loop = c .before .before .before .before .before .before .before in
     let in-loop = c .before .before .before .before .before .before in
@@ -218,363 +129,117 @@ attributes-plain-loop-again t c =
     let after-is-plain = c .before .before .before in
     plain-again (at-loop .loop .inv) (in-loop .loop-test .taken) (after-u16-at .u16-at .result) (after-u16-at .u16-at .ensures .0) (after-is-plain .is-plain .result) (after-is-plain .is-plain .ensures) (c .before .before .if1 .left)
 
--- src/is_plain.rt:23:1
-attributes-plain-returns-2 : (t : ℕ) → attributes-plain-lts.Need-returns-2 (
-  u16-at-reads.Asked,
-  u16-at-reads.Learnt,
-  is-plain-below t,
-  is-plain.Post,
-) (attributes-plain-at t) attributes-plain.Post attributes-plain-Inv-loop attributes-plain-μ-loop
+attributes-plain-returns-2 : (t : ℕ) → attributes-plain-lts.Need-returns-2 (attributes-plain-claims t) (attributes-plain-at t) attributes-plain.Post attributes-plain-Inv-loop attributes-plain-μ-loop
 attributes-plain-returns-2 t c = plain-end (c .before .loop .inv) (c .loop-test .left)
 
--- src/is_plain.rt:47:13
-is-plain-shared-slice-read-k : (t : ℕ) → is-plain-lts.Need-shared-slice-read-k (
-  is-plain-below t,
-  is-plain.Post,
-  u16-at-reads.Asked,
-  u16-at-reads.Learnt,
-  attributes-plain-below t,
-  attributes-plain.Post,
-  kind-is-plain-reads.Asked,
-  kind-is-plain-reads.Learnt,
-) (is-plain-at t) is-plain.Post
+is-plain-shared-slice-read-k : (t : ℕ) → is-plain-lts.Need-shared-slice-read-k (is-plain-claims t) (is-plain-at t) is-plain.Post
 is-plain-shared-slice-read-k t c =
     let start = c .before .before in
     not-empty (start .args .levels) (start .args .t .now) (start .pre .1)
 
--- src/is_plain.rt:49:31
-is-plain-sub-is-plain : (t : ℕ) → is-plain-lts.Need-sub-is-plain (
-  is-plain-below t,
-  is-plain.Post,
-  u16-at-reads.Asked,
-  u16-at-reads.Learnt,
-  attributes-plain-below t,
-  attributes-plain.Post,
-  kind-is-plain-reads.Asked,
-  kind-is-plain-reads.Learnt,
-) (is-plain-at t) is-plain.Post
+is-plain-sub-is-plain : (t : ℕ) → is-plain-lts.Need-sub-is-plain (is-plain-claims t) (is-plain-at t) is-plain.Post
 is-plain-sub-is-plain t c =
     let start = c .before .before .before in
     omega (arith, not-empty (start .args .levels) (start .args .t .now) (start .pre .1))
 
--- src/is_plain.rt:49:31
-is-plain-part-is-plain-start : (t : ℕ) → is-plain-lts.Need-part-is-plain-start (
-  is-plain-below t,
-  is-plain.Post,
-  u16-at-reads.Asked,
-  u16-at-reads.Learnt,
-  attributes-plain-below t,
-  attributes-plain.Post,
-  kind-is-plain-reads.Asked,
-  kind-is-plain-reads.Learnt,
-) (is-plain-at t) is-plain.Post
+is-plain-part-is-plain-start : (t : ℕ) → is-plain-lts.Need-part-is-plain-start (is-plain-claims t) (is-plain-at t) is-plain.Post
 is-plain-part-is-plain-start t c =
     let start = c .before .before .before in
     omega (arith, not-empty (start .args .levels) (start .args .t .now) (start .pre .1))
 
--- src/is_plain.rt:49:31
-is-plain-part-is-plain-end : (t : ℕ) → is-plain-lts.Need-part-is-plain-end (
-  is-plain-below t,
-  is-plain.Post,
-  u16-at-reads.Asked,
-  u16-at-reads.Learnt,
-  attributes-plain-below t,
-  attributes-plain.Post,
-  kind-is-plain-reads.Asked,
-  kind-is-plain-reads.Learnt,
-) (is-plain-at t) is-plain.Post
+is-plain-part-is-plain-end : (t : ℕ) → is-plain-lts.Need-part-is-plain-end (is-plain-claims t) (is-plain-at t) is-plain.Post
 is-plain-part-is-plain-end t c = omega arith
 
--- src/is_plain.rt:49:53
-is-plain-sub-is-plain-2 : (t : ℕ) → is-plain-lts.Need-sub-is-plain-2 (
-  is-plain-below t,
-  is-plain.Post,
-  u16-at-reads.Asked,
-  u16-at-reads.Learnt,
-  attributes-plain-below t,
-  attributes-plain.Post,
-  kind-is-plain-reads.Asked,
-  kind-is-plain-reads.Learnt,
-) (is-plain-at t) is-plain.Post
+is-plain-sub-is-plain-2 : (t : ℕ) → is-plain-lts.Need-sub-is-plain-2 (is-plain-claims t) (is-plain-at t) is-plain.Post
 is-plain-sub-is-plain-2 t c =
     let start = c .before .before .before .before in
     omega (arith, is-set (start .args .levels) (start .args .t .now) (start .pre .1) (c .before .match .keys1) .deep)
 
--- src/is_plain.rt:49:22
-is-plain-is-plain-requires : (t : ℕ) → is-plain-lts.Need-is-plain-requires (
-  is-plain-below t,
-  is-plain.Post,
-  u16-at-reads.Asked,
-  u16-at-reads.Learnt,
-  attributes-plain-below t,
-  attributes-plain.Post,
-  kind-is-plain-reads.Asked,
-  kind-is-plain-reads.Learnt,
-) (is-plain-at t) is-plain.Post
+is-plain-is-plain-requires : (t : ℕ) → is-plain-lts.Need-is-plain-requires (is-plain-claims t) (is-plain-at t) is-plain.Post
 is-plain-is-plain-requires t c κs =
     let start = c .before .before .before .before in
     let s = is-set (start .args .levels) (start .args .t .now) (start .pre .1) (c .before .match .keys1) in
     (omega (arith, start .pre .0, s .deep), s .good)
 
--- src/is_plain.rt:51:17
-is-plain-u16-at-requires : (t : ℕ) → is-plain-lts.Need-u16-at-requires (
-  is-plain-below t,
-  is-plain.Post,
-  u16-at-reads.Asked,
-  u16-at-reads.Learnt,
-  attributes-plain-below t,
-  attributes-plain.Post,
-  kind-is-plain-reads.Asked,
-  kind-is-plain-reads.Learnt,
-) (is-plain-at t) is-plain.Post
+is-plain-u16-at-requires : (t : ℕ) → is-plain-lts.Need-u16-at-requires (is-plain-claims t) (is-plain-at t) is-plain.Post
 is-plain-u16-at-requires t c κs =
     let start = c .before .before .before in
     omega (arith, (is-record (start .args .levels) (start .args .t .now) (start .pre .1) (c .match .keys2)) .some)
 
--- src/is_plain.rt:52:45
-is-plain-mul-p : (t : ℕ) → is-plain-lts.Need-mul-p (
-  is-plain-below t,
-  is-plain.Post,
-  u16-at-reads.Asked,
-  u16-at-reads.Learnt,
-  attributes-plain-below t,
-  attributes-plain.Post,
-  kind-is-plain-reads.Asked,
-  kind-is-plain-reads.Learnt,
-) (is-plain-at t) is-plain.Post
+is-plain-mul-p : (t : ℕ) → is-plain-lts.Need-mul-p (is-plain-claims t) (is-plain-at t) is-plain.Post
 is-plain-mul-p t c = omega arith
 
--- src/is_plain.rt:52:21
-is-plain-add-p : (t : ℕ) → is-plain-lts.Need-add-p (
-  is-plain-below t,
-  is-plain.Post,
-  u16-at-reads.Asked,
-  u16-at-reads.Learnt,
-  attributes-plain-below t,
-  attributes-plain.Post,
-  kind-is-plain-reads.Asked,
-  kind-is-plain-reads.Learnt,
-) (is-plain-at t) is-plain.Post
+is-plain-add-p : (t : ℕ) → is-plain-lts.Need-add-p (is-plain-claims t) (is-plain-at t) is-plain.Post
 is-plain-add-p t c = omega arith
 
--- src/is_plain.rt:53:30
-is-plain-sub-attributes-plain : (t : ℕ) → is-plain-lts.Need-sub-attributes-plain (
-  is-plain-below t,
-  is-plain.Post,
-  u16-at-reads.Asked,
-  u16-at-reads.Learnt,
-  attributes-plain-below t,
-  attributes-plain.Post,
-  kind-is-plain-reads.Asked,
-  kind-is-plain-reads.Learnt,
-) (is-plain-at t) is-plain.Post
+is-plain-sub-attributes-plain : (t : ℕ) → is-plain-lts.Need-sub-attributes-plain (is-plain-claims t) (is-plain-at t) is-plain.Post
 is-plain-sub-attributes-plain t c =
     let start = c .before .before .before .before in
     omega (arith, (is-record (start .args .levels) (start .args .t .now) (start .pre .1) (c .before .match .keys2)) .fit, c .u16-at .ensures .0)
 
--- src/is_plain.rt:53:30
-is-plain-part-attributes-plain-start : (t : ℕ) → is-plain-lts.Need-part-attributes-plain-start (
-  is-plain-below t,
-  is-plain.Post,
-  u16-at-reads.Asked,
-  u16-at-reads.Learnt,
-  attributes-plain-below t,
-  attributes-plain.Post,
-  kind-is-plain-reads.Asked,
-  kind-is-plain-reads.Learnt,
-) (is-plain-at t) is-plain.Post
+is-plain-part-attributes-plain-start : (t : ℕ) → is-plain-lts.Need-part-attributes-plain-start (is-plain-claims t) (is-plain-at t) is-plain.Post
 is-plain-part-attributes-plain-start t c = omega arith
 
--- src/is_plain.rt:53:30
-is-plain-part-attributes-plain-end : (t : ℕ) → is-plain-lts.Need-part-attributes-plain-end (
-  is-plain-below t,
-  is-plain.Post,
-  u16-at-reads.Asked,
-  u16-at-reads.Learnt,
-  attributes-plain-below t,
-  attributes-plain.Post,
-  kind-is-plain-reads.Asked,
-  kind-is-plain-reads.Learnt,
-) (is-plain-at t) is-plain.Post
+is-plain-part-attributes-plain-end : (t : ℕ) → is-plain-lts.Need-part-attributes-plain-end (is-plain-claims t) (is-plain-at t) is-plain.Post
 is-plain-part-attributes-plain-end t c =
     let start = c .before .before .before .before in
     omega (arith, (is-record (start .args .levels) (start .args .t .now) (start .pre .1) (c .before .match .keys2)) .fit, c .u16-at .ensures .0)
 
--- src/is_plain.rt:53:60
-is-plain-sub-attributes-plain-2 : (t : ℕ) → is-plain-lts.Need-sub-attributes-plain-2 (
-  is-plain-below t,
-  is-plain.Post,
-  u16-at-reads.Asked,
-  u16-at-reads.Learnt,
-  attributes-plain-below t,
-  attributes-plain.Post,
-  kind-is-plain-reads.Asked,
-  kind-is-plain-reads.Learnt,
-) (is-plain-at t) is-plain.Post
+is-plain-sub-attributes-plain-2 : (t : ℕ) → is-plain-lts.Need-sub-attributes-plain-2 (is-plain-claims t) (is-plain-at t) is-plain.Post
 is-plain-sub-attributes-plain-2 t c =
     let start = c .before .before .before .before .before in
     omega (arith, (is-record (start .args .levels) (start .args .t .now) (start .pre .1) (c .before .before .match .keys2)) .fit, c .before .u16-at .ensures .0)
 
--- src/is_plain.rt:53:60
-is-plain-part-attributes-plain-start-2 : (t : ℕ) → is-plain-lts.Need-part-attributes-plain-start-2 (
-  is-plain-below t,
-  is-plain.Post,
-  u16-at-reads.Asked,
-  u16-at-reads.Learnt,
-  attributes-plain-below t,
-  attributes-plain.Post,
-  kind-is-plain-reads.Asked,
-  kind-is-plain-reads.Learnt,
-) (is-plain-at t) is-plain.Post
+is-plain-part-attributes-plain-start-2 : (t : ℕ) → is-plain-lts.Need-part-attributes-plain-start-2 (is-plain-claims t) (is-plain-at t) is-plain.Post
 is-plain-part-attributes-plain-start-2 t c =
     let start = c .before .before .before .before .before in
     omega (arith, (is-record (start .args .levels) (start .args .t .now) (start .pre .1) (c .before .before .match .keys2)) .fit, c .before .u16-at .ensures .0)
 
--- src/is_plain.rt:53:60
-is-plain-part-attributes-plain-end-2 : (t : ℕ) → is-plain-lts.Need-part-attributes-plain-end-2 (
-  is-plain-below t,
-  is-plain.Post,
-  u16-at-reads.Asked,
-  u16-at-reads.Learnt,
-  attributes-plain-below t,
-  attributes-plain.Post,
-  kind-is-plain-reads.Asked,
-  kind-is-plain-reads.Learnt,
-) (is-plain-at t) is-plain.Post
+is-plain-part-attributes-plain-end-2 : (t : ℕ) → is-plain-lts.Need-part-attributes-plain-end-2 (is-plain-claims t) (is-plain-at t) is-plain.Post
 is-plain-part-attributes-plain-end-2 t c = omega arith
 
--- src/is_plain.rt:53:72
-is-plain-sub-attributes-plain-3 : (t : ℕ) → is-plain-lts.Need-sub-attributes-plain-3 (
-  is-plain-below t,
-  is-plain.Post,
-  u16-at-reads.Asked,
-  u16-at-reads.Learnt,
-  attributes-plain-below t,
-  attributes-plain.Post,
-  kind-is-plain-reads.Asked,
-  kind-is-plain-reads.Learnt,
-) (is-plain-at t) is-plain.Post
+is-plain-sub-attributes-plain-3 : (t : ℕ) → is-plain-lts.Need-sub-attributes-plain-3 (is-plain-claims t) (is-plain-at t) is-plain.Post
 is-plain-sub-attributes-plain-3 t c =
     let start = c .before .before .before .before .before .before in
     omega (arith, (is-record (start .args .levels) (start .args .t .now) (start .pre .1) (c .before .before .before .match .keys2)) .deep)
 
--- src/is_plain.rt:53:13
-is-plain-attributes-plain-requires : (t : ℕ) → is-plain-lts.Need-attributes-plain-requires (
-  is-plain-below t,
-  is-plain.Post,
-  u16-at-reads.Asked,
-  u16-at-reads.Learnt,
-  attributes-plain-below t,
-  attributes-plain.Post,
-  kind-is-plain-reads.Asked,
-  kind-is-plain-reads.Learnt,
-) (is-plain-at t) is-plain.Post
+is-plain-attributes-plain-requires : (t : ℕ) → is-plain-lts.Need-attributes-plain-requires (is-plain-claims t) (is-plain-at t) is-plain.Post
 is-plain-attributes-plain-requires t c κs =
     let start = c .before .before .before .before .before .before in
     let at-match-keys2 = c .before .before .before in
     (omega (arith, start .pre .0, (is-record (start .args .levels) (start .args .t .now) (start .pre .1) (at-match-keys2 .match .keys2)) .deep), rw (c .before .before .u16-at .ensures .0) ((is-record (start .args .levels) (start .args .t .now) (start .pre .1) (at-match-keys2 .match .keys2)) .sound))
 
--- src/is_plain.rt:55:25
-is-plain-u16-at-requires-2 : (t : ℕ) → is-plain-lts.Need-u16-at-requires-2 (
-  is-plain-below t,
-  is-plain.Post,
-  u16-at-reads.Asked,
-  u16-at-reads.Learnt,
-  attributes-plain-below t,
-  attributes-plain.Post,
-  kind-is-plain-reads.Asked,
-  kind-is-plain-reads.Learnt,
-) (is-plain-at t) is-plain.Post
+is-plain-u16-at-requires-2 : (t : ℕ) → is-plain-lts.Need-u16-at-requires-2 (is-plain-claims t) (is-plain-at t) is-plain.Post
 is-plain-u16-at-requires-2 t c κs =
     let start = c .before .before .before in
     omega (arith, is-entity (start .args .levels) (start .args .t .now) (start .pre .1) (c .match .keys3) .some)
 
--- src/is_plain.rt:57:14
-is-plain-kind-is-plain-requires : (t : ℕ) → is-plain-lts.Need-kind-is-plain-requires (
-  is-plain-below t,
-  is-plain.Post,
-  u16-at-reads.Asked,
-  u16-at-reads.Learnt,
-  attributes-plain-below t,
-  attributes-plain.Post,
-  kind-is-plain-reads.Asked,
-  kind-is-plain-reads.Learnt,
-) (is-plain-at t) is-plain.Post
+is-plain-kind-is-plain-requires : (t : ℕ) → is-plain-lts.Need-kind-is-plain-requires (is-plain-claims t) (is-plain-at t) is-plain.Post
 is-plain-kind-is-plain-requires t c κs = search needs
 
--- src/is_plain.rt:43:1
-is-plain-returns : (t : ℕ) → is-plain-lts.Need-returns (
-  is-plain-below t,
-  is-plain.Post,
-  u16-at-reads.Asked,
-  u16-at-reads.Learnt,
-  attributes-plain-below t,
-  attributes-plain.Post,
-  kind-is-plain-reads.Asked,
-  kind-is-plain-reads.Learnt,
-) (is-plain-at t) is-plain.Post
+is-plain-returns : (t : ℕ) → is-plain-lts.Need-returns (is-plain-claims t) (is-plain-at t) is-plain.Post
 is-plain-returns t c =
     let start = c .before .before .before .before .before in
     c .is-plain .ensures ∙ plain-set (start .args .levels) (start .args .t .now) (start .pre .1) (c .before .before .match .keys1)
 
--- src/is_plain.rt:43:1
-is-plain-returns-2 : (t : ℕ) → is-plain-lts.Need-returns-2 (
-  is-plain-below t,
-  is-plain.Post,
-  u16-at-reads.Asked,
-  u16-at-reads.Learnt,
-  attributes-plain-below t,
-  attributes-plain.Post,
-  kind-is-plain-reads.Asked,
-  kind-is-plain-reads.Learnt,
-) (is-plain-at t) is-plain.Post
+is-plain-returns-2 : (t : ℕ) → is-plain-lts.Need-returns-2 (is-plain-claims t) (is-plain-at t) is-plain.Post
 is-plain-returns-2 t c =
     let start = c .before .before .before .before .before .before .before in
     let at-match-keys2 = c .before .before .before .before in
     let after-u16-at = c .before .before .before in
     c .attributes-plain .ensures ∙ plain-record (start .args .levels) (start .args .t .now) (start .pre .1) (at-match-keys2 .match .keys2) (after-u16-at .u16-at .result) (after-u16-at .u16-at .ensures .0)
 
--- src/is_plain.rt:43:1
-is-plain-returns-3 : (t : ℕ) → is-plain-lts.Need-returns-3 (
-  is-plain-below t,
-  is-plain.Post,
-  u16-at-reads.Asked,
-  u16-at-reads.Learnt,
-  attributes-plain-below t,
-  attributes-plain.Post,
-  kind-is-plain-reads.Asked,
-  kind-is-plain-reads.Learnt,
-) (is-plain-at t) is-plain.Post
+is-plain-returns-3 : (t : ℕ) → is-plain-lts.Need-returns-3 (is-plain-claims t) (is-plain-at t) is-plain.Post
 is-plain-returns-3 t c =
     let start = c .before .before .before .before in
     plain-entity (start .args .levels) (start .args .t .now) (start .pre .1) (c .before .match .keys3) (c .u16-at2 .result) (c .u16-at2 .ensures .0)
 
--- src/is_plain.rt:43:1
-is-plain-returns-4 : (t : ℕ) → is-plain-lts.Need-returns-4 (
-  is-plain-below t,
-  is-plain.Post,
-  u16-at-reads.Asked,
-  u16-at-reads.Learnt,
-  attributes-plain-below t,
-  attributes-plain.Post,
-  kind-is-plain-reads.Asked,
-  kind-is-plain-reads.Learnt,
-) (is-plain-at t) is-plain.Post
+is-plain-returns-4 : (t : ℕ) → is-plain-lts.Need-returns-4 (is-plain-claims t) (is-plain-at t) is-plain.Post
 is-plain-returns-4 t c =
     let start = c .before .before .before in
     plain-extension (start .args .levels) (start .args .t .now) (start .pre .1) (c .match .keys4)
 
--- src/is_plain.rt:43:1
-is-plain-returns-5 : (t : ℕ) → is-plain-lts.Need-returns-5 (
-  is-plain-below t,
-  is-plain.Post,
-  u16-at-reads.Asked,
-  u16-at-reads.Learnt,
-  attributes-plain-below t,
-  attributes-plain.Post,
-  kind-is-plain-reads.Asked,
-  kind-is-plain-reads.Learnt,
-) (is-plain-at t) is-plain.Post
+is-plain-returns-5 : (t : ℕ) → is-plain-lts.Need-returns-5 (is-plain-claims t) (is-plain-at t) is-plain.Post
 is-plain-returns-5 t c =
     let start = c .before .before .before .before in
     let m = c .before .match .rest in
@@ -582,16 +247,7 @@ is-plain-returns-5 t c =
 
 pub +attributes-plain+is-plain-spec : {M : Type 1} → statement M
 +attributes-plain+is-plain-spec =
-    close μ-attributes-plain μ-is-plain (λ t. attributes-plain-lts.spec (
-      u16-at-reads.Asked,
-      u16-at-reads.Learnt,
-      is-plain-below t,
-      is-plain.Post,
-    )
-    (attributes-plain-at t)
-    attributes-plain.Post
-    attributes-plain-Inv-loop
-    attributes-plain-μ-loop
+    close μ-attributes-plain μ-is-plain (λ t. attributes-plain-lts.spec (attributes-plain-claims t) (attributes-plain-at t) attributes-plain.Post attributes-plain-Inv-loop attributes-plain-μ-loop
     (attributes-plain-loop-holds t)
     (attributes-plain-u16-at-requires t)
     (attributes-plain-sub-is-plain t)
@@ -609,18 +265,7 @@ pub +attributes-plain+is-plain-spec : {M : Type 1} → statement M
     (attributes-plain-loop-less t)
     (attributes-plain-loop-again t)
     (attributes-plain-returns-2 t))
-    λ t. is-plain-lts.spec (
-      is-plain-below t,
-      is-plain.Post,
-      u16-at-reads.Asked,
-      u16-at-reads.Learnt,
-      attributes-plain-below t,
-      attributes-plain.Post,
-      kind-is-plain-reads.Asked,
-      kind-is-plain-reads.Learnt,
-    )
-    (is-plain-at t)
-    is-plain.Post
+    λ t. is-plain-lts.spec (is-plain-claims t) (is-plain-at t) is-plain.Post
     (is-plain-shared-slice-read-k t)
     (is-plain-sub-is-plain t)
     (is-plain-part-is-plain-start t)

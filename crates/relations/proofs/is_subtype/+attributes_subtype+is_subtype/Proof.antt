@@ -1,3 +1,4 @@
+-- `relations::is_subtype::attributes_subtype`, `relations::is_subtype::is_subtype` meet their contracts. Assumes nothing.
 use mathlib.Core.Path.{_∙_}
 use Prim.Native.Nat.{_+_, _*_}
 use native.Mathlib.Omega.{arith}
@@ -60,114 +61,36 @@ abbrev is-subtype-below : ℕ → In 2 is-subtype-kinds.ps
 is-subtype-below t =
     and 2 is-subtype-kinds.ps (falls 2 is-subtype-kinds.ps _<_ μ-is-subtype t) is-subtype.Pre
 
+abbrev attributes-subtype-claims : ℕ → attributes-subtype-lts.Claims
+attributes-subtype-claims t = (u16-at-reads.Asked, u16-at-reads.Learnt, find-reads.Asked, find-reads.Learnt, required-under-reads.Asked, required-under-reads.Learnt, is-subtype-below t, is-subtype.Post)
+
+abbrev is-subtype-claims : ℕ → is-subtype-lts.Claims
+is-subtype-claims t = (kind-under-reads.Asked, kind-under-reads.Learnt, is-subtype-below t, is-subtype.Post, u16-at-reads.Asked, u16-at-reads.Learnt, record-under-reads.Asked, record-under-reads.Learnt, attributes-subtype-below t, attributes-subtype.Post, entity-under-reads.Asked, entity-under-reads.Learnt, same-bytes-reads.Asked, same-bytes-reads.Learnt)
+
 abbrev attributes-subtype-Inv-loop : attributes-subtype-lts.InvT-loop
 attributes-subtype-Inv-loop mode es bs n fs cs m levels e₀ b₀ left₀ f₀ c₀ more₀ e b left f c more = Under (modeAs mode) levels (decA (dec levels) n es bs) (decA (dec levels) m fs cs) n left e b more f c
 
 abbrev attributes-subtype-μ-loop : attributes-subtype-lts.MeasureT-loop
 attributes-subtype-μ-loop mode es bs n fs cs m levels e₀ b₀ left₀ f₀ c₀ more₀ e b left f c more = more
 
--- src/is_subtype.rt:110:5
-attributes-subtype-loop-holds : (t : ℕ) → attributes-subtype-lts.Need-loop-holds (
-  u16-at-reads.Asked,
-  u16-at-reads.Learnt,
-  find-reads.Asked,
-  find-reads.Learnt,
-  required-under-reads.Asked,
-  required-under-reads.Learnt,
-  is-subtype-below t,
-  is-subtype.Post,
-)
-    (attributes-subtype-at t)
-    attributes-subtype.Post
-    attributes-subtype-Inv-loop
-    attributes-subtype-μ-loop
+attributes-subtype-loop-holds : (t : ℕ) → attributes-subtype-lts.Need-loop-holds (attributes-subtype-claims t) (attributes-subtype-at t) attributes-subtype.Post attributes-subtype-Inv-loop attributes-subtype-μ-loop
 attributes-subtype-loop-holds t c =
     let start = c .before .before .before .before in
     under-start (modeAs (start .args .mode)) (start .pre .1 .0) (start .pre .1 .1)
 
--- src/is_subtype.rt:111:13
-attributes-subtype-u16-at-requires : (t : ℕ) → attributes-subtype-lts.Need-u16-at-requires (
-  u16-at-reads.Asked,
-  u16-at-reads.Learnt,
-  find-reads.Asked,
-  find-reads.Learnt,
-  required-under-reads.Asked,
-  required-under-reads.Learnt,
-  is-subtype-below t,
-  is-subtype.Post,
-)
-    (attributes-subtype-at t)
-    attributes-subtype.Post
-    attributes-subtype-Inv-loop
-    attributes-subtype-μ-loop
+attributes-subtype-u16-at-requires : (t : ℕ) → attributes-subtype-lts.Need-u16-at-requires (attributes-subtype-claims t) (attributes-subtype-at t) attributes-subtype.Post attributes-subtype-Inv-loop attributes-subtype-μ-loop
 attributes-subtype-u16-at-requires t c κs = omega arith
 
--- src/is_subtype.rt:112:33
-attributes-subtype-find-requires : (t : ℕ) → attributes-subtype-lts.Need-find-requires (
-  u16-at-reads.Asked,
-  u16-at-reads.Learnt,
-  find-reads.Asked,
-  find-reads.Learnt,
-  required-under-reads.Asked,
-  required-under-reads.Learnt,
-  is-subtype-below t,
-  is-subtype.Post,
-)
-    (attributes-subtype-at t)
-    attributes-subtype.Post
-    attributes-subtype-Inv-loop
-    attributes-subtype-μ-loop
+attributes-subtype-find-requires : (t : ℕ) → attributes-subtype-lts.Need-find-requires (attributes-subtype-claims t) (attributes-subtype-at t) attributes-subtype.Post attributes-subtype-Inv-loop attributes-subtype-μ-loop
 attributes-subtype-find-requires t c κs = laid (c .before .before .loop .inv .lower)
 
--- src/is_subtype.rt:112:23
-attributes-subtype-enum-known-i : (t : ℕ) → attributes-subtype-lts.Need-enum-known-i (
-  u16-at-reads.Asked,
-  u16-at-reads.Learnt,
-  find-reads.Asked,
-  find-reads.Learnt,
-  required-under-reads.Asked,
-  required-under-reads.Learnt,
-  is-subtype-below t,
-  is-subtype.Post,
-)
-    (attributes-subtype-at t)
-    attributes-subtype.Post
-    attributes-subtype-Inv-loop
-    attributes-subtype-μ-loop
+attributes-subtype-enum-known-i : (t : ℕ) → attributes-subtype-lts.Need-enum-known-i (attributes-subtype-claims t) (attributes-subtype-at t) attributes-subtype.Post attributes-subtype-Inv-loop attributes-subtype-μ-loop
 attributes-subtype-enum-known-i t c = search needs
 
--- src/is_subtype.rt:113:13
-attributes-subtype-enum-told : (t : ℕ) → attributes-subtype-lts.Need-enum-told (
-  u16-at-reads.Asked,
-  u16-at-reads.Learnt,
-  find-reads.Asked,
-  find-reads.Learnt,
-  required-under-reads.Asked,
-  required-under-reads.Learnt,
-  is-subtype-below t,
-  is-subtype.Post,
-)
-    (attributes-subtype-at t)
-    attributes-subtype.Post
-    attributes-subtype-Inv-loop
-    attributes-subtype-μ-loop
+attributes-subtype-enum-told : (t : ℕ) → attributes-subtype-lts.Need-enum-told (attributes-subtype-claims t) (attributes-subtype-at t) attributes-subtype.Post attributes-subtype-Inv-loop attributes-subtype-μ-loop
 attributes-subtype-enum-told t c = search needs
 
--- src/is_subtype.rt:113:13
-attributes-subtype-returns : (t : ℕ) → attributes-subtype-lts.Need-returns (
-  u16-at-reads.Asked,
-  u16-at-reads.Learnt,
-  find-reads.Asked,
-  find-reads.Learnt,
-  required-under-reads.Asked,
-  required-under-reads.Learnt,
-  is-subtype-below t,
-  is-subtype.Post,
-)
-    (attributes-subtype-at t)
-    attributes-subtype.Post
-    attributes-subtype-Inv-loop
-    attributes-subtype-μ-loop
+attributes-subtype-returns : (t : ℕ) → attributes-subtype-lts.Need-returns (attributes-subtype-claims t) (attributes-subtype-at t) attributes-subtype.Post attributes-subtype-Inv-loop attributes-subtype-μ-loop
 attributes-subtype-returns t c =
     let at-loop = c .before .before .before .before .before in
     let in-loop = c .before .before .before .before in
@@ -175,21 +98,7 @@ attributes-subtype-returns t c =
     let after-find = c .before .before in
     under-missing (at-loop .loop .inv) (in-loop .loop-test .taken) (after-u16-at .u16-at .result) (after-u16-at .u16-at .ensures .0) (after-find .find .result) (after-find .find .ensures) (c .enum-told .given .1)
 
--- src/is_subtype.rt:115:18
-attributes-subtype-mul-at : (t : ℕ) → attributes-subtype-lts.Need-mul-at (
-  u16-at-reads.Asked,
-  u16-at-reads.Learnt,
-  find-reads.Asked,
-  find-reads.Learnt,
-  required-under-reads.Asked,
-  required-under-reads.Learnt,
-  is-subtype-below t,
-  is-subtype.Post,
-)
-    (attributes-subtype-at t)
-    attributes-subtype.Post
-    attributes-subtype-Inv-loop
-    attributes-subtype-μ-loop
+attributes-subtype-mul-at : (t : ℕ) → attributes-subtype-lts.Need-mul-at (attributes-subtype-claims t) (attributes-subtype-at t) attributes-subtype.Post attributes-subtype-Inv-loop attributes-subtype-μ-loop
 attributes-subtype-mul-at t c =
     let start = c .before .before .before .before .before .before .before .before .before .before .before in
     let at-loop = c .before .before .before .before .before .before in
@@ -199,21 +108,7 @@ attributes-subtype-mul-at t c =
     let after-i = c .before in
     omega (arith, under-here (at-loop .loop .inv) (in-loop .loop-test .taken) (after-u16-at .u16-at .result) (after-u16-at .u16-at .ensures .0) (after-find .find .result) (after-find .find .ensures) (after-i .i .given .0 .0) (after-i .i .given .0 .1 .0) (after-i .i .given .1) .past-is .room, at-loop .loop .inv .few, at-loop .loop .inv .lower .sized, start .pre .1 .0 .sized, start .good .1 .0 .0)
 
--- src/is_subtype.rt:116:13
-attributes-subtype-sub-e : (t : ℕ) → attributes-subtype-lts.Need-sub-e (
-  u16-at-reads.Asked,
-  u16-at-reads.Learnt,
-  find-reads.Asked,
-  find-reads.Learnt,
-  required-under-reads.Asked,
-  required-under-reads.Learnt,
-  is-subtype-below t,
-  is-subtype.Post,
-)
-    (attributes-subtype-at t)
-    attributes-subtype.Post
-    attributes-subtype-Inv-loop
-    attributes-subtype-μ-loop
+attributes-subtype-sub-e : (t : ℕ) → attributes-subtype-lts.Need-sub-e (attributes-subtype-claims t) (attributes-subtype-at t) attributes-subtype.Post attributes-subtype-Inv-loop attributes-subtype-μ-loop
 attributes-subtype-sub-e t c =
     let at-loop = c .before .before .before .before .before .before in
     let in-loop = c .before .before .before .before .before in
@@ -222,21 +117,7 @@ attributes-subtype-sub-e t c =
     let after-i = c .before in
     omega (arith, under-here (at-loop .loop .inv) (in-loop .loop-test .taken) (after-u16-at .u16-at .result) (after-u16-at .u16-at .ensures .0) (after-find .find .result) (after-find .find .ensures) (after-i .i .given .0 .0) (after-i .i .given .0 .1 .0) (after-i .i .given .1) .past-is .room)
 
--- src/is_subtype.rt:116:13
-attributes-subtype-part-e-start : (t : ℕ) → attributes-subtype-lts.Need-part-e-start (
-  u16-at-reads.Asked,
-  u16-at-reads.Learnt,
-  find-reads.Asked,
-  find-reads.Learnt,
-  required-under-reads.Asked,
-  required-under-reads.Learnt,
-  is-subtype-below t,
-  is-subtype.Post,
-)
-    (attributes-subtype-at t)
-    attributes-subtype.Post
-    attributes-subtype-Inv-loop
-    attributes-subtype-μ-loop
+attributes-subtype-part-e-start : (t : ℕ) → attributes-subtype-lts.Need-part-e-start (attributes-subtype-claims t) (attributes-subtype-at t) attributes-subtype.Post attributes-subtype-Inv-loop attributes-subtype-μ-loop
 attributes-subtype-part-e-start t c =
     let at-loop = c .before .before .before .before .before .before in
     let in-loop = c .before .before .before .before .before in
@@ -245,38 +126,10 @@ attributes-subtype-part-e-start t c =
     let after-i = c .before in
     omega (arith, under-here (at-loop .loop .inv) (in-loop .loop-test .taken) (after-u16-at .u16-at .result) (after-u16-at .u16-at .ensures .0) (after-find .find .result) (after-find .find .ensures) (after-i .i .given .0 .0) (after-i .i .given .0 .1 .0) (after-i .i .given .1) .past-is .room)
 
--- src/is_subtype.rt:116:13
-attributes-subtype-part-e-end : (t : ℕ) → attributes-subtype-lts.Need-part-e-end (
-  u16-at-reads.Asked,
-  u16-at-reads.Learnt,
-  find-reads.Asked,
-  find-reads.Learnt,
-  required-under-reads.Asked,
-  required-under-reads.Learnt,
-  is-subtype-below t,
-  is-subtype.Post,
-)
-    (attributes-subtype-at t)
-    attributes-subtype.Post
-    attributes-subtype-Inv-loop
-    attributes-subtype-μ-loop
+attributes-subtype-part-e-end : (t : ℕ) → attributes-subtype-lts.Need-part-e-end (attributes-subtype-claims t) (attributes-subtype-at t) attributes-subtype.Post attributes-subtype-Inv-loop attributes-subtype-μ-loop
 attributes-subtype-part-e-end t c = omega arith
 
--- src/is_subtype.rt:117:13
-attributes-subtype-sub-b : (t : ℕ) → attributes-subtype-lts.Need-sub-b (
-  u16-at-reads.Asked,
-  u16-at-reads.Learnt,
-  find-reads.Asked,
-  find-reads.Learnt,
-  required-under-reads.Asked,
-  required-under-reads.Learnt,
-  is-subtype-below t,
-  is-subtype.Post,
-)
-    (attributes-subtype-at t)
-    attributes-subtype.Post
-    attributes-subtype-Inv-loop
-    attributes-subtype-μ-loop
+attributes-subtype-sub-b : (t : ℕ) → attributes-subtype-lts.Need-sub-b (attributes-subtype-claims t) (attributes-subtype-at t) attributes-subtype.Post attributes-subtype-Inv-loop attributes-subtype-μ-loop
 attributes-subtype-sub-b t c =
     let at-loop = c .before .before .before .before .before .before .before in
     let in-loop = c .before .before .before .before .before .before in
@@ -285,21 +138,7 @@ attributes-subtype-sub-b t c =
     let after-i = c .before .before in
     omega (arith, under-here (at-loop .loop .inv) (in-loop .loop-test .taken) (after-u16-at .u16-at .result) (after-u16-at .u16-at .ensures .0) (after-find .find .result) (after-find .find .ensures) (after-i .i .given .0 .0) (after-i .i .given .0 .1 .0) (after-i .i .given .1) .past-is .inside)
 
--- src/is_subtype.rt:117:13
-attributes-subtype-part-b-start : (t : ℕ) → attributes-subtype-lts.Need-part-b-start (
-  u16-at-reads.Asked,
-  u16-at-reads.Learnt,
-  find-reads.Asked,
-  find-reads.Learnt,
-  required-under-reads.Asked,
-  required-under-reads.Learnt,
-  is-subtype-below t,
-  is-subtype.Post,
-)
-    (attributes-subtype-at t)
-    attributes-subtype.Post
-    attributes-subtype-Inv-loop
-    attributes-subtype-μ-loop
+attributes-subtype-part-b-start : (t : ℕ) → attributes-subtype-lts.Need-part-b-start (attributes-subtype-claims t) (attributes-subtype-at t) attributes-subtype.Post attributes-subtype-Inv-loop attributes-subtype-μ-loop
 attributes-subtype-part-b-start t c =
     let at-loop = c .before .before .before .before .before .before .before in
     let in-loop = c .before .before .before .before .before .before in
@@ -308,38 +147,10 @@ attributes-subtype-part-b-start t c =
     let after-i = c .before .before in
     omega (arith, under-here (at-loop .loop .inv) (in-loop .loop-test .taken) (after-u16-at .u16-at .result) (after-u16-at .u16-at .ensures .0) (after-find .find .result) (after-find .find .ensures) (after-i .i .given .0 .0) (after-i .i .given .0 .1 .0) (after-i .i .given .1) .past-is .inside)
 
--- src/is_subtype.rt:117:13
-attributes-subtype-part-b-end : (t : ℕ) → attributes-subtype-lts.Need-part-b-end (
-  u16-at-reads.Asked,
-  u16-at-reads.Learnt,
-  find-reads.Asked,
-  find-reads.Learnt,
-  required-under-reads.Asked,
-  required-under-reads.Learnt,
-  is-subtype-below t,
-  is-subtype.Post,
-)
-    (attributes-subtype-at t)
-    attributes-subtype.Post
-    attributes-subtype-Inv-loop
-    attributes-subtype-μ-loop
+attributes-subtype-part-b-end : (t : ℕ) → attributes-subtype-lts.Need-part-b-end (attributes-subtype-claims t) (attributes-subtype-at t) attributes-subtype.Post attributes-subtype-Inv-loop attributes-subtype-μ-loop
 attributes-subtype-part-b-end t c = omega arith
 
--- src/is_subtype.rt:118:9
-attributes-subtype-sub-left : (t : ℕ) → attributes-subtype-lts.Need-sub-left (
-  u16-at-reads.Asked,
-  u16-at-reads.Learnt,
-  find-reads.Asked,
-  find-reads.Learnt,
-  required-under-reads.Asked,
-  required-under-reads.Learnt,
-  is-subtype-below t,
-  is-subtype.Post,
-)
-    (attributes-subtype-at t)
-    attributes-subtype.Post
-    attributes-subtype-Inv-loop
-    attributes-subtype-μ-loop
+attributes-subtype-sub-left : (t : ℕ) → attributes-subtype-lts.Need-sub-left (attributes-subtype-claims t) (attributes-subtype-at t) attributes-subtype.Post attributes-subtype-Inv-loop attributes-subtype-μ-loop
 attributes-subtype-sub-left t c =
     let at-loop = c .before .before .before .before .before .before .before .before in
     let in-loop = c .before .before .before .before .before .before .before in
@@ -348,22 +159,8 @@ attributes-subtype-sub-left t c =
     let after-i = c .before .before .before in
     omega (arith, under-here (at-loop .loop .inv) (in-loop .loop-test .taken) (after-u16-at .u16-at .result) (after-u16-at .u16-at .ensures .0) (after-find .find .result) (after-find .find .ensures) (after-i .i .given .0 .0) (after-i .i .given .0 .1 .0) (after-i .i .given .1) .few)
 
--- src/is_subtype.rt:119:34
 attributes-subtype-shared-slice-read-required-under :
-    (t : ℕ) → attributes-subtype-lts.Need-shared-slice-read-required-under (
-      u16-at-reads.Asked,
-      u16-at-reads.Learnt,
-      find-reads.Asked,
-      find-reads.Learnt,
-      required-under-reads.Asked,
-      required-under-reads.Learnt,
-      is-subtype-below t,
-      is-subtype.Post,
-    )
-    (attributes-subtype-at t)
-    attributes-subtype.Post
-    attributes-subtype-Inv-loop
-    attributes-subtype-μ-loop
+    (t : ℕ) → attributes-subtype-lts.Need-shared-slice-read-required-under (attributes-subtype-claims t) (attributes-subtype-at t) attributes-subtype.Post attributes-subtype-Inv-loop attributes-subtype-μ-loop
 attributes-subtype-shared-slice-read-required-under t c =
     let at-loop = c .before .before .before .before .before .before .before .before .before in
     let in-loop = c .before .before .before .before .before .before .before .before in
@@ -372,22 +169,8 @@ attributes-subtype-shared-slice-read-required-under t c =
     let after-i = c .before .before .before .before in
     omega (arith, under-next (at-loop .loop .inv) (in-loop .loop-test .taken) (after-u16-at .u16-at .result) (after-u16-at .u16-at .ensures .0) (after-find .find .result) (after-find .find .ensures) (after-i .i .given .0 .0) (after-i .i .given .0 .1 .0) (after-i .i .given .1) .room)
 
--- src/is_subtype.rt:119:54
 attributes-subtype-shared-slice-read-required-under-2 :
-    (t : ℕ) → attributes-subtype-lts.Need-shared-slice-read-required-under-2 (
-      u16-at-reads.Asked,
-      u16-at-reads.Learnt,
-      find-reads.Asked,
-      find-reads.Learnt,
-      required-under-reads.Asked,
-      required-under-reads.Learnt,
-      is-subtype-below t,
-      is-subtype.Post,
-    )
-    (attributes-subtype-at t)
-    attributes-subtype.Post
-    attributes-subtype-Inv-loop
-    attributes-subtype-μ-loop
+    (t : ℕ) → attributes-subtype-lts.Need-shared-slice-read-required-under-2 (attributes-subtype-claims t) (attributes-subtype-at t) attributes-subtype.Post attributes-subtype-Inv-loop attributes-subtype-μ-loop
 attributes-subtype-shared-slice-read-required-under-2 t c =
     let at-loop = c .before .before .before .before .before .before .before .before .before .before in
     let in-loop = c .before .before .before .before .before .before .before .before .before in
@@ -396,22 +179,8 @@ attributes-subtype-shared-slice-read-required-under-2 t c =
     let after-i = c .before .before .before .before .before in
     omega (arith, under-upper (at-loop .loop .inv) (in-loop .loop-test .taken) (after-u16-at .u16-at .result) (after-u16-at .u16-at .ensures .0) (after-find .find .result) (after-find .find .ensures) (after-i .i .given .0 .0) (after-i .i .given .0 .1 .0) (after-i .i .given .1) .room)
 
--- src/is_subtype.rt:119:13
 attributes-subtype-required-under-requires :
-    (t : ℕ) → attributes-subtype-lts.Need-required-under-requires (
-      u16-at-reads.Asked,
-      u16-at-reads.Learnt,
-      find-reads.Asked,
-      find-reads.Learnt,
-      required-under-reads.Asked,
-      required-under-reads.Learnt,
-      is-subtype-below t,
-      is-subtype.Post,
-    )
-    (attributes-subtype-at t)
-    attributes-subtype.Post
-    attributes-subtype-Inv-loop
-    attributes-subtype-μ-loop
+    (t : ℕ) → attributes-subtype-lts.Need-required-under-requires (attributes-subtype-claims t) (attributes-subtype-at t) attributes-subtype.Post attributes-subtype-Inv-loop attributes-subtype-μ-loop
 attributes-subtype-required-under-requires t c κs =
     let at-loop = c .before .before .before .before .before .before .before .before .before .before in
     let in-loop = c .before .before .before .before .before .before .before .before .before in
@@ -420,21 +189,7 @@ attributes-subtype-required-under-requires t c κs =
     let after-i = c .before .before .before .before .before in
     (under-next (at-loop .loop .inv) (in-loop .loop-test .taken) (after-u16-at .u16-at .result) (after-u16-at .u16-at .ensures .0) (after-find .find .result) (after-find .find .ensures) (after-i .i .given .0 .0) (after-i .i .given .0 .1 .0) (after-i .i .given .1) .flag, under-upper (at-loop .loop .inv) (in-loop .loop-test .taken) (after-u16-at .u16-at .result) (after-u16-at .u16-at .ensures .0) (after-find .find .result) (after-find .find .ensures) (after-i .i .given .0 .0) (after-i .i .given .0 .1 .0) (after-i .i .given .1) .flag)
 
--- src/is_subtype.rt:120:13
-attributes-subtype-returns-2 : (t : ℕ) → attributes-subtype-lts.Need-returns-2 (
-  u16-at-reads.Asked,
-  u16-at-reads.Learnt,
-  find-reads.Asked,
-  find-reads.Learnt,
-  required-under-reads.Asked,
-  required-under-reads.Learnt,
-  is-subtype-below t,
-  is-subtype.Post,
-)
-    (attributes-subtype-at t)
-    attributes-subtype.Post
-    attributes-subtype-Inv-loop
-    attributes-subtype-μ-loop
+attributes-subtype-returns-2 : (t : ℕ) → attributes-subtype-lts.Need-returns-2 (attributes-subtype-claims t) (attributes-subtype-at t) attributes-subtype.Post attributes-subtype-Inv-loop attributes-subtype-μ-loop
 attributes-subtype-returns-2 t c =
     let at-loop = c .before .before .before .before .before .before .before .before .before .before .before .before in
     let in-loop = c .before .before .before .before .before .before .before .before .before .before .before in
@@ -444,21 +199,7 @@ attributes-subtype-returns-2 t c =
     let after-required-under = c .before in
     under-flag (at-loop .loop .inv) (in-loop .loop-test .taken) (after-u16-at .u16-at .result) (after-u16-at .u16-at .ensures .0) (after-find .find .result) (after-find .find .ensures) (after-i .i .given .0 .0) (after-i .i .given .0 .1 .0) (after-i .i .given .1) (after-required-under .required-under .result) (after-required-under .required-under .ensures) (c .if1 .taken)
 
--- src/is_subtype.rt:122:13
-attributes-subtype-u16-at-requires-2 : (t : ℕ) → attributes-subtype-lts.Need-u16-at-requires-2 (
-  u16-at-reads.Asked,
-  u16-at-reads.Learnt,
-  find-reads.Asked,
-  find-reads.Learnt,
-  required-under-reads.Asked,
-  required-under-reads.Learnt,
-  is-subtype-below t,
-  is-subtype.Post,
-)
-    (attributes-subtype-at t)
-    attributes-subtype.Post
-    attributes-subtype-Inv-loop
-    attributes-subtype-μ-loop
+attributes-subtype-u16-at-requires-2 : (t : ℕ) → attributes-subtype-lts.Need-u16-at-requires-2 (attributes-subtype-claims t) (attributes-subtype-at t) attributes-subtype.Post attributes-subtype-Inv-loop attributes-subtype-μ-loop
 attributes-subtype-u16-at-requires-2 t c κs =
     let at-loop = c .before .before .before .before .before .before .before .before .before .before .before .before in
     let in-loop = c .before .before .before .before .before .before .before .before .before .before .before in
@@ -467,21 +208,7 @@ attributes-subtype-u16-at-requires-2 t c κs =
     let after-i = c .before .before .before .before .before .before .before in
     omega (arith, under-next (at-loop .loop .inv) (in-loop .loop-test .taken) (after-u16-at .u16-at .result) (after-u16-at .u16-at .ensures .0) (after-find .find .result) (after-find .find .ensures) (after-i .i .given .0 .0) (after-i .i .given .0 .1 .0) (after-i .i .given .1) .room)
 
--- src/is_subtype.rt:123:13
-attributes-subtype-u16-at-requires-3 : (t : ℕ) → attributes-subtype-lts.Need-u16-at-requires-3 (
-  u16-at-reads.Asked,
-  u16-at-reads.Learnt,
-  find-reads.Asked,
-  find-reads.Learnt,
-  required-under-reads.Asked,
-  required-under-reads.Learnt,
-  is-subtype-below t,
-  is-subtype.Post,
-)
-    (attributes-subtype-at t)
-    attributes-subtype.Post
-    attributes-subtype-Inv-loop
-    attributes-subtype-μ-loop
+attributes-subtype-u16-at-requires-3 : (t : ℕ) → attributes-subtype-lts.Need-u16-at-requires-3 (attributes-subtype-claims t) (attributes-subtype-at t) attributes-subtype.Post attributes-subtype-Inv-loop attributes-subtype-μ-loop
 attributes-subtype-u16-at-requires-3 t c κs =
     let at-loop = c .before .before .before .before .before .before .before .before .before .before .before .before .before in
     let in-loop = c .before .before .before .before .before .before .before .before .before .before .before .before in
@@ -490,21 +217,7 @@ attributes-subtype-u16-at-requires-3 t c κs =
     let after-i = c .before .before .before .before .before .before .before .before in
     omega (arith, under-upper (at-loop .loop .inv) (in-loop .loop-test .taken) (after-u16-at .u16-at .result) (after-u16-at .u16-at .ensures .0) (after-find .find .result) (after-find .find .ensures) (after-i .i .given .0 .0) (after-i .i .given .0 .1 .0) (after-i .i .given .1) .room)
 
--- src/is_subtype.rt:124:30
-attributes-subtype-sub-is-subtype : (t : ℕ) → attributes-subtype-lts.Need-sub-is-subtype (
-  u16-at-reads.Asked,
-  u16-at-reads.Learnt,
-  find-reads.Asked,
-  find-reads.Learnt,
-  required-under-reads.Asked,
-  required-under-reads.Learnt,
-  is-subtype-below t,
-  is-subtype.Post,
-)
-    (attributes-subtype-at t)
-    attributes-subtype.Post
-    attributes-subtype-Inv-loop
-    attributes-subtype-μ-loop
+attributes-subtype-sub-is-subtype : (t : ℕ) → attributes-subtype-lts.Need-sub-is-subtype (attributes-subtype-claims t) (attributes-subtype-at t) attributes-subtype.Post attributes-subtype-Inv-loop attributes-subtype-μ-loop
 attributes-subtype-sub-is-subtype t c =
     let at-loop = c .before .before .before .before .before .before .before .before .before .before .before .before .before .before in
     let in-loop = c .before .before .before .before .before .before .before .before .before .before .before .before .before in
@@ -513,22 +226,8 @@ attributes-subtype-sub-is-subtype t c =
     let after-i = c .before .before .before .before .before .before .before .before .before in
     omega (arith, under-next (at-loop .loop .inv) (in-loop .loop-test .taken) (after-u16-at .u16-at .result) (after-u16-at .u16-at .ensures .0) (after-find .find .result) (after-find .find .ensures) (after-i .i .given .0 .0) (after-i .i .given .0 .1 .0) (after-i .i .given .1) .fit)
 
--- src/is_subtype.rt:124:30
 attributes-subtype-part-is-subtype-start :
-    (t : ℕ) → attributes-subtype-lts.Need-part-is-subtype-start (
-      u16-at-reads.Asked,
-      u16-at-reads.Learnt,
-      find-reads.Asked,
-      find-reads.Learnt,
-      required-under-reads.Asked,
-      required-under-reads.Learnt,
-      is-subtype-below t,
-      is-subtype.Post,
-    )
-    (attributes-subtype-at t)
-    attributes-subtype.Post
-    attributes-subtype-Inv-loop
-    attributes-subtype-μ-loop
+    (t : ℕ) → attributes-subtype-lts.Need-part-is-subtype-start (attributes-subtype-claims t) (attributes-subtype-at t) attributes-subtype.Post attributes-subtype-Inv-loop attributes-subtype-μ-loop
 attributes-subtype-part-is-subtype-start t c =
     let at-loop = c .before .before .before .before .before .before .before .before .before .before .before .before .before .before in
     let in-loop = c .before .before .before .before .before .before .before .before .before .before .before .before .before in
@@ -537,21 +236,7 @@ attributes-subtype-part-is-subtype-start t c =
     let after-i = c .before .before .before .before .before .before .before .before .before in
     omega (arith, under-next (at-loop .loop .inv) (in-loop .loop-test .taken) (after-u16-at .u16-at .result) (after-u16-at .u16-at .ensures .0) (after-find .find .result) (after-find .find .ensures) (after-i .i .given .0 .0) (after-i .i .given .0 .1 .0) (after-i .i .given .1) .fit)
 
--- src/is_subtype.rt:124:30
-attributes-subtype-part-is-subtype-end : (t : ℕ) → attributes-subtype-lts.Need-part-is-subtype-end (
-  u16-at-reads.Asked,
-  u16-at-reads.Learnt,
-  find-reads.Asked,
-  find-reads.Learnt,
-  required-under-reads.Asked,
-  required-under-reads.Learnt,
-  is-subtype-below t,
-  is-subtype.Post,
-)
-    (attributes-subtype-at t)
-    attributes-subtype.Post
-    attributes-subtype-Inv-loop
-    attributes-subtype-μ-loop
+attributes-subtype-part-is-subtype-end : (t : ℕ) → attributes-subtype-lts.Need-part-is-subtype-end (attributes-subtype-claims t) (attributes-subtype-at t) attributes-subtype.Post attributes-subtype-Inv-loop attributes-subtype-μ-loop
 attributes-subtype-part-is-subtype-end t c =
     let at-loop = c .before .before .before .before .before .before .before .before .before .before .before .before .before .before in
     let in-loop = c .before .before .before .before .before .before .before .before .before .before .before .before .before in
@@ -560,21 +245,7 @@ attributes-subtype-part-is-subtype-end t c =
     let after-i = c .before .before .before .before .before .before .before .before .before in
     omega (arith, under-next (at-loop .loop .inv) (in-loop .loop-test .taken) (after-u16-at .u16-at .result) (after-u16-at .u16-at .ensures .0) (after-find .find .result) (after-find .find .ensures) (after-i .i .given .0 .0) (after-i .i .given .0 .1 .0) (after-i .i .given .1) .fit, c .before .u16-at2 .ensures .0)
 
--- src/is_subtype.rt:124:44
-attributes-subtype-sub-is-subtype-2 : (t : ℕ) → attributes-subtype-lts.Need-sub-is-subtype-2 (
-  u16-at-reads.Asked,
-  u16-at-reads.Learnt,
-  find-reads.Asked,
-  find-reads.Learnt,
-  required-under-reads.Asked,
-  required-under-reads.Learnt,
-  is-subtype-below t,
-  is-subtype.Post,
-)
-    (attributes-subtype-at t)
-    attributes-subtype.Post
-    attributes-subtype-Inv-loop
-    attributes-subtype-μ-loop
+attributes-subtype-sub-is-subtype-2 : (t : ℕ) → attributes-subtype-lts.Need-sub-is-subtype-2 (attributes-subtype-claims t) (attributes-subtype-at t) attributes-subtype.Post attributes-subtype-Inv-loop attributes-subtype-μ-loop
 attributes-subtype-sub-is-subtype-2 t c =
     let at-loop = c .before .before .before .before .before .before .before .before .before .before .before .before .before .before .before in
     let in-loop = c .before .before .before .before .before .before .before .before .before .before .before .before .before .before in
@@ -583,22 +254,8 @@ attributes-subtype-sub-is-subtype-2 t c =
     let after-i = c .before .before .before .before .before .before .before .before .before .before in
     omega (arith, under-upper (at-loop .loop .inv) (in-loop .loop-test .taken) (after-u16-at .u16-at .result) (after-u16-at .u16-at .ensures .0) (after-find .find .result) (after-find .find .ensures) (after-i .i .given .0 .0) (after-i .i .given .0 .1 .0) (after-i .i .given .1) .fit)
 
--- src/is_subtype.rt:124:44
 attributes-subtype-part-is-subtype-start-2 :
-    (t : ℕ) → attributes-subtype-lts.Need-part-is-subtype-start-2 (
-      u16-at-reads.Asked,
-      u16-at-reads.Learnt,
-      find-reads.Asked,
-      find-reads.Learnt,
-      required-under-reads.Asked,
-      required-under-reads.Learnt,
-      is-subtype-below t,
-      is-subtype.Post,
-    )
-    (attributes-subtype-at t)
-    attributes-subtype.Post
-    attributes-subtype-Inv-loop
-    attributes-subtype-μ-loop
+    (t : ℕ) → attributes-subtype-lts.Need-part-is-subtype-start-2 (attributes-subtype-claims t) (attributes-subtype-at t) attributes-subtype.Post attributes-subtype-Inv-loop attributes-subtype-μ-loop
 attributes-subtype-part-is-subtype-start-2 t c =
     let at-loop = c .before .before .before .before .before .before .before .before .before .before .before .before .before .before .before in
     let in-loop = c .before .before .before .before .before .before .before .before .before .before .before .before .before .before in
@@ -607,22 +264,8 @@ attributes-subtype-part-is-subtype-start-2 t c =
     let after-i = c .before .before .before .before .before .before .before .before .before .before in
     omega (arith, under-upper (at-loop .loop .inv) (in-loop .loop-test .taken) (after-u16-at .u16-at .result) (after-u16-at .u16-at .ensures .0) (after-find .find .result) (after-find .find .ensures) (after-i .i .given .0 .0) (after-i .i .given .0 .1 .0) (after-i .i .given .1) .fit)
 
--- src/is_subtype.rt:124:44
 attributes-subtype-part-is-subtype-end-2 :
-    (t : ℕ) → attributes-subtype-lts.Need-part-is-subtype-end-2 (
-      u16-at-reads.Asked,
-      u16-at-reads.Learnt,
-      find-reads.Asked,
-      find-reads.Learnt,
-      required-under-reads.Asked,
-      required-under-reads.Learnt,
-      is-subtype-below t,
-      is-subtype.Post,
-    )
-    (attributes-subtype-at t)
-    attributes-subtype.Post
-    attributes-subtype-Inv-loop
-    attributes-subtype-μ-loop
+    (t : ℕ) → attributes-subtype-lts.Need-part-is-subtype-end-2 (attributes-subtype-claims t) (attributes-subtype-at t) attributes-subtype.Post attributes-subtype-Inv-loop attributes-subtype-μ-loop
 attributes-subtype-part-is-subtype-end-2 t c =
     let at-loop = c .before .before .before .before .before .before .before .before .before .before .before .before .before .before .before in
     let in-loop = c .before .before .before .before .before .before .before .before .before .before .before .before .before .before in
@@ -631,21 +274,7 @@ attributes-subtype-part-is-subtype-end-2 t c =
     let after-i = c .before .before .before .before .before .before .before .before .before .before in
     omega (arith, under-upper (at-loop .loop .inv) (in-loop .loop-test .taken) (after-u16-at .u16-at .result) (after-u16-at .u16-at .ensures .0) (after-find .find .result) (after-find .find .ensures) (after-i .i .given .0 .0) (after-i .i .given .0 .1 .0) (after-i .i .given .1) .fit, c .before .u16-at3 .ensures .0)
 
--- src/is_subtype.rt:124:13
-attributes-subtype-is-subtype-requires : (t : ℕ) → attributes-subtype-lts.Need-is-subtype-requires (
-  u16-at-reads.Asked,
-  u16-at-reads.Learnt,
-  find-reads.Asked,
-  find-reads.Learnt,
-  required-under-reads.Asked,
-  required-under-reads.Learnt,
-  is-subtype-below t,
-  is-subtype.Post,
-)
-    (attributes-subtype-at t)
-    attributes-subtype.Post
-    attributes-subtype-Inv-loop
-    attributes-subtype-μ-loop
+attributes-subtype-is-subtype-requires : (t : ℕ) → attributes-subtype-lts.Need-is-subtype-requires (attributes-subtype-claims t) (attributes-subtype-at t) attributes-subtype.Post attributes-subtype-Inv-loop attributes-subtype-μ-loop
 attributes-subtype-is-subtype-requires t c κs =
     let start = c .before .before .before .before .before .before .before .before .before .before .before .before .before .before .before .before .before .before .before .before .before in
     let at-loop = c .before .before .before .before .before .before .before .before .before .before .before .before .before .before .before .before in
@@ -655,21 +284,7 @@ attributes-subtype-is-subtype-requires t c κs =
     let after-i = c .before .before .before .before .before .before .before .before .before .before .before in
     (omega (arith, start .pre .0), (rw (c .before .before .before .u16-at2 .ensures .0) (under-next (at-loop .loop .inv) (in-loop .loop-test .taken) (after-u16-at .u16-at .result) (after-u16-at .u16-at .ensures .0) (after-find .find .result) (after-find .find .ensures) (after-i .i .given .0 .0) (after-i .i .given .0 .1 .0) (after-i .i .given .1) .body), rw (c .before .before .u16-at3 .ensures .0) (under-upper (at-loop .loop .inv) (in-loop .loop-test .taken) (after-u16-at .u16-at .result) (after-u16-at .u16-at .ensures .0) (after-find .find .result) (after-find .find .ensures) (after-i .i .given .0 .0) (after-i .i .given .0 .1 .0) (after-i .i .given .1) .body)))
 
--- src/is_subtype.rt:125:13
-attributes-subtype-returns-3 : (t : ℕ) → attributes-subtype-lts.Need-returns-3 (
-  u16-at-reads.Asked,
-  u16-at-reads.Learnt,
-  find-reads.Asked,
-  find-reads.Learnt,
-  required-under-reads.Asked,
-  required-under-reads.Learnt,
-  is-subtype-below t,
-  is-subtype.Post,
-)
-    (attributes-subtype-at t)
-    attributes-subtype.Post
-    attributes-subtype-Inv-loop
-    attributes-subtype-μ-loop
+attributes-subtype-returns-3 : (t : ℕ) → attributes-subtype-lts.Need-returns-3 (attributes-subtype-claims t) (attributes-subtype-at t) attributes-subtype.Post attributes-subtype-Inv-loop attributes-subtype-μ-loop
 attributes-subtype-returns-3 t c =
     let at-loop = c .before .before .before .before .before .before .before .before .before .before .before .before .before .before .before .before .before .before in
     let in-loop = c .before .before .before .before .before .before .before .before .before .before .before .before .before .before .before .before .before in
@@ -683,21 +298,7 @@ attributes-subtype-returns-3 t c =
     let after-is-subtype = c .before in
     under-type (at-loop .loop .inv) (in-loop .loop-test .taken) (after-u16-at .u16-at .result) (after-u16-at .u16-at .ensures .0) (after-find .find .result) (after-find .find .ensures) (after-i .i .given .0 .0) (after-i .i .given .0 .1 .0) (after-i .i .given .1) (after-required-under .required-under .result) (after-required-under .required-under .ensures) (else1 .if1 .left) (after-u16-at2 .u16-at2 .result) (after-u16-at3 .u16-at3 .result) (after-u16-at2 .u16-at2 .ensures .0) (after-u16-at3 .u16-at3 .ensures .0) (after-is-subtype .is-subtype .result) (after-is-subtype .is-subtype .ensures) (c .if2 .taken)
 
--- src/is_subtype.rt:127:13
-attributes-subtype-sub-f : (t : ℕ) → attributes-subtype-lts.Need-sub-f (
-  u16-at-reads.Asked,
-  u16-at-reads.Learnt,
-  find-reads.Asked,
-  find-reads.Learnt,
-  required-under-reads.Asked,
-  required-under-reads.Learnt,
-  is-subtype-below t,
-  is-subtype.Post,
-)
-    (attributes-subtype-at t)
-    attributes-subtype.Post
-    attributes-subtype-Inv-loop
-    attributes-subtype-μ-loop
+attributes-subtype-sub-f : (t : ℕ) → attributes-subtype-lts.Need-sub-f (attributes-subtype-claims t) (attributes-subtype-at t) attributes-subtype.Post attributes-subtype-Inv-loop attributes-subtype-μ-loop
 attributes-subtype-sub-f t c =
     let at-loop = c .before .before .before .before .before .before .before .before .before .before .before .before .before .before .before .before .before .before in
     let in-loop = c .before .before .before .before .before .before .before .before .before .before .before .before .before .before .before .before .before in
@@ -706,21 +307,7 @@ attributes-subtype-sub-f t c =
     let after-i = c .before .before .before .before .before .before .before .before .before .before .before .before .before in
     omega (arith, under-upper (at-loop .loop .inv) (in-loop .loop-test .taken) (after-u16-at .u16-at .result) (after-u16-at .u16-at .ensures .0) (after-find .find .result) (after-find .find .ensures) (after-i .i .given .0 .0) (after-i .i .given .0 .1 .0) (after-i .i .given .1) .room)
 
--- src/is_subtype.rt:127:13
-attributes-subtype-part-f-start : (t : ℕ) → attributes-subtype-lts.Need-part-f-start (
-  u16-at-reads.Asked,
-  u16-at-reads.Learnt,
-  find-reads.Asked,
-  find-reads.Learnt,
-  required-under-reads.Asked,
-  required-under-reads.Learnt,
-  is-subtype-below t,
-  is-subtype.Post,
-)
-    (attributes-subtype-at t)
-    attributes-subtype.Post
-    attributes-subtype-Inv-loop
-    attributes-subtype-μ-loop
+attributes-subtype-part-f-start : (t : ℕ) → attributes-subtype-lts.Need-part-f-start (attributes-subtype-claims t) (attributes-subtype-at t) attributes-subtype.Post attributes-subtype-Inv-loop attributes-subtype-μ-loop
 attributes-subtype-part-f-start t c =
     let at-loop = c .before .before .before .before .before .before .before .before .before .before .before .before .before .before .before .before .before .before in
     let in-loop = c .before .before .before .before .before .before .before .before .before .before .before .before .before .before .before .before .before in
@@ -729,38 +316,10 @@ attributes-subtype-part-f-start t c =
     let after-i = c .before .before .before .before .before .before .before .before .before .before .before .before .before in
     omega (arith, under-upper (at-loop .loop .inv) (in-loop .loop-test .taken) (after-u16-at .u16-at .result) (after-u16-at .u16-at .ensures .0) (after-find .find .result) (after-find .find .ensures) (after-i .i .given .0 .0) (after-i .i .given .0 .1 .0) (after-i .i .given .1) .room)
 
--- src/is_subtype.rt:127:13
-attributes-subtype-part-f-end : (t : ℕ) → attributes-subtype-lts.Need-part-f-end (
-  u16-at-reads.Asked,
-  u16-at-reads.Learnt,
-  find-reads.Asked,
-  find-reads.Learnt,
-  required-under-reads.Asked,
-  required-under-reads.Learnt,
-  is-subtype-below t,
-  is-subtype.Post,
-)
-    (attributes-subtype-at t)
-    attributes-subtype.Post
-    attributes-subtype-Inv-loop
-    attributes-subtype-μ-loop
+attributes-subtype-part-f-end : (t : ℕ) → attributes-subtype-lts.Need-part-f-end (attributes-subtype-claims t) (attributes-subtype-at t) attributes-subtype.Post attributes-subtype-Inv-loop attributes-subtype-μ-loop
 attributes-subtype-part-f-end t c = omega arith
 
--- src/is_subtype.rt:128:13
-attributes-subtype-sub-c : (t : ℕ) → attributes-subtype-lts.Need-sub-c (
-  u16-at-reads.Asked,
-  u16-at-reads.Learnt,
-  find-reads.Asked,
-  find-reads.Learnt,
-  required-under-reads.Asked,
-  required-under-reads.Learnt,
-  is-subtype-below t,
-  is-subtype.Post,
-)
-    (attributes-subtype-at t)
-    attributes-subtype.Post
-    attributes-subtype-Inv-loop
-    attributes-subtype-μ-loop
+attributes-subtype-sub-c : (t : ℕ) → attributes-subtype-lts.Need-sub-c (attributes-subtype-claims t) (attributes-subtype-at t) attributes-subtype.Post attributes-subtype-Inv-loop attributes-subtype-μ-loop
 attributes-subtype-sub-c t c =
     let at-loop = c .before .before .before .before .before .before .before .before .before .before .before .before .before .before .before .before .before .before .before in
     let in-loop = c .before .before .before .before .before .before .before .before .before .before .before .before .before .before .before .before .before .before in
@@ -770,21 +329,7 @@ attributes-subtype-sub-c t c =
     let after-u16-at3 = c .before .before .before .before .before in
     omega (arith, under-upper (at-loop .loop .inv) (in-loop .loop-test .taken) (after-u16-at .u16-at .result) (after-u16-at .u16-at .ensures .0) (after-find .find .result) (after-find .find .ensures) (after-i .i .given .0 .0) (after-i .i .given .0 .1 .0) (after-i .i .given .1) .fit, after-u16-at3 .u16-at3 .ensures .0)
 
--- src/is_subtype.rt:128:13
-attributes-subtype-part-c-start : (t : ℕ) → attributes-subtype-lts.Need-part-c-start (
-  u16-at-reads.Asked,
-  u16-at-reads.Learnt,
-  find-reads.Asked,
-  find-reads.Learnt,
-  required-under-reads.Asked,
-  required-under-reads.Learnt,
-  is-subtype-below t,
-  is-subtype.Post,
-)
-    (attributes-subtype-at t)
-    attributes-subtype.Post
-    attributes-subtype-Inv-loop
-    attributes-subtype-μ-loop
+attributes-subtype-part-c-start : (t : ℕ) → attributes-subtype-lts.Need-part-c-start (attributes-subtype-claims t) (attributes-subtype-at t) attributes-subtype.Post attributes-subtype-Inv-loop attributes-subtype-μ-loop
 attributes-subtype-part-c-start t c =
     let at-loop = c .before .before .before .before .before .before .before .before .before .before .before .before .before .before .before .before .before .before .before in
     let in-loop = c .before .before .before .before .before .before .before .before .before .before .before .before .before .before .before .before .before .before in
@@ -794,72 +339,16 @@ attributes-subtype-part-c-start t c =
     let after-u16-at3 = c .before .before .before .before .before in
     omega (arith, under-upper (at-loop .loop .inv) (in-loop .loop-test .taken) (after-u16-at .u16-at .result) (after-u16-at .u16-at .ensures .0) (after-find .find .result) (after-find .find .ensures) (after-i .i .given .0 .0) (after-i .i .given .0 .1 .0) (after-i .i .given .1) .fit, after-u16-at3 .u16-at3 .ensures .0)
 
--- src/is_subtype.rt:128:13
-attributes-subtype-part-c-end : (t : ℕ) → attributes-subtype-lts.Need-part-c-end (
-  u16-at-reads.Asked,
-  u16-at-reads.Learnt,
-  find-reads.Asked,
-  find-reads.Learnt,
-  required-under-reads.Asked,
-  required-under-reads.Learnt,
-  is-subtype-below t,
-  is-subtype.Post,
-)
-    (attributes-subtype-at t)
-    attributes-subtype.Post
-    attributes-subtype-Inv-loop
-    attributes-subtype-μ-loop
+attributes-subtype-part-c-end : (t : ℕ) → attributes-subtype-lts.Need-part-c-end (attributes-subtype-claims t) (attributes-subtype-at t) attributes-subtype.Post attributes-subtype-Inv-loop attributes-subtype-μ-loop
 attributes-subtype-part-c-end t c = omega arith
 
--- src/is_subtype.rt:129:9
-attributes-subtype-sub-more : (t : ℕ) → attributes-subtype-lts.Need-sub-more (
-  u16-at-reads.Asked,
-  u16-at-reads.Learnt,
-  find-reads.Asked,
-  find-reads.Learnt,
-  required-under-reads.Asked,
-  required-under-reads.Learnt,
-  is-subtype-below t,
-  is-subtype.Post,
-)
-    (attributes-subtype-at t)
-    attributes-subtype.Post
-    attributes-subtype-Inv-loop
-    attributes-subtype-μ-loop
+attributes-subtype-sub-more : (t : ℕ) → attributes-subtype-lts.Need-sub-more (attributes-subtype-claims t) (attributes-subtype-at t) attributes-subtype.Post attributes-subtype-Inv-loop attributes-subtype-μ-loop
 attributes-subtype-sub-more t c = omega arith
 
--- src/is_subtype.rt:110:5
-attributes-subtype-loop-less : (t : ℕ) → attributes-subtype-lts.Need-loop-less (
-  u16-at-reads.Asked,
-  u16-at-reads.Learnt,
-  find-reads.Asked,
-  find-reads.Learnt,
-  required-under-reads.Asked,
-  required-under-reads.Learnt,
-  is-subtype-below t,
-  is-subtype.Post,
-)
-    (attributes-subtype-at t)
-    attributes-subtype.Post
-    attributes-subtype-Inv-loop
-    attributes-subtype-μ-loop
+attributes-subtype-loop-less : (t : ℕ) → attributes-subtype-lts.Need-loop-less (attributes-subtype-claims t) (attributes-subtype-at t) attributes-subtype.Post attributes-subtype-Inv-loop attributes-subtype-μ-loop
 attributes-subtype-loop-less t c = omega arith
 
--- src/is_subtype.rt:110:5
-attributes-subtype-loop-again : (t : ℕ) → attributes-subtype-lts.Need-loop-again (
-  u16-at-reads.Asked,
-  u16-at-reads.Learnt,
-  find-reads.Asked,
-  find-reads.Learnt,
-  required-under-reads.Asked,
-  required-under-reads.Learnt,
-  is-subtype-below t,
-  is-subtype.Post,
-)
-    (attributes-subtype-at t)
-    attributes-subtype.Post
-    attributes-subtype-Inv-loop
-    attributes-subtype-μ-loop
+attributes-subtype-loop-again : (t : ℕ) → attributes-subtype-lts.Need-loop-again (attributes-subtype-claims t) (attributes-subtype-at t) attributes-subtype.Post attributes-subtype-Inv-loop attributes-subtype-μ-loop
 attributes-subtype-loop-again t c =
     let at-loop = c .before .before .before .before .before .before .before .before .before .before .before .before .before .before .before .before .before .before .before .before in
     let in-loop = c .before .before .before .before .before .before .before .before .before .before .before .before .before .before .before .before .before .before .before in
@@ -873,575 +362,129 @@ attributes-subtype-loop-again t c =
     let after-is-subtype = c .before .before .before in
     under-again (at-loop .loop .inv) (in-loop .loop-test .taken) (after-u16-at .u16-at .result) (after-u16-at .u16-at .ensures .0) (after-find .find .result) (after-find .find .ensures) (after-i .i .given .0 .0) (after-i .i .given .0 .1 .0) (after-i .i .given .1) (after-required-under .required-under .result) (after-required-under .required-under .ensures) (else1 .if1 .left) (after-u16-at2 .u16-at2 .result) (after-u16-at3 .u16-at3 .result) (after-u16-at2 .u16-at2 .ensures .0) (after-u16-at3 .u16-at3 .ensures .0) (after-is-subtype .is-subtype .result) (after-is-subtype .is-subtype .ensures) (c .before .before .if2 .left)
 
--- src/is_subtype.rt:99:1
-attributes-subtype-returns-4 : (t : ℕ) → attributes-subtype-lts.Need-returns-4 (
-  u16-at-reads.Asked,
-  u16-at-reads.Learnt,
-  find-reads.Asked,
-  find-reads.Learnt,
-  required-under-reads.Asked,
-  required-under-reads.Learnt,
-  is-subtype-below t,
-  is-subtype.Post,
-)
-    (attributes-subtype-at t)
-    attributes-subtype.Post
-    attributes-subtype-Inv-loop
-    attributes-subtype-μ-loop
+attributes-subtype-returns-4 : (t : ℕ) → attributes-subtype-lts.Need-returns-4 (attributes-subtype-claims t) (attributes-subtype-at t) attributes-subtype.Post attributes-subtype-Inv-loop attributes-subtype-μ-loop
 attributes-subtype-returns-4 t c = under-end (c .before .loop .inv) (c .loop-test .left)
 
--- src/is_subtype.rt:140:13
-is-subtype-shared-slice-read-j : (t : ℕ) → is-subtype-lts.Need-shared-slice-read-j (
-  kind-under-reads.Asked,
-  kind-under-reads.Learnt,
-  is-subtype-below t,
-  is-subtype.Post,
-  u16-at-reads.Asked,
-  u16-at-reads.Learnt,
-  record-under-reads.Asked,
-  record-under-reads.Learnt,
-  attributes-subtype-below t,
-  attributes-subtype.Post,
-  entity-under-reads.Asked,
-  entity-under-reads.Learnt,
-  same-bytes-reads.Asked,
-  same-bytes-reads.Learnt,
-) (is-subtype-at t) is-subtype.Post
+is-subtype-shared-slice-read-j : (t : ℕ) → is-subtype-lts.Need-shared-slice-read-j (is-subtype-claims t) (is-subtype-at t) is-subtype.Post
 is-subtype-shared-slice-read-j t c =
     let start = c .before .before .before in
     not-empty (start .args .levels) (start .args .t0 .now) (start .pre .1 .0)
 
--- src/is_subtype.rt:141:13
-is-subtype-shared-slice-read-k : (t : ℕ) → is-subtype-lts.Need-shared-slice-read-k (
-  kind-under-reads.Asked,
-  kind-under-reads.Learnt,
-  is-subtype-below t,
-  is-subtype.Post,
-  u16-at-reads.Asked,
-  u16-at-reads.Learnt,
-  record-under-reads.Asked,
-  record-under-reads.Learnt,
-  attributes-subtype-below t,
-  attributes-subtype.Post,
-  entity-under-reads.Asked,
-  entity-under-reads.Learnt,
-  same-bytes-reads.Asked,
-  same-bytes-reads.Learnt,
-) (is-subtype-at t) is-subtype.Post
+is-subtype-shared-slice-read-k : (t : ℕ) → is-subtype-lts.Need-shared-slice-read-k (is-subtype-claims t) (is-subtype-at t) is-subtype.Post
 is-subtype-shared-slice-read-k t c =
     let start = c .before .before .before .before in
     not-empty (start .args .levels) (start .args .t1 .now) (start .pre .1 .1)
 
--- src/is_subtype.rt:143:9
-is-subtype-kind-under-requires : (t : ℕ) → is-subtype-lts.Need-kind-under-requires (
-  kind-under-reads.Asked,
-  kind-under-reads.Learnt,
-  is-subtype-below t,
-  is-subtype.Post,
-  u16-at-reads.Asked,
-  u16-at-reads.Learnt,
-  record-under-reads.Asked,
-  record-under-reads.Learnt,
-  attributes-subtype-below t,
-  attributes-subtype.Post,
-  entity-under-reads.Asked,
-  entity-under-reads.Learnt,
-  same-bytes-reads.Asked,
-  same-bytes-reads.Learnt,
-) (is-subtype-at t) is-subtype.Post
+is-subtype-kind-under-requires : (t : ℕ) → is-subtype-lts.Need-kind-under-requires (is-subtype-claims t) (is-subtype-at t) is-subtype.Post
 is-subtype-kind-under-requires t c κs = search needs
 
--- src/is_subtype.rt:143:9
-is-subtype-returns : (t : ℕ) → is-subtype-lts.Need-returns (
-  kind-under-reads.Asked,
-  kind-under-reads.Learnt,
-  is-subtype-below t,
-  is-subtype.Post,
-  u16-at-reads.Asked,
-  u16-at-reads.Learnt,
-  record-under-reads.Asked,
-  record-under-reads.Learnt,
-  attributes-subtype-below t,
-  attributes-subtype.Post,
-  entity-under-reads.Asked,
-  entity-under-reads.Learnt,
-  same-bytes-reads.Asked,
-  same-bytes-reads.Learnt,
-) (is-subtype-at t) is-subtype.Post
+is-subtype-returns : (t : ℕ) → is-subtype-lts.Need-returns (is-subtype-claims t) (is-subtype-at t) is-subtype.Post
 is-subtype-returns t c =
     let start = c .before .before .before .before .before .before in
     unlike-kinds (modeAs (start .args .mode)) (start .args .levels) (start .args .t0 .now) (start .args .t1 .now) (start .pre .1 .0) (start .pre .1 .1) (c .before .if1 .taken) (c .kind-under .result) (c .kind-under .ensures)
 
--- src/is_subtype.rt:146:39
-is-subtype-sub-is-subtype : (t : ℕ) → is-subtype-lts.Need-sub-is-subtype (
-  kind-under-reads.Asked,
-  kind-under-reads.Learnt,
-  is-subtype-below t,
-  is-subtype.Post,
-  u16-at-reads.Asked,
-  u16-at-reads.Learnt,
-  record-under-reads.Asked,
-  record-under-reads.Learnt,
-  attributes-subtype-below t,
-  attributes-subtype.Post,
-  entity-under-reads.Asked,
-  entity-under-reads.Learnt,
-  same-bytes-reads.Asked,
-  same-bytes-reads.Learnt,
-) (is-subtype-at t) is-subtype.Post
+is-subtype-sub-is-subtype : (t : ℕ) → is-subtype-lts.Need-sub-is-subtype (is-subtype-claims t) (is-subtype-at t) is-subtype.Post
 is-subtype-sub-is-subtype t c =
     let start = c .before .before .before .before .before .before in
     omega (arith, not-empty (start .args .levels) (start .args .t0 .now) (start .pre .1 .0))
 
--- src/is_subtype.rt:146:39
-is-subtype-part-is-subtype-start : (t : ℕ) → is-subtype-lts.Need-part-is-subtype-start (
-  kind-under-reads.Asked,
-  kind-under-reads.Learnt,
-  is-subtype-below t,
-  is-subtype.Post,
-  u16-at-reads.Asked,
-  u16-at-reads.Learnt,
-  record-under-reads.Asked,
-  record-under-reads.Learnt,
-  attributes-subtype-below t,
-  attributes-subtype.Post,
-  entity-under-reads.Asked,
-  entity-under-reads.Learnt,
-  same-bytes-reads.Asked,
-  same-bytes-reads.Learnt,
-) (is-subtype-at t) is-subtype.Post
+is-subtype-part-is-subtype-start : (t : ℕ) → is-subtype-lts.Need-part-is-subtype-start (is-subtype-claims t) (is-subtype-at t) is-subtype.Post
 is-subtype-part-is-subtype-start t c =
     let start = c .before .before .before .before .before .before in
     omega (arith, not-empty (start .args .levels) (start .args .t0 .now) (start .pre .1 .0))
 
--- src/is_subtype.rt:146:39
-is-subtype-part-is-subtype-end : (t : ℕ) → is-subtype-lts.Need-part-is-subtype-end (
-  kind-under-reads.Asked,
-  kind-under-reads.Learnt,
-  is-subtype-below t,
-  is-subtype.Post,
-  u16-at-reads.Asked,
-  u16-at-reads.Learnt,
-  record-under-reads.Asked,
-  record-under-reads.Learnt,
-  attributes-subtype-below t,
-  attributes-subtype.Post,
-  entity-under-reads.Asked,
-  entity-under-reads.Learnt,
-  same-bytes-reads.Asked,
-  same-bytes-reads.Learnt,
-) (is-subtype-at t) is-subtype.Post
+is-subtype-part-is-subtype-end : (t : ℕ) → is-subtype-lts.Need-part-is-subtype-end (is-subtype-claims t) (is-subtype-at t) is-subtype.Post
 is-subtype-part-is-subtype-end t c = omega arith
 
--- src/is_subtype.rt:146:62
-is-subtype-sub-is-subtype-2 : (t : ℕ) → is-subtype-lts.Need-sub-is-subtype-2 (
-  kind-under-reads.Asked,
-  kind-under-reads.Learnt,
-  is-subtype-below t,
-  is-subtype.Post,
-  u16-at-reads.Asked,
-  u16-at-reads.Learnt,
-  record-under-reads.Asked,
-  record-under-reads.Learnt,
-  attributes-subtype-below t,
-  attributes-subtype.Post,
-  entity-under-reads.Asked,
-  entity-under-reads.Learnt,
-  same-bytes-reads.Asked,
-  same-bytes-reads.Learnt,
-) (is-subtype-at t) is-subtype.Post
+is-subtype-sub-is-subtype-2 : (t : ℕ) → is-subtype-lts.Need-sub-is-subtype-2 (is-subtype-claims t) (is-subtype-at t) is-subtype.Post
 is-subtype-sub-is-subtype-2 t c =
     let start = c .before .before .before .before .before .before .before in
     omega (arith, not-empty (start .args .levels) (start .args .t1 .now) (start .pre .1 .1))
 
--- src/is_subtype.rt:146:62
-is-subtype-part-is-subtype-start-2 : (t : ℕ) → is-subtype-lts.Need-part-is-subtype-start-2 (
-  kind-under-reads.Asked,
-  kind-under-reads.Learnt,
-  is-subtype-below t,
-  is-subtype.Post,
-  u16-at-reads.Asked,
-  u16-at-reads.Learnt,
-  record-under-reads.Asked,
-  record-under-reads.Learnt,
-  attributes-subtype-below t,
-  attributes-subtype.Post,
-  entity-under-reads.Asked,
-  entity-under-reads.Learnt,
-  same-bytes-reads.Asked,
-  same-bytes-reads.Learnt,
-) (is-subtype-at t) is-subtype.Post
+is-subtype-part-is-subtype-start-2 : (t : ℕ) → is-subtype-lts.Need-part-is-subtype-start-2 (is-subtype-claims t) (is-subtype-at t) is-subtype.Post
 is-subtype-part-is-subtype-start-2 t c =
     let start = c .before .before .before .before .before .before .before in
     omega (arith, not-empty (start .args .levels) (start .args .t1 .now) (start .pre .1 .1))
 
--- src/is_subtype.rt:146:62
-is-subtype-part-is-subtype-end-2 : (t : ℕ) → is-subtype-lts.Need-part-is-subtype-end-2 (
-  kind-under-reads.Asked,
-  kind-under-reads.Learnt,
-  is-subtype-below t,
-  is-subtype.Post,
-  u16-at-reads.Asked,
-  u16-at-reads.Learnt,
-  record-under-reads.Asked,
-  record-under-reads.Learnt,
-  attributes-subtype-below t,
-  attributes-subtype.Post,
-  entity-under-reads.Asked,
-  entity-under-reads.Learnt,
-  same-bytes-reads.Asked,
-  same-bytes-reads.Learnt,
-) (is-subtype-at t) is-subtype.Post
+is-subtype-part-is-subtype-end-2 : (t : ℕ) → is-subtype-lts.Need-part-is-subtype-end-2 (is-subtype-claims t) (is-subtype-at t) is-subtype.Post
 is-subtype-part-is-subtype-end-2 t c = omega arith
 
--- src/is_subtype.rt:146:85
-is-subtype-sub-is-subtype-3 : (t : ℕ) → is-subtype-lts.Need-sub-is-subtype-3 (
-  kind-under-reads.Asked,
-  kind-under-reads.Learnt,
-  is-subtype-below t,
-  is-subtype.Post,
-  u16-at-reads.Asked,
-  u16-at-reads.Learnt,
-  record-under-reads.Asked,
-  record-under-reads.Learnt,
-  attributes-subtype-below t,
-  attributes-subtype.Post,
-  entity-under-reads.Asked,
-  entity-under-reads.Learnt,
-  same-bytes-reads.Asked,
-  same-bytes-reads.Learnt,
-) (is-subtype-at t) is-subtype.Post
+is-subtype-sub-is-subtype-3 : (t : ℕ) → is-subtype-lts.Need-sub-is-subtype-3 (is-subtype-claims t) (is-subtype-at t) is-subtype.Post
 is-subtype-sub-is-subtype-3 t c =
     let start = c .before .before .before .before .before .before .before .before in
     omega (arith, is-set (start .args .levels) (start .args .t1 .now) (start .pre .1 .1) (c .before .before .match .keys1) .deep)
 
--- src/is_subtype.rt:146:22
-is-subtype-is-subtype-requires : (t : ℕ) → is-subtype-lts.Need-is-subtype-requires (
-  kind-under-reads.Asked,
-  kind-under-reads.Learnt,
-  is-subtype-below t,
-  is-subtype.Post,
-  u16-at-reads.Asked,
-  u16-at-reads.Learnt,
-  record-under-reads.Asked,
-  record-under-reads.Learnt,
-  attributes-subtype-below t,
-  attributes-subtype.Post,
-  entity-under-reads.Asked,
-  entity-under-reads.Learnt,
-  same-bytes-reads.Asked,
-  same-bytes-reads.Learnt,
-) (is-subtype-at t) is-subtype.Post
+is-subtype-is-subtype-requires : (t : ℕ) → is-subtype-lts.Need-is-subtype-requires (is-subtype-claims t) (is-subtype-at t) is-subtype.Post
 is-subtype-is-subtype-requires t c κs =
     let start = c .before .before .before .before .before .before .before .before in
     let at-match-keys1 = c .before .before in
     let s = is-set (start .args .levels) (start .args .t1 .now) (start .pre .1 .1) (at-match-keys1 .match .keys1) in
     (omega (arith, start .pre .0, s .deep), (is-set (start .args .levels) (start .args .t0 .now) (start .pre .1 .0) ((c .before .before .before .if1 .left) ∙ at-match-keys1 .match .keys1) .good, s .good))
 
--- src/is_subtype.rt:148:17
-is-subtype-u16-at-requires : (t : ℕ) → is-subtype-lts.Need-u16-at-requires (
-  kind-under-reads.Asked,
-  kind-under-reads.Learnt,
-  is-subtype-below t,
-  is-subtype.Post,
-  u16-at-reads.Asked,
-  u16-at-reads.Learnt,
-  record-under-reads.Asked,
-  record-under-reads.Learnt,
-  attributes-subtype-below t,
-  attributes-subtype.Post,
-  entity-under-reads.Asked,
-  entity-under-reads.Learnt,
-  same-bytes-reads.Asked,
-  same-bytes-reads.Learnt,
-) (is-subtype-at t) is-subtype.Post
+is-subtype-u16-at-requires : (t : ℕ) → is-subtype-lts.Need-u16-at-requires (is-subtype-claims t) (is-subtype-at t) is-subtype.Post
 is-subtype-u16-at-requires t c κs =
     let start = c .before .before .before .before .before .before in
     omega (arith, (is-record (start .args .levels) (start .args .t0 .now) (start .pre .1 .0) ((c .before .if1 .left) ∙ c .match .keys2)) .some)
 
--- src/is_subtype.rt:149:17
-is-subtype-u16-at-requires-2 : (t : ℕ) → is-subtype-lts.Need-u16-at-requires-2 (
-  kind-under-reads.Asked,
-  kind-under-reads.Learnt,
-  is-subtype-below t,
-  is-subtype.Post,
-  u16-at-reads.Asked,
-  u16-at-reads.Learnt,
-  record-under-reads.Asked,
-  record-under-reads.Learnt,
-  attributes-subtype-below t,
-  attributes-subtype.Post,
-  entity-under-reads.Asked,
-  entity-under-reads.Learnt,
-  same-bytes-reads.Asked,
-  same-bytes-reads.Learnt,
-) (is-subtype-at t) is-subtype.Post
+is-subtype-u16-at-requires-2 : (t : ℕ) → is-subtype-lts.Need-u16-at-requires-2 (is-subtype-claims t) (is-subtype-at t) is-subtype.Post
 is-subtype-u16-at-requires-2 t c κs =
     let start = c .before .before .before .before .before .before .before in
     omega (arith, (is-record (start .args .levels) (start .args .t1 .now) (start .pre .1 .1) (c .before .match .keys2)) .some)
 
--- src/is_subtype.rt:150:45
-is-subtype-mul-p : (t : ℕ) → is-subtype-lts.Need-mul-p (
-  kind-under-reads.Asked,
-  kind-under-reads.Learnt,
-  is-subtype-below t,
-  is-subtype.Post,
-  u16-at-reads.Asked,
-  u16-at-reads.Learnt,
-  record-under-reads.Asked,
-  record-under-reads.Learnt,
-  attributes-subtype-below t,
-  attributes-subtype.Post,
-  entity-under-reads.Asked,
-  entity-under-reads.Learnt,
-  same-bytes-reads.Asked,
-  same-bytes-reads.Learnt,
-) (is-subtype-at t) is-subtype.Post
+is-subtype-mul-p : (t : ℕ) → is-subtype-lts.Need-mul-p (is-subtype-claims t) (is-subtype-at t) is-subtype.Post
 is-subtype-mul-p t c = omega arith
 
--- src/is_subtype.rt:150:21
-is-subtype-add-p : (t : ℕ) → is-subtype-lts.Need-add-p (
-  kind-under-reads.Asked,
-  kind-under-reads.Learnt,
-  is-subtype-below t,
-  is-subtype.Post,
-  u16-at-reads.Asked,
-  u16-at-reads.Learnt,
-  record-under-reads.Asked,
-  record-under-reads.Learnt,
-  attributes-subtype-below t,
-  attributes-subtype.Post,
-  entity-under-reads.Asked,
-  entity-under-reads.Learnt,
-  same-bytes-reads.Asked,
-  same-bytes-reads.Learnt,
-) (is-subtype-at t) is-subtype.Post
+is-subtype-add-p : (t : ℕ) → is-subtype-lts.Need-add-p (is-subtype-claims t) (is-subtype-at t) is-subtype.Post
 is-subtype-add-p t c = omega arith
 
--- src/is_subtype.rt:151:45
-is-subtype-mul-q : (t : ℕ) → is-subtype-lts.Need-mul-q (
-  kind-under-reads.Asked,
-  kind-under-reads.Learnt,
-  is-subtype-below t,
-  is-subtype.Post,
-  u16-at-reads.Asked,
-  u16-at-reads.Learnt,
-  record-under-reads.Asked,
-  record-under-reads.Learnt,
-  attributes-subtype-below t,
-  attributes-subtype.Post,
-  entity-under-reads.Asked,
-  entity-under-reads.Learnt,
-  same-bytes-reads.Asked,
-  same-bytes-reads.Learnt,
-) (is-subtype-at t) is-subtype.Post
+is-subtype-mul-q : (t : ℕ) → is-subtype-lts.Need-mul-q (is-subtype-claims t) (is-subtype-at t) is-subtype.Post
 is-subtype-mul-q t c = omega arith
 
--- src/is_subtype.rt:151:21
-is-subtype-add-q : (t : ℕ) → is-subtype-lts.Need-add-q (
-  kind-under-reads.Asked,
-  kind-under-reads.Learnt,
-  is-subtype-below t,
-  is-subtype.Post,
-  u16-at-reads.Asked,
-  u16-at-reads.Learnt,
-  record-under-reads.Asked,
-  record-under-reads.Learnt,
-  attributes-subtype-below t,
-  attributes-subtype.Post,
-  entity-under-reads.Asked,
-  entity-under-reads.Learnt,
-  same-bytes-reads.Asked,
-  same-bytes-reads.Learnt,
-) (is-subtype-at t) is-subtype.Post
+is-subtype-add-q : (t : ℕ) → is-subtype-lts.Need-add-q (is-subtype-claims t) (is-subtype-at t) is-subtype.Post
 is-subtype-add-q t c = omega arith
 
--- src/is_subtype.rt:152:22
-is-subtype-sub-es : (t : ℕ) → is-subtype-lts.Need-sub-es (
-  kind-under-reads.Asked,
-  kind-under-reads.Learnt,
-  is-subtype-below t,
-  is-subtype.Post,
-  u16-at-reads.Asked,
-  u16-at-reads.Learnt,
-  record-under-reads.Asked,
-  record-under-reads.Learnt,
-  attributes-subtype-below t,
-  attributes-subtype.Post,
-  entity-under-reads.Asked,
-  entity-under-reads.Learnt,
-  same-bytes-reads.Asked,
-  same-bytes-reads.Learnt,
-) (is-subtype-at t) is-subtype.Post
+is-subtype-sub-es : (t : ℕ) → is-subtype-lts.Need-sub-es (is-subtype-claims t) (is-subtype-at t) is-subtype.Post
 is-subtype-sub-es t c =
     let start = c .before .before .before .before .before .before .before .before in
     omega (arith, (is-record (start .args .levels) (start .args .t0 .now) (start .pre .1 .0) ((c .before .before .before .if1 .left) ∙ c .before .before .match .keys2)) .fit, c .before .u16-at .ensures .0)
 
--- src/is_subtype.rt:152:22
-is-subtype-part-es-start : (t : ℕ) → is-subtype-lts.Need-part-es-start (
-  kind-under-reads.Asked,
-  kind-under-reads.Learnt,
-  is-subtype-below t,
-  is-subtype.Post,
-  u16-at-reads.Asked,
-  u16-at-reads.Learnt,
-  record-under-reads.Asked,
-  record-under-reads.Learnt,
-  attributes-subtype-below t,
-  attributes-subtype.Post,
-  entity-under-reads.Asked,
-  entity-under-reads.Learnt,
-  same-bytes-reads.Asked,
-  same-bytes-reads.Learnt,
-) (is-subtype-at t) is-subtype.Post
+is-subtype-part-es-start : (t : ℕ) → is-subtype-lts.Need-part-es-start (is-subtype-claims t) (is-subtype-at t) is-subtype.Post
 is-subtype-part-es-start t c = omega arith
 
--- src/is_subtype.rt:152:22
-is-subtype-part-es-end : (t : ℕ) → is-subtype-lts.Need-part-es-end (
-  kind-under-reads.Asked,
-  kind-under-reads.Learnt,
-  is-subtype-below t,
-  is-subtype.Post,
-  u16-at-reads.Asked,
-  u16-at-reads.Learnt,
-  record-under-reads.Asked,
-  record-under-reads.Learnt,
-  attributes-subtype-below t,
-  attributes-subtype.Post,
-  entity-under-reads.Asked,
-  entity-under-reads.Learnt,
-  same-bytes-reads.Asked,
-  same-bytes-reads.Learnt,
-) (is-subtype-at t) is-subtype.Post
+is-subtype-part-es-end : (t : ℕ) → is-subtype-lts.Need-part-es-end (is-subtype-claims t) (is-subtype-at t) is-subtype.Post
 is-subtype-part-es-end t c =
     let start = c .before .before .before .before .before .before .before .before in
     omega (arith, (is-record (start .args .levels) (start .args .t0 .now) (start .pre .1 .0) ((c .before .before .before .if1 .left) ∙ c .before .before .match .keys2)) .fit, c .before .u16-at .ensures .0)
 
--- src/is_subtype.rt:153:22
-is-subtype-sub-fs : (t : ℕ) → is-subtype-lts.Need-sub-fs (
-  kind-under-reads.Asked,
-  kind-under-reads.Learnt,
-  is-subtype-below t,
-  is-subtype.Post,
-  u16-at-reads.Asked,
-  u16-at-reads.Learnt,
-  record-under-reads.Asked,
-  record-under-reads.Learnt,
-  attributes-subtype-below t,
-  attributes-subtype.Post,
-  entity-under-reads.Asked,
-  entity-under-reads.Learnt,
-  same-bytes-reads.Asked,
-  same-bytes-reads.Learnt,
-) (is-subtype-at t) is-subtype.Post
+is-subtype-sub-fs : (t : ℕ) → is-subtype-lts.Need-sub-fs (is-subtype-claims t) (is-subtype-at t) is-subtype.Post
 is-subtype-sub-fs t c =
     let start = c .before .before .before .before .before .before .before .before .before in
     omega (arith, (is-record (start .args .levels) (start .args .t1 .now) (start .pre .1 .1) (c .before .before .before .match .keys2)) .fit, c .before .u16-at2 .ensures .0)
 
--- src/is_subtype.rt:153:22
-is-subtype-part-fs-start : (t : ℕ) → is-subtype-lts.Need-part-fs-start (
-  kind-under-reads.Asked,
-  kind-under-reads.Learnt,
-  is-subtype-below t,
-  is-subtype.Post,
-  u16-at-reads.Asked,
-  u16-at-reads.Learnt,
-  record-under-reads.Asked,
-  record-under-reads.Learnt,
-  attributes-subtype-below t,
-  attributes-subtype.Post,
-  entity-under-reads.Asked,
-  entity-under-reads.Learnt,
-  same-bytes-reads.Asked,
-  same-bytes-reads.Learnt,
-) (is-subtype-at t) is-subtype.Post
+is-subtype-part-fs-start : (t : ℕ) → is-subtype-lts.Need-part-fs-start (is-subtype-claims t) (is-subtype-at t) is-subtype.Post
 is-subtype-part-fs-start t c = omega arith
 
--- src/is_subtype.rt:153:22
-is-subtype-part-fs-end : (t : ℕ) → is-subtype-lts.Need-part-fs-end (
-  kind-under-reads.Asked,
-  kind-under-reads.Learnt,
-  is-subtype-below t,
-  is-subtype.Post,
-  u16-at-reads.Asked,
-  u16-at-reads.Learnt,
-  record-under-reads.Asked,
-  record-under-reads.Learnt,
-  attributes-subtype-below t,
-  attributes-subtype.Post,
-  entity-under-reads.Asked,
-  entity-under-reads.Learnt,
-  same-bytes-reads.Asked,
-  same-bytes-reads.Learnt,
-) (is-subtype-at t) is-subtype.Post
+is-subtype-part-fs-end : (t : ℕ) → is-subtype-lts.Need-part-fs-end (is-subtype-claims t) (is-subtype-at t) is-subtype.Post
 is-subtype-part-fs-end t c =
     let start = c .before .before .before .before .before .before .before .before .before in
     omega (arith, (is-record (start .args .levels) (start .args .t1 .now) (start .pre .1 .1) (c .before .before .before .match .keys2)) .fit, c .before .u16-at2 .ensures .0)
 
--- src/is_subtype.rt:154:36
 is-subtype-shared-slice-read-record-under :
-    (t : ℕ) → is-subtype-lts.Need-shared-slice-read-record-under (
-      kind-under-reads.Asked,
-      kind-under-reads.Learnt,
-      is-subtype-below t,
-      is-subtype.Post,
-      u16-at-reads.Asked,
-      u16-at-reads.Learnt,
-      record-under-reads.Asked,
-      record-under-reads.Learnt,
-      attributes-subtype-below t,
-      attributes-subtype.Post,
-      entity-under-reads.Asked,
-      entity-under-reads.Learnt,
-      same-bytes-reads.Asked,
-      same-bytes-reads.Learnt,
-    ) (is-subtype-at t) is-subtype.Post
+    (t : ℕ) → is-subtype-lts.Need-shared-slice-read-record-under (is-subtype-claims t) (is-subtype-at t) is-subtype.Post
 is-subtype-shared-slice-read-record-under t c =
     let start = c .before .before .before .before .before .before .before .before .before .before .before in
     let else1 = c .before .before .before .before .before .before in
     let at-match-keys2 = c .before .before .before .before .before in
     omega (arith, (is-record (start .args .levels) (start .args .t0 .now) (start .pre .1 .0) ((else1 .if1 .left) ∙ at-match-keys2 .match .keys2)) .some)
 
--- src/is_subtype.rt:154:67
 is-subtype-shared-slice-read-record-under-2 :
-    (t : ℕ) → is-subtype-lts.Need-shared-slice-read-record-under-2 (
-      kind-under-reads.Asked,
-      kind-under-reads.Learnt,
-      is-subtype-below t,
-      is-subtype.Post,
-      u16-at-reads.Asked,
-      u16-at-reads.Learnt,
-      record-under-reads.Asked,
-      record-under-reads.Learnt,
-      attributes-subtype-below t,
-      attributes-subtype.Post,
-      entity-under-reads.Asked,
-      entity-under-reads.Learnt,
-      same-bytes-reads.Asked,
-      same-bytes-reads.Learnt,
-    ) (is-subtype-at t) is-subtype.Post
+    (t : ℕ) → is-subtype-lts.Need-shared-slice-read-record-under-2 (is-subtype-claims t) (is-subtype-at t) is-subtype.Post
 is-subtype-shared-slice-read-record-under-2 t c =
     let start = c .before .before .before .before .before .before .before .before .before .before .before .before in
     let at-match-keys2 = c .before .before .before .before .before .before in
     omega (arith, (is-record (start .args .levels) (start .args .t1 .now) (start .pre .1 .1) (at-match-keys2 .match .keys2)) .some)
 
--- src/is_subtype.rt:154:17
-is-subtype-record-under-requires : (t : ℕ) → is-subtype-lts.Need-record-under-requires (
-  kind-under-reads.Asked,
-  kind-under-reads.Learnt,
-  is-subtype-below t,
-  is-subtype.Post,
-  u16-at-reads.Asked,
-  u16-at-reads.Learnt,
-  record-under-reads.Asked,
-  record-under-reads.Learnt,
-  attributes-subtype-below t,
-  attributes-subtype.Post,
-  entity-under-reads.Asked,
-  entity-under-reads.Learnt,
-  same-bytes-reads.Asked,
-  same-bytes-reads.Learnt,
-) (is-subtype-at t) is-subtype.Post
+is-subtype-record-under-requires : (t : ℕ) → is-subtype-lts.Need-record-under-requires (is-subtype-claims t) (is-subtype-at t) is-subtype.Post
 is-subtype-record-under-requires t c κs =
     let start = c .before .before .before .before .before .before .before .before .before .before .before .before in
     let else1 = c .before .before .before .before .before .before .before in
@@ -1452,23 +495,7 @@ is-subtype-record-under-requires t c κs =
     let y = after-u16-at2 .u16-at2 .result in
     (((is-record (start .args .levels) (start .args .t0 .now) (start .pre .1 .0) ((else1 .if1 .left) ∙ at-match-keys2 .match .keys2)) .flag, (is-record (start .args .levels) (start .args .t1 .now) (start .pre .1 .1) (at-match-keys2 .match .keys2)) .flag), (omega (arith, length-part 4 (4 + 5 * x) (start .args .t0 .now) (omega (arith, (is-record (start .args .levels) (start .args .t0 .now) (start .pre .1 .0) ((else1 .if1 .left) ∙ at-match-keys2 .match .keys2)) .fit, after-u16-at .u16-at .ensures .0))), omega (arith, length-part 4 (4 + 5 * y) (start .args .t1 .now) (omega (arith, (is-record (start .args .levels) (start .args .t1 .now) (start .pre .1 .1) (at-match-keys2 .match .keys2)) .fit, after-u16-at2 .u16-at2 .ensures .0)))))
 
--- src/is_subtype.rt:155:17
-is-subtype-returns-2 : (t : ℕ) → is-subtype-lts.Need-returns-2 (
-  kind-under-reads.Asked,
-  kind-under-reads.Learnt,
-  is-subtype-below t,
-  is-subtype.Post,
-  u16-at-reads.Asked,
-  u16-at-reads.Learnt,
-  record-under-reads.Asked,
-  record-under-reads.Learnt,
-  attributes-subtype-below t,
-  attributes-subtype.Post,
-  entity-under-reads.Asked,
-  entity-under-reads.Learnt,
-  same-bytes-reads.Asked,
-  same-bytes-reads.Learnt,
-) (is-subtype-at t) is-subtype.Post
+is-subtype-returns-2 : (t : ℕ) → is-subtype-lts.Need-returns-2 (is-subtype-claims t) (is-subtype-at t) is-subtype.Post
 is-subtype-returns-2 t c =
     let start = c .before .before .before .before .before .before .before .before .before .before .before .before .before .before in
     let else1 = c .before .before .before .before .before .before .before .before .before in
@@ -1478,23 +505,7 @@ is-subtype-returns-2 t c =
     let after-record-under = c .before in
     record-not (modeAs (start .args .mode)) (start .args .levels) (start .args .t0 .now) (start .args .t1 .now) (start .pre .1 .0) (start .pre .1 .1) (else1 .if1 .left) (at-match-keys2 .match .keys2) (after-u16-at .u16-at .result) (after-u16-at2 .u16-at2 .result) (after-u16-at .u16-at .ensures .0) (after-u16-at2 .u16-at2 .ensures .0) (after-record-under .record-under .result) (after-record-under .record-under .ensures) (c .if2 .taken)
 
--- src/is_subtype.rt:157:42
-is-subtype-sub-attributes-subtype : (t : ℕ) → is-subtype-lts.Need-sub-attributes-subtype (
-  kind-under-reads.Asked,
-  kind-under-reads.Learnt,
-  is-subtype-below t,
-  is-subtype.Post,
-  u16-at-reads.Asked,
-  u16-at-reads.Learnt,
-  record-under-reads.Asked,
-  record-under-reads.Learnt,
-  attributes-subtype-below t,
-  attributes-subtype.Post,
-  entity-under-reads.Asked,
-  entity-under-reads.Learnt,
-  same-bytes-reads.Asked,
-  same-bytes-reads.Learnt,
-) (is-subtype-at t) is-subtype.Post
+is-subtype-sub-attributes-subtype : (t : ℕ) → is-subtype-lts.Need-sub-attributes-subtype (is-subtype-claims t) (is-subtype-at t) is-subtype.Post
 is-subtype-sub-attributes-subtype t c =
     let start = c .before .before .before .before .before .before .before .before .before .before .before .before .before .before in
     let else1 = c .before .before .before .before .before .before .before .before .before in
@@ -1502,24 +513,8 @@ is-subtype-sub-attributes-subtype t c =
     let after-u16-at = c .before .before .before .before .before .before .before in
     omega (arith, (is-record (start .args .levels) (start .args .t0 .now) (start .pre .1 .0) ((else1 .if1 .left) ∙ at-match-keys2 .match .keys2)) .fit, after-u16-at .u16-at .ensures .0)
 
--- src/is_subtype.rt:157:42
 is-subtype-part-attributes-subtype-start :
-    (t : ℕ) → is-subtype-lts.Need-part-attributes-subtype-start (
-      kind-under-reads.Asked,
-      kind-under-reads.Learnt,
-      is-subtype-below t,
-      is-subtype.Post,
-      u16-at-reads.Asked,
-      u16-at-reads.Learnt,
-      record-under-reads.Asked,
-      record-under-reads.Learnt,
-      attributes-subtype-below t,
-      attributes-subtype.Post,
-      entity-under-reads.Asked,
-      entity-under-reads.Learnt,
-      same-bytes-reads.Asked,
-      same-bytes-reads.Learnt,
-    ) (is-subtype-at t) is-subtype.Post
+    (t : ℕ) → is-subtype-lts.Need-part-attributes-subtype-start (is-subtype-claims t) (is-subtype-at t) is-subtype.Post
 is-subtype-part-attributes-subtype-start t c =
     let start = c .before .before .before .before .before .before .before .before .before .before .before .before .before .before in
     let else1 = c .before .before .before .before .before .before .before .before .before in
@@ -1527,132 +522,36 @@ is-subtype-part-attributes-subtype-start t c =
     let after-u16-at = c .before .before .before .before .before .before .before in
     omega (arith, (is-record (start .args .levels) (start .args .t0 .now) (start .pre .1 .0) ((else1 .if1 .left) ∙ at-match-keys2 .match .keys2)) .fit, after-u16-at .u16-at .ensures .0)
 
--- src/is_subtype.rt:157:42
-is-subtype-part-attributes-subtype-end : (t : ℕ) → is-subtype-lts.Need-part-attributes-subtype-end (
-  kind-under-reads.Asked,
-  kind-under-reads.Learnt,
-  is-subtype-below t,
-  is-subtype.Post,
-  u16-at-reads.Asked,
-  u16-at-reads.Learnt,
-  record-under-reads.Asked,
-  record-under-reads.Learnt,
-  attributes-subtype-below t,
-  attributes-subtype.Post,
-  entity-under-reads.Asked,
-  entity-under-reads.Learnt,
-  same-bytes-reads.Asked,
-  same-bytes-reads.Learnt,
-) (is-subtype-at t) is-subtype.Post
+is-subtype-part-attributes-subtype-end : (t : ℕ) → is-subtype-lts.Need-part-attributes-subtype-end (is-subtype-claims t) (is-subtype-at t) is-subtype.Post
 is-subtype-part-attributes-subtype-end t c = omega arith
 
--- src/is_subtype.rt:157:59
-is-subtype-sub-attributes-subtype-2 : (t : ℕ) → is-subtype-lts.Need-sub-attributes-subtype-2 (
-  kind-under-reads.Asked,
-  kind-under-reads.Learnt,
-  is-subtype-below t,
-  is-subtype.Post,
-  u16-at-reads.Asked,
-  u16-at-reads.Learnt,
-  record-under-reads.Asked,
-  record-under-reads.Learnt,
-  attributes-subtype-below t,
-  attributes-subtype.Post,
-  entity-under-reads.Asked,
-  entity-under-reads.Learnt,
-  same-bytes-reads.Asked,
-  same-bytes-reads.Learnt,
-) (is-subtype-at t) is-subtype.Post
+is-subtype-sub-attributes-subtype-2 : (t : ℕ) → is-subtype-lts.Need-sub-attributes-subtype-2 (is-subtype-claims t) (is-subtype-at t) is-subtype.Post
 is-subtype-sub-attributes-subtype-2 t c =
     let start = c .before .before .before .before .before .before .before .before .before .before .before .before .before .before .before in
     let at-match-keys2 = c .before .before .before .before .before .before .before .before .before in
     let after-u16-at2 = c .before .before .before .before .before .before .before in
     omega (arith, (is-record (start .args .levels) (start .args .t1 .now) (start .pre .1 .1) (at-match-keys2 .match .keys2)) .fit, after-u16-at2 .u16-at2 .ensures .0)
 
--- src/is_subtype.rt:157:59
 is-subtype-part-attributes-subtype-start-2 :
-    (t : ℕ) → is-subtype-lts.Need-part-attributes-subtype-start-2 (
-      kind-under-reads.Asked,
-      kind-under-reads.Learnt,
-      is-subtype-below t,
-      is-subtype.Post,
-      u16-at-reads.Asked,
-      u16-at-reads.Learnt,
-      record-under-reads.Asked,
-      record-under-reads.Learnt,
-      attributes-subtype-below t,
-      attributes-subtype.Post,
-      entity-under-reads.Asked,
-      entity-under-reads.Learnt,
-      same-bytes-reads.Asked,
-      same-bytes-reads.Learnt,
-    ) (is-subtype-at t) is-subtype.Post
+    (t : ℕ) → is-subtype-lts.Need-part-attributes-subtype-start-2 (is-subtype-claims t) (is-subtype-at t) is-subtype.Post
 is-subtype-part-attributes-subtype-start-2 t c =
     let start = c .before .before .before .before .before .before .before .before .before .before .before .before .before .before .before in
     let at-match-keys2 = c .before .before .before .before .before .before .before .before .before in
     let after-u16-at2 = c .before .before .before .before .before .before .before in
     omega (arith, (is-record (start .args .levels) (start .args .t1 .now) (start .pre .1 .1) (at-match-keys2 .match .keys2)) .fit, after-u16-at2 .u16-at2 .ensures .0)
 
--- src/is_subtype.rt:157:59
 is-subtype-part-attributes-subtype-end-2 :
-    (t : ℕ) → is-subtype-lts.Need-part-attributes-subtype-end-2 (
-      kind-under-reads.Asked,
-      kind-under-reads.Learnt,
-      is-subtype-below t,
-      is-subtype.Post,
-      u16-at-reads.Asked,
-      u16-at-reads.Learnt,
-      record-under-reads.Asked,
-      record-under-reads.Learnt,
-      attributes-subtype-below t,
-      attributes-subtype.Post,
-      entity-under-reads.Asked,
-      entity-under-reads.Learnt,
-      same-bytes-reads.Asked,
-      same-bytes-reads.Learnt,
-    ) (is-subtype-at t) is-subtype.Post
+    (t : ℕ) → is-subtype-lts.Need-part-attributes-subtype-end-2 (is-subtype-claims t) (is-subtype-at t) is-subtype.Post
 is-subtype-part-attributes-subtype-end-2 t c = omega arith
 
--- src/is_subtype.rt:157:72
-is-subtype-sub-attributes-subtype-3 : (t : ℕ) → is-subtype-lts.Need-sub-attributes-subtype-3 (
-  kind-under-reads.Asked,
-  kind-under-reads.Learnt,
-  is-subtype-below t,
-  is-subtype.Post,
-  u16-at-reads.Asked,
-  u16-at-reads.Learnt,
-  record-under-reads.Asked,
-  record-under-reads.Learnt,
-  attributes-subtype-below t,
-  attributes-subtype.Post,
-  entity-under-reads.Asked,
-  entity-under-reads.Learnt,
-  same-bytes-reads.Asked,
-  same-bytes-reads.Learnt,
-) (is-subtype-at t) is-subtype.Post
+is-subtype-sub-attributes-subtype-3 : (t : ℕ) → is-subtype-lts.Need-sub-attributes-subtype-3 (is-subtype-claims t) (is-subtype-at t) is-subtype.Post
 is-subtype-sub-attributes-subtype-3 t c =
     let start = c .before .before .before .before .before .before .before .before .before .before .before .before .before .before .before .before in
     let else1 = c .before .before .before .before .before .before .before .before .before .before .before in
     let at-match-keys2 = c .before .before .before .before .before .before .before .before .before .before in
     omega (arith, (is-record (start .args .levels) (start .args .t0 .now) (start .pre .1 .0) ((else1 .if1 .left) ∙ at-match-keys2 .match .keys2)) .deep)
 
--- src/is_subtype.rt:157:13
-is-subtype-attributes-subtype-requires : (t : ℕ) → is-subtype-lts.Need-attributes-subtype-requires (
-  kind-under-reads.Asked,
-  kind-under-reads.Learnt,
-  is-subtype-below t,
-  is-subtype.Post,
-  u16-at-reads.Asked,
-  u16-at-reads.Learnt,
-  record-under-reads.Asked,
-  record-under-reads.Learnt,
-  attributes-subtype-below t,
-  attributes-subtype.Post,
-  entity-under-reads.Asked,
-  entity-under-reads.Learnt,
-  same-bytes-reads.Asked,
-  same-bytes-reads.Learnt,
-) (is-subtype-at t) is-subtype.Post
+is-subtype-attributes-subtype-requires : (t : ℕ) → is-subtype-lts.Need-attributes-subtype-requires (is-subtype-claims t) (is-subtype-at t) is-subtype.Post
 is-subtype-attributes-subtype-requires t c κs =
     let start = c .before .before .before .before .before .before .before .before .before .before .before .before .before .before .before .before in
     let else1 = c .before .before .before .before .before .before .before .before .before .before .before in
@@ -1661,104 +560,24 @@ is-subtype-attributes-subtype-requires t c κs =
     let after-u16-at2 = c .before .before .before .before .before .before .before .before in
     (omega (arith, start .pre .0, (is-record (start .args .levels) (start .args .t0 .now) (start .pre .1 .0) ((else1 .if1 .left) ∙ at-match-keys2 .match .keys2)) .deep), (rw (after-u16-at .u16-at .ensures .0) ((is-record (start .args .levels) (start .args .t0 .now) (start .pre .1 .0) ((else1 .if1 .left) ∙ at-match-keys2 .match .keys2)) .sound), rw (after-u16-at2 .u16-at2 .ensures .0) ((is-record (start .args .levels) (start .args .t1 .now) (start .pre .1 .1) (at-match-keys2 .match .keys2)) .sound)))
 
--- src/is_subtype.rt:159:25
-is-subtype-entity-under-requires : (t : ℕ) → is-subtype-lts.Need-entity-under-requires (
-  kind-under-reads.Asked,
-  kind-under-reads.Learnt,
-  is-subtype-below t,
-  is-subtype.Post,
-  u16-at-reads.Asked,
-  u16-at-reads.Learnt,
-  record-under-reads.Asked,
-  record-under-reads.Learnt,
-  attributes-subtype-below t,
-  attributes-subtype.Post,
-  entity-under-reads.Asked,
-  entity-under-reads.Learnt,
-  same-bytes-reads.Asked,
-  same-bytes-reads.Learnt,
-) (is-subtype-at t) is-subtype.Post
+is-subtype-entity-under-requires : (t : ℕ) → is-subtype-lts.Need-entity-under-requires (is-subtype-claims t) (is-subtype-at t) is-subtype.Post
 is-subtype-entity-under-requires t c κs =
     let start = c .before .before .before .before .before .before in
     (entity-form (is-entity (start .args .levels) (start .args .t0 .now) (start .pre .1 .0) ((c .before .if1 .left) ∙ c .match .keys3)), entity-form (is-entity (start .args .levels) (start .args .t1 .now) (start .pre .1 .1) (c .match .keys3)))
 
--- src/is_subtype.rt:160:25
-is-subtype-same-bytes-requires : (t : ℕ) → is-subtype-lts.Need-same-bytes-requires (
-  kind-under-reads.Asked,
-  kind-under-reads.Learnt,
-  is-subtype-below t,
-  is-subtype.Post,
-  u16-at-reads.Asked,
-  u16-at-reads.Learnt,
-  record-under-reads.Asked,
-  record-under-reads.Learnt,
-  attributes-subtype-below t,
-  attributes-subtype.Post,
-  entity-under-reads.Asked,
-  entity-under-reads.Learnt,
-  same-bytes-reads.Asked,
-  same-bytes-reads.Learnt,
-) (is-subtype-at t) is-subtype.Post
+is-subtype-same-bytes-requires : (t : ℕ) → is-subtype-lts.Need-same-bytes-requires (is-subtype-claims t) (is-subtype-at t) is-subtype.Post
 is-subtype-same-bytes-requires t c κs = search needs
 
--- src/is_subtype.rt:161:28
-is-subtype-same-bytes-requires-2 : (t : ℕ) → is-subtype-lts.Need-same-bytes-requires-2 (
-  kind-under-reads.Asked,
-  kind-under-reads.Learnt,
-  is-subtype-below t,
-  is-subtype.Post,
-  u16-at-reads.Asked,
-  u16-at-reads.Learnt,
-  record-under-reads.Asked,
-  record-under-reads.Learnt,
-  attributes-subtype-below t,
-  attributes-subtype.Post,
-  entity-under-reads.Asked,
-  entity-under-reads.Learnt,
-  same-bytes-reads.Asked,
-  same-bytes-reads.Learnt,
-) (is-subtype-at t) is-subtype.Post
+is-subtype-same-bytes-requires-2 : (t : ℕ) → is-subtype-lts.Need-same-bytes-requires-2 (is-subtype-claims t) (is-subtype-at t) is-subtype.Post
 is-subtype-same-bytes-requires-2 t c κs = search needs
 
--- src/is_subtype.rt:135:1
-is-subtype-returns-3 : (t : ℕ) → is-subtype-lts.Need-returns-3 (
-  kind-under-reads.Asked,
-  kind-under-reads.Learnt,
-  is-subtype-below t,
-  is-subtype.Post,
-  u16-at-reads.Asked,
-  u16-at-reads.Learnt,
-  record-under-reads.Asked,
-  record-under-reads.Learnt,
-  attributes-subtype-below t,
-  attributes-subtype.Post,
-  entity-under-reads.Asked,
-  entity-under-reads.Learnt,
-  same-bytes-reads.Asked,
-  same-bytes-reads.Learnt,
-) (is-subtype-at t) is-subtype.Post
+is-subtype-returns-3 : (t : ℕ) → is-subtype-lts.Need-returns-3 (is-subtype-claims t) (is-subtype-at t) is-subtype.Post
 is-subtype-returns-3 t c =
     let start = c .before .before .before .before .before .before .before .before .before in
     let else1 = c .before .before .before .before in
     set-under (modeAs (start .args .mode)) (start .args .levels) (start .args .t0 .now) (start .args .t1 .now) (start .pre .1 .0) (start .pre .1 .1) (else1 .if1 .left) (c .before .before .before .match .keys1) (c .is-subtype .result) (c .is-subtype .ensures)
 
--- src/is_subtype.rt:135:1
-is-subtype-returns-4 : (t : ℕ) → is-subtype-lts.Need-returns-4 (
-  kind-under-reads.Asked,
-  kind-under-reads.Learnt,
-  is-subtype-below t,
-  is-subtype.Post,
-  u16-at-reads.Asked,
-  u16-at-reads.Learnt,
-  record-under-reads.Asked,
-  record-under-reads.Learnt,
-  attributes-subtype-below t,
-  attributes-subtype.Post,
-  entity-under-reads.Asked,
-  entity-under-reads.Learnt,
-  same-bytes-reads.Asked,
-  same-bytes-reads.Learnt,
-) (is-subtype-at t) is-subtype.Post
+is-subtype-returns-4 : (t : ℕ) → is-subtype-lts.Need-returns-4 (is-subtype-claims t) (is-subtype-at t) is-subtype.Post
 is-subtype-returns-4 t c =
     let start = c .before .before .before .before .before .before .before .before .before .before .before .before .before .before .before .before .before in
     let else1 = c .before .before .before .before .before .before .before .before .before .before .before .before in
@@ -1768,90 +587,26 @@ is-subtype-returns-4 t c =
     let after-record-under = c .before .before .before .before in
     record-under (modeAs (start .args .mode)) (start .args .levels) (start .args .t0 .now) (start .args .t1 .now) (start .pre .1 .0) (start .pre .1 .1) (else1 .if1 .left) (at-match-keys2 .match .keys2) (after-u16-at .u16-at .result) (after-u16-at2 .u16-at2 .result) (after-u16-at .u16-at .ensures .0) (after-u16-at2 .u16-at2 .ensures .0) (after-record-under .record-under .result) (after-record-under .record-under .ensures) (c .before .before .before .if2 .left) (c .attributes-subtype .result) (c .attributes-subtype .ensures)
 
--- src/is_subtype.rt:135:1
-is-subtype-returns-5 : (t : ℕ) → is-subtype-lts.Need-returns-5 (
-  kind-under-reads.Asked,
-  kind-under-reads.Learnt,
-  is-subtype-below t,
-  is-subtype.Post,
-  u16-at-reads.Asked,
-  u16-at-reads.Learnt,
-  record-under-reads.Asked,
-  record-under-reads.Learnt,
-  attributes-subtype-below t,
-  attributes-subtype.Post,
-  entity-under-reads.Asked,
-  entity-under-reads.Learnt,
-  same-bytes-reads.Asked,
-  same-bytes-reads.Learnt,
-) (is-subtype-at t) is-subtype.Post
+is-subtype-returns-5 : (t : ℕ) → is-subtype-lts.Need-returns-5 (is-subtype-claims t) (is-subtype-at t) is-subtype.Post
 is-subtype-returns-5 t c =
     let start = c .before .before .before .before .before .before .before in
     c .entity-under .ensures ∙ entity-under (modeAs (start .args .mode)) (start .args .levels) (start .args .t0 .now) (start .args .t1 .now) (start .pre .1 .0) (start .pre .1 .1) (c .before .before .if1 .left) (c .before .match .keys3)
 
--- src/is_subtype.rt:135:1
-is-subtype-returns-6 : (t : ℕ) → is-subtype-lts.Need-returns-6 (
-  kind-under-reads.Asked,
-  kind-under-reads.Learnt,
-  is-subtype-below t,
-  is-subtype.Post,
-  u16-at-reads.Asked,
-  u16-at-reads.Learnt,
-  record-under-reads.Asked,
-  record-under-reads.Learnt,
-  attributes-subtype-below t,
-  attributes-subtype.Post,
-  entity-under-reads.Asked,
-  entity-under-reads.Learnt,
-  same-bytes-reads.Asked,
-  same-bytes-reads.Learnt,
-) (is-subtype-at t) is-subtype.Post
+is-subtype-returns-6 : (t : ℕ) → is-subtype-lts.Need-returns-6 (is-subtype-claims t) (is-subtype-at t) is-subtype.Post
 is-subtype-returns-6 t c =
     let start = c .before .before .before .before .before .before .before in
     let after-shared-slice-known = c .before .before .before .before .before .before in
     let after-shared-slice-known2 = c .before .before .before .before .before in
     c .same-bytes .ensures ∙ action-under (modeAs (start .args .mode)) (start .args .levels) (start .args .t0 .now) (start .args .t1 .now) (start .pre .1 .0) (start .pre .1 .1) (c .before .before .if1 .left) (all-bytes (start .args .t0 .now) (λ i. after-shared-slice-known .shared-slice-known .given i .fits)) (all-bytes (start .args .t1 .now) (λ i. after-shared-slice-known2 .shared-slice-known2 .given i .fits)) (c .before .match .keys4)
 
--- src/is_subtype.rt:135:1
-is-subtype-returns-7 : (t : ℕ) → is-subtype-lts.Need-returns-7 (
-  kind-under-reads.Asked,
-  kind-under-reads.Learnt,
-  is-subtype-below t,
-  is-subtype.Post,
-  u16-at-reads.Asked,
-  u16-at-reads.Learnt,
-  record-under-reads.Asked,
-  record-under-reads.Learnt,
-  attributes-subtype-below t,
-  attributes-subtype.Post,
-  entity-under-reads.Asked,
-  entity-under-reads.Learnt,
-  same-bytes-reads.Asked,
-  same-bytes-reads.Learnt,
-) (is-subtype-at t) is-subtype.Post
+is-subtype-returns-7 : (t : ℕ) → is-subtype-lts.Need-returns-7 (is-subtype-claims t) (is-subtype-at t) is-subtype.Post
 is-subtype-returns-7 t c =
     let start = c .before .before .before .before .before .before .before in
     let after-shared-slice-known = c .before .before .before .before .before .before in
     let after-shared-slice-known2 = c .before .before .before .before .before in
     c .same-bytes2 .ensures ∙ extension-under (modeAs (start .args .mode)) (start .args .levels) (start .args .t0 .now) (start .args .t1 .now) (start .pre .1 .0) (start .pre .1 .1) (c .before .before .if1 .left) (all-bytes (start .args .t0 .now) (λ i. after-shared-slice-known .shared-slice-known .given i .fits)) (all-bytes (start .args .t1 .now) (λ i. after-shared-slice-known2 .shared-slice-known2 .given i .fits)) (c .before .match .keys5)
 
--- src/is_subtype.rt:135:1
-is-subtype-returns-8 : (t : ℕ) → is-subtype-lts.Need-returns-8 (
-  kind-under-reads.Asked,
-  kind-under-reads.Learnt,
-  is-subtype-below t,
-  is-subtype.Post,
-  u16-at-reads.Asked,
-  u16-at-reads.Learnt,
-  record-under-reads.Asked,
-  record-under-reads.Learnt,
-  attributes-subtype-below t,
-  attributes-subtype.Post,
-  entity-under-reads.Asked,
-  entity-under-reads.Learnt,
-  same-bytes-reads.Asked,
-  same-bytes-reads.Learnt,
-) (is-subtype-at t) is-subtype.Post
+is-subtype-returns-8 : (t : ℕ) → is-subtype-lts.Need-returns-8 (is-subtype-claims t) (is-subtype-at t) is-subtype.Post
 is-subtype-returns-8 t c =
     let start = c .before .before .before .before .before .before in
     let r = c .match .rest in
@@ -1859,20 +614,7 @@ is-subtype-returns-8 t c =
 
 pub +attributes-subtype+is-subtype-spec : {M : Type 1} → statement M
 +attributes-subtype+is-subtype-spec =
-    close μ-attributes-subtype μ-is-subtype (λ t. attributes-subtype-lts.spec (
-      u16-at-reads.Asked,
-      u16-at-reads.Learnt,
-      find-reads.Asked,
-      find-reads.Learnt,
-      required-under-reads.Asked,
-      required-under-reads.Learnt,
-      is-subtype-below t,
-      is-subtype.Post,
-    )
-    (attributes-subtype-at t)
-    attributes-subtype.Post
-    attributes-subtype-Inv-loop
-    attributes-subtype-μ-loop
+    close μ-attributes-subtype μ-is-subtype (λ t. attributes-subtype-lts.spec (attributes-subtype-claims t) (attributes-subtype-at t) attributes-subtype.Post attributes-subtype-Inv-loop attributes-subtype-μ-loop
     (attributes-subtype-loop-holds t)
     (attributes-subtype-u16-at-requires t)
     (attributes-subtype-find-requires t)
@@ -1911,24 +653,7 @@ pub +attributes-subtype+is-subtype-spec : {M : Type 1} → statement M
     (attributes-subtype-loop-less t)
     (attributes-subtype-loop-again t)
     (attributes-subtype-returns-4 t))
-    λ t. is-subtype-lts.spec (
-      kind-under-reads.Asked,
-      kind-under-reads.Learnt,
-      is-subtype-below t,
-      is-subtype.Post,
-      u16-at-reads.Asked,
-      u16-at-reads.Learnt,
-      record-under-reads.Asked,
-      record-under-reads.Learnt,
-      attributes-subtype-below t,
-      attributes-subtype.Post,
-      entity-under-reads.Asked,
-      entity-under-reads.Learnt,
-      same-bytes-reads.Asked,
-      same-bytes-reads.Learnt,
-    )
-    (is-subtype-at t)
-    is-subtype.Post
+    λ t. is-subtype-lts.spec (is-subtype-claims t) (is-subtype-at t) is-subtype.Post
     (is-subtype-shared-slice-read-j t)
     (is-subtype-shared-slice-read-k t)
     (is-subtype-kind-under-requires t)

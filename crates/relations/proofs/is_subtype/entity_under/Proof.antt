@@ -1,3 +1,4 @@
+-- `relations::is_subtype::entity_under` meets its contract. Assumes nothing.
 use mathlib.Core.Path.{sym, _∙_}
 use Rattle.relations.specs.Modes.{modeAs}
 use Rattle.relations.specs.Laws.Names.{entity-names}
@@ -5,56 +6,39 @@ use Rattle.relations.specs.Laws.SameForm.{all-bytes, names-permissive, n
 use borrow.Author.Needs.{needs}
 use Rattle.relations.proofs.is_subtype.entity_under.Statement.{statement}
 use Rattle.relations.proofs.is_subtype.entity_under.Tie as tie
-use Rattle.relations.proofs.is_subtype.entity_under.Reads as reads
-use Rattle.relations.proofs.is_subtype.entity_under.Lts as lts
-use Rattle.forms.proofs.numbers.u16_at.Reads as u16-at-reads
-use Rattle.relations.proofs.modes.is_permissive.Reads as is-permissive-reads
-use Rattle.relations.proofs.names.names_subset.Reads as names-subset-reads
-use Rattle.relations.proofs.same_bytes.same_bytes.Reads as same-bytes-reads
 
--- src/is_subtype.rt:66:13
 sub-a : tie.Need-sub-a
 sub-a c = search needs
 
--- src/is_subtype.rt:66:13
 part-a-start : tie.Need-part-a-start
 part-a-start c = search needs
 
--- src/is_subtype.rt:66:13
 part-a-end : tie.Need-part-a-end
 part-a-end c = search needs
 
--- src/is_subtype.rt:67:13
 sub-b : tie.Need-sub-b
 sub-b c = search needs
 
--- src/is_subtype.rt:67:13
 part-b-start : tie.Need-part-b-start
 part-b-start c = search needs
 
--- src/is_subtype.rt:67:13
 part-b-end : tie.Need-part-b-end
 part-b-end c = search needs
 
--- src/is_subtype.rt:68:8
 is-permissive-requires : tie.Need-is-permissive-requires
 is-permissive-requires c κs = search needs
 
--- src/is_subtype.rt:69:32
 u16-at-requires : tie.Need-u16-at-requires
 u16-at-requires c κs = search needs
 
--- src/is_subtype.rt:69:68
 u16-at-requires-2 : tie.Need-u16-at-requires-2
 u16-at-requires-2 c κs = search needs
 
--- src/is_subtype.rt:69:9
 names-subset-requires : tie.Need-names-subset-requires
 names-subset-requires c κs =
     let start = c .before .before .before .before .before .before .before .before in
     (rw (c .before .u16-at .ensures .0) (entity-names (start .pre .0)), rw (c .u16-at2 .ensures .0) (entity-names (start .pre .1)))
 
--- src/is_subtype.rt:69:9
 returns : tie.Need-returns
 returns c =
     let start = c .before .before .before .before .before .before .before .before .before in
@@ -63,11 +47,9 @@ returns c =
     let after-u16-at2 = c .before in
     names-permissive (modeAs (start .args .mode)) (start .args .t0 .now) (start .args .t1 .now) (c .names-subset .result) (after-u16-at .u16-at .result) (after-u16-at2 .u16-at2 .result) (after-u16-at .u16-at .ensures .0) (after-u16-at2 .u16-at2 .ensures .0) (sym (after-is-permissive .is-permissive .ensures) ∙ c .before .before .before .if1 .taken) (c .names-subset .ensures)
 
--- src/is_subtype.rt:71:5
 same-bytes-requires : tie.Need-same-bytes-requires
 same-bytes-requires c κs = search needs
 
--- src/is_subtype.rt:61:1
 returns-2 : tie.Need-returns-2
 returns-2 c =
     let start = c .before .before .before .before .before .before .before in

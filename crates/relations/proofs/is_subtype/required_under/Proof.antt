@@ -1,24 +1,19 @@
+-- `relations::is_subtype::required_under` meets its contract. Assumes nothing.
 use mathlib.Core.Path.{sym, _∙_}
 use Rattle.relations.specs.Modes.{modeAs}
 use Rattle.relations.specs.Laws.Under.{flag-permissive, flag-strict}
 use borrow.Author.Needs.{needs}
 use Rattle.relations.proofs.is_subtype.required_under.Statement.{statement}
 use Rattle.relations.proofs.is_subtype.required_under.Tie as tie
-use Rattle.relations.proofs.is_subtype.required_under.Reads as reads
-use Rattle.relations.proofs.is_subtype.required_under.Lts as lts
-use Rattle.relations.proofs.modes.is_permissive.Reads as is-permissive-reads
 
--- src/is_subtype.rt:54:8
 is-permissive-requires : tie.Need-is-permissive-requires
 is-permissive-requires c κs = search needs
 
--- src/is_subtype.rt:55:9
 returns : tie.Need-returns
 returns c =
     let start = c .before .before in
     flag-permissive (modeAs (start .args .mode)) (start .args .lower) (start .args .upper) (start .pre .0) (start .pre .1) (sym (c .before .is-permissive .ensures) ∙ c .if1 .taken)
 
--- src/is_subtype.rt:50:1
 returns-2 : tie.Need-returns-2
 returns-2 c =
     let start = c .before .before in

@@ -1,10 +1,8 @@
+-- `relations::modes::is_mode` meets its contract. Assumes nothing.
 use Rattle.relations.specs.Laws.Under.{mode-known}
 use Rattle.relations.proofs.modes.is_mode.Statement.{statement}
 use Rattle.relations.proofs.modes.is_mode.Tie as tie
-use Rattle.relations.proofs.modes.is_mode.Reads as reads
-use Rattle.relations.proofs.modes.is_mode.Lts as lts
 
--- src/modes.rt:9:1
 returns : tie.Need-returns
 returns c = mode-known (c .args .mode)
 

@@ -1,10 +1,8 @@
+-- `relations::modes::is_permissive` meets its contract. Assumes nothing.
 use Rattle.relations.specs.Laws.Under.{mode-test}
 use Rattle.relations.proofs.modes.is_permissive.Statement.{statement}
 use Rattle.relations.proofs.modes.is_permissive.Tie as tie
-use Rattle.relations.proofs.modes.is_permissive.Reads as reads
-use Rattle.relations.proofs.modes.is_permissive.Lts as lts
 
--- src/modes.rt:7:1
 returns : tie.Need-returns
 returns c = mode-test (c .args .mode)
 

@@ -1,3 +1,4 @@
+-- `relations::names::names_share` meets its contract. Assumes nothing.
 use mathlib.Core.Path.{_≡_, refl, _∙_}
 use mathlib.Core.Bool.{false}
 use mathlib.Core.Logic.{⊎-elim}
@@ -7,9 +8,6 @@ use Rattle.relations.specs.Laws.Names.{Walk, walk-start, walk-second, sh
 use borrow.Author.Needs.{needs}
 use Rattle.relations.proofs.names.names_share.Statement.{statement}
 use Rattle.relations.proofs.names.names_share.Tie as tie
-use Rattle.relations.proofs.names.names_share.Reads as reads
-use Rattle.relations.proofs.names.names_share.Lts as lts
-use Rattle.forms.proofs.numbers.u16_at.Reads as u16-at-reads
 
 abbrev Inv-loop : tie.InvT-loop
 Inv-loop first n second m shared₀ a b₀ left more₀ x shared b more = Walk shares n m first second left more a b × (shared ≡ false)
@@ -23,45 +21,35 @@ Inv-search first n second m shared₀ a₀ b₀ left₀ more₀ shared a b left 
 abbrev μ-search : tie.MeasureT-search
 μ-search first n second m shared₀ a₀ b₀ left₀ more₀ shared a b left more = left
 
--- src/names.rt:22:5
 search-holds : tie.Need-search-holds Inv-loop μ-loop Inv-search μ-search
 search-holds c =
     let start = c .before .before in
     (walk-start (start .pre .0) (start .pre .1), refl)
 
--- src/names.rt:23:13
 u16-at-requires : tie.Need-u16-at-requires Inv-loop μ-loop Inv-search μ-search
 u16-at-requires c κs = search needs
 
--- src/names.rt:24:9
 loop-holds : tie.Need-loop-holds Inv-loop μ-loop Inv-search μ-search
 loop-holds c = c .before .before .search .inv
 
--- src/names.rt:25:17
 u16-at-requires-2 : tie.Need-u16-at-requires-2 Inv-loop μ-loop Inv-search μ-search
 u16-at-requires-2 c κs = search needs
 
--- src/names.rt:33:17
 sub-b : tie.Need-sub-b Inv-loop μ-loop Inv-search μ-search
 sub-b c = search needs
 
--- src/names.rt:33:17
 part-b-start : tie.Need-part-b-start Inv-loop μ-loop Inv-search μ-search
 part-b-start c = search needs
 
--- src/names.rt:33:17
 part-b-end : tie.Need-part-b-end Inv-loop μ-loop Inv-search μ-search
 part-b-end c = search needs
 
--- src/names.rt:34:13
 sub-more : tie.Need-sub-more Inv-loop μ-loop Inv-search μ-search
 sub-more c = search needs
 
--- src/names.rt:24:9
 loop-less : tie.Need-loop-less Inv-loop μ-loop Inv-search μ-search
 loop-less c = search needs
 
--- src/names.rt:24:9
 loop-again : tie.Need-loop-again Inv-loop μ-loop Inv-search μ-search
 loop-again c =
     let in-search = c .before .before .before .before .before .before .before in
@@ -71,27 +59,21 @@ loop-again c =
     let y = c .before .before .before .u16-at2 in
     (walk-second (at-loop .loop .inv .0) (in-search .search-test .taken) (in-loop .loop-test .taken) shares-skip (after-u16-at .u16-at .result) (y .result) (after-u16-at .u16-at .ensures .0) (y .ensures .0) (omega (arith, c .before .before .if1 .left, c .before .if2 .left)), at-loop .loop .inv .1)
 
--- src/names.rt:36:13
 sub-a : tie.Need-sub-a Inv-loop μ-loop Inv-search μ-search
 sub-a c = search needs
 
--- src/names.rt:36:13
 part-a-start : tie.Need-part-a-start Inv-loop μ-loop Inv-search μ-search
 part-a-start c = search needs
 
--- src/names.rt:36:13
 part-a-end : tie.Need-part-a-end Inv-loop μ-loop Inv-search μ-search
 part-a-end c = search needs
 
--- src/names.rt:37:9
 sub-left : tie.Need-sub-left Inv-loop μ-loop Inv-search μ-search
 sub-left c = search needs
 
--- src/names.rt:22:5
 search-less : tie.Need-search-less Inv-loop μ-loop Inv-search μ-search
 search-less c = search needs
 
--- src/names.rt:22:5
 search-again : tie.Need-search-again Inv-loop μ-loop Inv-search μ-search
 search-again c =
     let in-search = c .before .before .before .before in
@@ -100,13 +82,11 @@ search-again c =
     let x = c .before .before .before .u16-at in
     (⊎-elim (λ w. share-over (l .0) p (x .result) (x .ensures .0) (w .left)) (λ w. share-past (l .0) p (x .result) (x .ensures .0) (w .0 .taken) (w .1 .result) (w .1 .ensures .0) (w .3 .taken)) (c .before .loop-test .came), l .1)
 
--- src/names.rt:12:1
 returns : tie.Need-returns Inv-loop μ-loop Inv-search μ-search
 returns c =
     let at-search = c .before in
     at-search .search .inv .1 ∙ share-end (at-search .search .inv .0) (c .search-test .left)
 
--- src/names.rt:12:1
 returns-2 : tie.Need-returns-2 Inv-loop μ-loop Inv-search μ-search
 returns-2 c =
     let in-search = c .before .before .before .before .before in

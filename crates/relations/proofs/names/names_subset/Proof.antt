@@ -1,3 +1,4 @@
+-- `relations::names::names_subset` meets its contract. Assumes nothing.
 use mathlib.Core.Path.{ap}
 use mathlib.Core.Logic.{⊎-elim}
 use Prim.Native.Nat.{_<_}
@@ -8,9 +9,6 @@ use Rattle.relations.specs.Laws.Names.{Walk, walk-start, walk-met, walk-
 use borrow.Author.Needs.{needs}
 use Rattle.relations.proofs.names.names_subset.Statement.{statement}
 use Rattle.relations.proofs.names.names_subset.Tie as tie
-use Rattle.relations.proofs.names.names_subset.Reads as reads
-use Rattle.relations.proofs.names.names_subset.Lts as lts
-use Rattle.forms.proofs.numbers.u16_at.Reads as u16-at-reads
 
 abbrev Inv-loop : tie.InvT-loop
 Inv-loop first n second m a₀ b₀ left₀ more₀ a b left more = Walk subset n m first second left more a b
@@ -18,25 +16,20 @@ Inv-loop first n second m a₀ b₀ left₀ more₀ a b left more = Walk subset 
 abbrev μ-loop : tie.MeasureT-loop
 μ-loop first n second m a₀ b₀ left₀ more₀ a b left more = more
 
--- src/names.rt:52:5
 loop-holds : tie.Need-loop-holds Inv-loop μ-loop
 loop-holds c =
     let start = c .before .before in
     walk-start (start .pre .0) (start .pre .1)
 
--- src/names.rt:54:13
 returns : tie.Need-returns Inv-loop μ-loop
 returns c = subset-over (c .before .before .loop .inv) (c .before .loop-test .taken) (omega (arith, c .if1 .taken))
 
--- src/names.rt:56:13
 u16-at-requires : tie.Need-u16-at-requires Inv-loop μ-loop
 u16-at-requires c κs = search needs
 
--- src/names.rt:57:13
 u16-at-requires-2 : tie.Need-u16-at-requires-2 Inv-loop μ-loop
 u16-at-requires-2 c κs = search needs
 
--- src/names.rt:59:13
 returns-2 : tie.Need-returns-2 Inv-loop μ-loop
 returns-2 c =
     let at-loop = c .before .before .before .before .before in
@@ -45,43 +38,33 @@ returns-2 c =
     let after-u16-at2 = c .before in
     subset-past (at-loop .loop .inv) (in-loop .loop-test .taken) (omega arith) (after-u16-at .u16-at .result) (after-u16-at2 .u16-at2 .result) (after-u16-at .u16-at .ensures .0) (after-u16-at2 .u16-at2 .ensures .0) (c .if2 .taken)
 
--- src/names.rt:62:17
 sub-a : tie.Need-sub-a Inv-loop μ-loop
 sub-a c = search needs
 
--- src/names.rt:62:17
 part-a-start : tie.Need-part-a-start Inv-loop μ-loop
 part-a-start c = search needs
 
--- src/names.rt:62:17
 part-a-end : tie.Need-part-a-end Inv-loop μ-loop
 part-a-end c = search needs
 
--- src/names.rt:63:13
 sub-left : tie.Need-sub-left Inv-loop μ-loop
 sub-left c = search needs
 
--- src/names.rt:65:13
 sub-b : tie.Need-sub-b Inv-loop μ-loop
 sub-b c = search needs
 
--- src/names.rt:65:13
 part-b-start : tie.Need-part-b-start Inv-loop μ-loop
 part-b-start c = search needs
 
--- src/names.rt:65:13
 part-b-end : tie.Need-part-b-end Inv-loop μ-loop
 part-b-end c = search needs
 
--- src/names.rt:66:9
 sub-more : tie.Need-sub-more Inv-loop μ-loop
 sub-more c = search needs
 
--- src/names.rt:52:5
 loop-less : tie.Need-loop-less Inv-loop μ-loop
 loop-less c = search needs
 
--- src/names.rt:52:5
 loop-again : tie.Need-loop-again Inv-loop μ-loop
 loop-again c =
     let at-loop = c .before .before .before .before .before .before .before in
@@ -98,7 +81,6 @@ loop-again c =
     (λ w. walk-met {a = at-loop .loop .a .now} {a′ = joined3 .if3 .a .now} (w .2) (ap (λ z. z .now) (w .1)) (walk-second l p q subset-skip (x .result) (y .result) (x .ensures .0) (y .ensures .0) (omega (arith, w .0 .left, c .before .before .if2 .left))))
     (joined3 .if3 .came)
 
--- src/names.rt:43:1
 returns-3 : tie.Need-returns-3 Inv-loop μ-loop
 returns-3 c = subset-end (c .before .loop .inv) (c .loop-test .left)
 

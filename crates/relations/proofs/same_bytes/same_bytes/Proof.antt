@@ -1,3 +1,4 @@
+-- `relations::same_bytes::same_bytes` meets its contract. Assumes nothing.
 use mathlib.Core.Path.{refl}
 use Prim.Native.Nat.{_-_, _<_}
 use native.Mathlib.Omega.{arith}
@@ -6,8 +7,6 @@ use Rattle.relations.specs.Laws.Equality.{BytesLeft, unlike-lengths, byt
 use borrow.Author.Needs.{needs}
 use Rattle.relations.proofs.same_bytes.same_bytes.Statement.{statement}
 use Rattle.relations.proofs.same_bytes.same_bytes.Tie as tie
-use Rattle.relations.proofs.same_bytes.same_bytes.Reads as reads
-use Rattle.relations.proofs.same_bytes.same_bytes.Lts as lts
 
 abbrev Inv-loop : tie.InvT-loop
 Inv-loop a b i₀ i = BytesLeft a b i
@@ -15,25 +14,20 @@ Inv-loop a b i₀ i = BytesLeft a b i
 abbrev μ-loop : tie.MeasureT-loop
 μ-loop a b i₀ i = length a - i
 
--- src/same_bytes.rt:9:9
 returns : tie.Need-returns Inv-loop μ-loop
 returns c =
     let start = c .before in
     unlike-lengths (start .args .a .now) (start .args .b .now) (c .if1 .taken)
 
--- src/same_bytes.rt:12:5
 loop-holds : tie.Need-loop-holds Inv-loop μ-loop
 loop-holds c = record { same = refl }
 
--- src/same_bytes.rt:13:12
 shared-slice-read-if2 : tie.Need-shared-slice-read-if2 Inv-loop μ-loop
 shared-slice-read-if2 c = search needs
 
--- src/same_bytes.rt:13:20
 shared-slice-read-if2-2 : tie.Need-shared-slice-read-if2-2 Inv-loop μ-loop
 shared-slice-read-if2-2 c = search needs
 
--- src/same_bytes.rt:14:13
 returns-2 : tie.Need-returns-2 Inv-loop μ-loop
 returns-2 c =
     let start = c .before .before .before .before .before .before in
@@ -41,15 +35,12 @@ returns-2 c =
     let at-loop = c .before .before .before .before in
     bytes-differ (at-loop .loop .inv) (c .before .before .before .loop-test .taken) (let q : (at-loop .loop .i) < length (start .args .b .now) = omega (arith, else1 .if1 .left) in q) (c .if2 .taken)
 
--- src/same_bytes.rt:16:9
 add-i : tie.Need-add-i Inv-loop μ-loop
 add-i c = search needs
 
--- src/same_bytes.rt:12:5
 loop-less : tie.Need-loop-less Inv-loop μ-loop
 loop-less c = search needs
 
--- src/same_bytes.rt:12:5
 loop-again : tie.Need-loop-again Inv-loop μ-loop
 loop-again c =
     let start = c .before .before .before .before .before .before in
@@ -57,7 +48,6 @@ loop-again c =
     let at-loop = c .before .before .before .before in
     bytes-again (at-loop .loop .inv) (c .before .before .before .loop-test .taken) (let q : (at-loop .loop .i) < length (start .args .b .now) = omega (arith, else1 .if1 .left) in q) (c .if2 .left)
 
--- src/same_bytes.rt:5:1
 returns-3 : tie.Need-returns-3 Inv-loop μ-loop
 returns-3 c = bytes-end (c .before .loop .inv) (c .before .before .if1 .left) (c .loop-test .left)
 

@@ -1,3 +1,4 @@
+-- `validator::are_types_disjoint::are_types_disjoint` meets its contract. Assumes nothing.
 use mathlib.Core.Path.{ap, _∙_}
 use Rattle.cedar.specs.Types.{Ty}
 use Rattle.cedar.specs.Result.{badFirst, badSecond}
@@ -12,28 +13,19 @@ use Rattle.validator.specs.Laws.Questions.{ask-no, ask-on, missing, type
 use borrow.Author.Needs.{needs}
 use Rattle.validator.proofs.are_types_disjoint.are_types_disjoint.Statement.{statement}
 use Rattle.validator.proofs.are_types_disjoint.are_types_disjoint.Tie as tie
-use Rattle.validator.proofs.are_types_disjoint.are_types_disjoint.Reads as reads
-use Rattle.validator.proofs.are_types_disjoint.are_types_disjoint.Lts as lts
-use Rattle.forms.proofs.types.whole_type.Reads as whole-type-reads
-use Rattle.relations.proofs.are_types_disjoint.are_types_disjoint.Reads as are-types-disjoint-reads
-use Rattle.validator.proofs.answers.yes_or_no.Reads as yes-or-no-reads
 
--- src/are_types_disjoint.rt:14:9
 whole-type-requires : tie.Need-whole-type-requires
 whole-type-requires c κs = search needs
 
--- src/are_types_disjoint.rt:15:9
 returns : tie.Need-returns
 returns c =
     let start = c .before .before .before .before in
     let after-whole-type = c .before in
     ask-no badFirst (λ (a : Ty). ask badSecond (wholeType standard (start .args .t1 .now)) (λ (b : Ty). said (disjoint a b))) (missing (wholeType standard (start .args .t0 .now)) (after-whole-type .whole-type .result) (after-whole-type .whole-type .ensures) (c .if1 .taken))
 
--- src/are_types_disjoint.rt:17:9
 whole-type-requires-2 : tie.Need-whole-type-requires-2
 whole-type-requires-2 c κs = search needs
 
--- src/are_types_disjoint.rt:18:9
 returns-2 : tie.Need-returns-2
 returns-2 c =
     let start = c .before .before .before .before .before .before in
@@ -41,7 +33,6 @@ returns-2 c =
     let after-whole-type2 = c .before in
     ask-on badFirst (λ (a : Ty). ask badSecond (wholeType standard (start .args .t1 .now)) (λ (b : Ty). said (disjoint a b))) (type-there (start .args .t0 .now) (after-whole-type .whole-type .result) (after-whole-type .whole-type .ensures) (c .before .before .if1 .left)) (ask-no badSecond (λ (b : Ty). said (disjoint (dec (standard .levels) (start .args .t0 .now)) b)) (missing (wholeType standard (start .args .t1 .now)) (after-whole-type2 .whole-type2 .result) (after-whole-type2 .whole-type2 .ensures) (c .if2 .taken)))
 
--- src/are_types_disjoint.rt:20:15
 are-types-disjoint-requires : tie.Need-are-types-disjoint-requires
 are-types-disjoint-requires c κs =
     let start = c .before .before .before .before .before .before in
@@ -49,11 +40,9 @@ are-types-disjoint-requires c κs =
     let after-whole-type2 = c .before in
     (type-whole (start .args .t0 .now) (after-whole-type .whole-type .result) (after-whole-type .whole-type .ensures) (c .before .before .if1 .left), type-whole (start .args .t1 .now) (after-whole-type2 .whole-type2 .result) (after-whole-type2 .whole-type2 .ensures) (c .if2 .left))
 
--- src/are_types_disjoint.rt:20:5
 yes-or-no-requires : tie.Need-yes-or-no-requires
 yes-or-no-requires c κs = search needs
 
--- src/are_types_disjoint.rt:11:1
 returns-3 : tie.Need-returns-3
 returns-3 c =
     let start = c .before .before .before .before .before .before .before .before in

@@ -1,3 +1,4 @@
+-- `validator::is_consistent_with::is_consistent_with` meets its contract. Assumes nothing.
 use mathlib.Core.Path.{ap, _∙_}
 use Rattle.cedar.specs.Types.{Ty}
 use Rattle.cedar.specs.Bytes.{guard}
@@ -13,29 +14,19 @@ use Rattle.validator.specs.Laws.Questions.{ask-no, ask-on, missing, guar
 use borrow.Author.Needs.{needs}
 use Rattle.validator.proofs.is_consistent_with.is_consistent_with.Statement.{statement}
 use Rattle.validator.proofs.is_consistent_with.is_consistent_with.Tie as tie
-use Rattle.validator.proofs.is_consistent_with.is_consistent_with.Reads as reads
-use Rattle.validator.proofs.is_consistent_with.is_consistent_with.Lts as lts
-use Rattle.forms.proofs.types.whole_type.Reads as whole-type-reads
-use Rattle.relations.proofs.is_consistent_with.is_consistent_with.Reads as is-consistent-with-reads
-use Rattle.relations.proofs.is_plain.is_plain.Reads as is-plain-reads
-use Rattle.validator.proofs.answers.yes_or_no.Reads as yes-or-no-reads
 
--- src/is_consistent_with.rt:16:9
 whole-type-requires : tie.Need-whole-type-requires
 whole-type-requires c κs = search needs
 
--- src/is_consistent_with.rt:17:9
 returns : tie.Need-returns
 returns c =
     let start = c .before .before .before .before in
     let after-whole-type = c .before in
     ask-no badFirst (λ (t : Ty). ask badSecond (wholeType standard (start .args .t1 .now)) (λ (u : Ty). ask notPlain (guard (plain u)) (λ _. said (consistent t u)))) (missing (wholeType standard (start .args .t0 .now)) (after-whole-type .whole-type .result) (after-whole-type .whole-type .ensures) (c .if1 .taken))
 
--- src/is_consistent_with.rt:19:9
 whole-type-requires-2 : tie.Need-whole-type-requires-2
 whole-type-requires-2 c κs = search needs
 
--- src/is_consistent_with.rt:20:9
 returns-2 : tie.Need-returns-2
 returns-2 c =
     let start = c .before .before .before .before .before .before in
@@ -43,14 +34,12 @@ returns-2 c =
     let after-whole-type2 = c .before in
     (ask-on badFirst (λ (t : Ty). ask badSecond (wholeType standard (start .args .t1 .now)) (λ (u : Ty). ask notPlain (guard (plain u)) (λ _. said (consistent t u)))) (type-there (start .args .t0 .now) (after-whole-type .whole-type .result) (after-whole-type .whole-type .ensures) (c .before .before .if1 .left))) (ask-no badSecond (λ (u : Ty). ask notPlain (guard (plain u)) (λ _. said (consistent (dec (standard .levels) (start .args .t0 .now)) u))) (missing (wholeType standard (start .args .t1 .now)) (after-whole-type2 .whole-type2 .result) (after-whole-type2 .whole-type2 .ensures) (c .if2 .taken)))
 
--- src/is_consistent_with.rt:22:9
 is-plain-requires : tie.Need-is-plain-requires
 is-plain-requires c κs =
     let start = c .before .before .before .before .before .before in
     let after-whole-type2 = c .before in
     type-whole (start .args .t1 .now) (after-whole-type2 .whole-type2 .result) (after-whole-type2 .whole-type2 .ensures) (c .if2 .left)
 
--- src/is_consistent_with.rt:23:9
 returns-3 : tie.Need-returns-3
 returns-3 c =
     let start = c .before .before .before .before .before .before .before .before in
@@ -60,7 +49,6 @@ returns-3 c =
     let after-is-plain = c .before in
     (ask-on badFirst (λ (t : Ty). ask badSecond (wholeType standard (start .args .t1 .now)) (λ (u : Ty). ask notPlain (guard (plain u)) (λ _. said (consistent t u)))) (type-there (start .args .t0 .now) (after-whole-type .whole-type .result) (after-whole-type .whole-type .ensures) (else1 .if1 .left))) ((ask-on badSecond (λ (u : Ty). ask notPlain (guard (plain u)) (λ _. said (consistent (dec (standard .levels) (start .args .t0 .now)) u))) (type-there (start .args .t1 .now) (after-whole-type2 .whole-type2 .result) (after-whole-type2 .whole-type2 .ensures) (c .before .before .if2 .left))) (ask-no notPlain (λ (_ : Unit {0}). said (consistent (dec (standard .levels) (start .args .t0 .now)) (dec (standard .levels) (start .args .t1 .now)))) (guard-no (plain (dec (standard .levels) (start .args .t1 .now))) (after-is-plain .is-plain .result) (after-is-plain .is-plain .ensures) (c .if3 .taken))))
 
--- src/is_consistent_with.rt:25:15
 is-consistent-with-requires : tie.Need-is-consistent-with-requires
 is-consistent-with-requires c κs =
     let start = c .before .before .before .before .before .before .before .before in
@@ -69,11 +57,9 @@ is-consistent-with-requires c κs =
     let after-whole-type2 = c .before .before .before in
     (type-whole (start .args .t0 .now) (after-whole-type .whole-type .result) (after-whole-type .whole-type .ensures) (else1 .if1 .left), type-whole (start .args .t1 .now) (after-whole-type2 .whole-type2 .result) (after-whole-type2 .whole-type2 .ensures) (c .before .before .if2 .left))
 
--- src/is_consistent_with.rt:25:5
 yes-or-no-requires : tie.Need-yes-or-no-requires
 yes-or-no-requires c κs = search needs
 
--- src/is_consistent_with.rt:13:1
 returns-4 : tie.Need-returns-4
 returns-4 c =
     let start = c .before .before .before .before .before .before .before .before .before .before in

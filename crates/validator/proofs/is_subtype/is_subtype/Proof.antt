@@ -1,3 +1,4 @@
+-- `validator::is_subtype::is_subtype` meets its contract. Assumes nothing.
 use mathlib.Core.Path.{ap, sym, _∙_}
 use borrow.Author.Tests.{not-false}
 use Rattle.cedar.specs.Types.{Mode, Ty, Schema}
@@ -15,30 +16,19 @@ use Rattle.validator.specs.Laws.Questions.{ask-no, ask-on, missing, ther
 use borrow.Author.Needs.{needs}
 use Rattle.validator.proofs.is_subtype.is_subtype.Statement.{statement}
 use Rattle.validator.proofs.is_subtype.is_subtype.Tie as tie
-use Rattle.validator.proofs.is_subtype.is_subtype.Reads as reads
-use Rattle.validator.proofs.is_subtype.is_subtype.Lts as lts
-use Rattle.forms.proofs.types.whole_type.Reads as whole-type-reads
-use Rattle.relations.proofs.is_subtype.is_subtype.Reads as is-subtype-reads
-use Rattle.relations.proofs.modes.is_mode.Reads as is-mode-reads
-use Rattle.schemas.proofs.whole.whole_schema.Reads as whole-schema-reads
-use Rattle.validator.proofs.answers.yes_or_no.Reads as yes-or-no-reads
 
--- src/is_subtype.rt:17:9
 is-mode-requires : tie.Need-is-mode-requires
 is-mode-requires c κs = search needs
 
--- src/is_subtype.rt:18:9
 returns : tie.Need-returns
 returns c =
     let start = c .before .before .before .before .before in
     let after-is-mode = c .before in
     ask-no badMode (λ (m : Mode). ask badSchema (wholeSchema standard (start .args .schema .now)) (λ (x : Schema). ask badFirst (wholeType standard (start .args .t0 .now)) (λ (t : Ty). ask badSecond (wholeType standard (start .args .t1 .now)) (λ (u : Ty). said (sub m t u))))) (missing (modeOf (start .args .mode)) (after-is-mode .is-mode .result) (after-is-mode .is-mode .ensures) (c .if1 .taken))
 
--- src/is_subtype.rt:20:9
 whole-schema-requires : tie.Need-whole-schema-requires
 whole-schema-requires c κs = search needs
 
--- src/is_subtype.rt:21:9
 returns-2 : tie.Need-returns-2
 returns-2 c =
     let start = c .before .before .before .before .before .before .before in
@@ -46,11 +36,9 @@ returns-2 c =
     let after-whole-schema = c .before in
     (ask-on badMode (λ (m : Mode). ask badSchema (wholeSchema standard (start .args .schema .now)) (λ (x : Schema). ask badFirst (wholeType standard (start .args .t0 .now)) (λ (t : Ty). ask badSecond (wholeType standard (start .args .t1 .now)) (λ (u : Ty). said (sub m t u))))) (mode-is (start .args .mode) (sym (after-is-mode .is-mode .ensures) ∙ not-false (after-is-mode .is-mode .result) (c .before .before .if1 .left)))) (ask-no badSchema (λ (x : Schema). ask badFirst (wholeType standard (start .args .t0 .now)) (λ (t : Ty). ask badSecond (wholeType standard (start .args .t1 .now)) (λ (u : Ty). said (sub (modeAs (start .args .mode)) t u)))) (missing (wholeSchema standard (start .args .schema .now)) (after-whole-schema .whole-schema .result) (after-whole-schema .whole-schema .ensures) (c .if2 .taken)))
 
--- src/is_subtype.rt:23:9
 whole-type-requires : tie.Need-whole-type-requires
 whole-type-requires c κs = search needs
 
--- src/is_subtype.rt:24:9
 returns-3 : tie.Need-returns-3
 returns-3 c =
     let start = c .before .before .before .before .before .before .before .before .before in
@@ -60,11 +48,9 @@ returns-3 c =
     let after-whole-type = c .before in
     (ask-on badMode (λ (m : Mode). ask badSchema (wholeSchema standard (start .args .schema .now)) (λ (x : Schema). ask badFirst (wholeType standard (start .args .t0 .now)) (λ (t : Ty). ask badSecond (wholeType standard (start .args .t1 .now)) (λ (u : Ty). said (sub m t u))))) (mode-is (start .args .mode) (sym (after-is-mode .is-mode .ensures) ∙ not-false (after-is-mode .is-mode .result) (else1 .if1 .left)))) ((ask-on badSchema (λ (x : Schema). ask badFirst (wholeType standard (start .args .t0 .now)) (λ (t : Ty). ask badSecond (wholeType standard (start .args .t1 .now)) (λ (u : Ty). said (sub (modeAs (start .args .mode)) t u)))) (there (wholeSchema standard (start .args .schema .now)) (after-whole-schema .whole-schema .result) (after-whole-schema .whole-schema .ensures) (c .before .before .if2 .left) .1)) (ask-no badFirst (λ (t : Ty). ask badSecond (wholeType standard (start .args .t1 .now)) (λ (u : Ty). said (sub (modeAs (start .args .mode)) t u))) (missing (wholeType standard (start .args .t0 .now)) (after-whole-type .whole-type .result) (after-whole-type .whole-type .ensures) (c .if3 .taken))))
 
--- src/is_subtype.rt:26:9
 whole-type-requires-2 : tie.Need-whole-type-requires-2
 whole-type-requires-2 c κs = search needs
 
--- src/is_subtype.rt:27:9
 returns-4 : tie.Need-returns-4
 returns-4 c =
     let start = c .before .before .before .before .before .before .before .before .before .before .before in
@@ -76,7 +62,6 @@ returns-4 c =
     let after-whole-type2 = c .before in
     (ask-on badMode (λ (m : Mode). ask badSchema (wholeSchema standard (start .args .schema .now)) (λ (x : Schema). ask badFirst (wholeType standard (start .args .t0 .now)) (λ (t : Ty). ask badSecond (wholeType standard (start .args .t1 .now)) (λ (u : Ty). said (sub m t u))))) (mode-is (start .args .mode) (sym (after-is-mode .is-mode .ensures) ∙ not-false (after-is-mode .is-mode .result) (else1 .if1 .left)))) ((ask-on badSchema (λ (x : Schema). ask badFirst (wholeType standard (start .args .t0 .now)) (λ (t : Ty). ask badSecond (wholeType standard (start .args .t1 .now)) (λ (u : Ty). said (sub (modeAs (start .args .mode)) t u)))) (there (wholeSchema standard (start .args .schema .now)) (after-whole-schema .whole-schema .result) (after-whole-schema .whole-schema .ensures) (else2 .if2 .left) .1)) ((ask-on badFirst (λ (t : Ty). ask badSecond (wholeType standard (start .args .t1 .now)) (λ (u : Ty). said (sub (modeAs (start .args .mode)) t u))) (type-there (start .args .t0 .now) (after-whole-type .whole-type .result) (after-whole-type .whole-type .ensures) (c .before .before .if3 .left))) (ask-no badSecond (λ (u : Ty). said (sub (modeAs (start .args .mode)) (dec (standard .levels) (start .args .t0 .now)) u)) (missing (wholeType standard (start .args .t1 .now)) (after-whole-type2 .whole-type2 .result) (after-whole-type2 .whole-type2 .ensures) (c .if4 .taken)))))
 
--- src/is_subtype.rt:29:15
 is-subtype-requires : tie.Need-is-subtype-requires
 is-subtype-requires c κs =
     let start = c .before .before .before .before .before .before .before .before .before .before .before in
@@ -84,11 +69,9 @@ is-subtype-requires c κs =
     let after-whole-type2 = c .before in
     (type-whole (start .args .t0 .now) (after-whole-type .whole-type .result) (after-whole-type .whole-type .ensures) (c .before .before .if3 .left), type-whole (start .args .t1 .now) (after-whole-type2 .whole-type2 .result) (after-whole-type2 .whole-type2 .ensures) (c .if4 .left))
 
--- src/is_subtype.rt:29:5
 yes-or-no-requires : tie.Need-yes-or-no-requires
 yes-or-no-requires c κs = search needs
 
--- src/is_subtype.rt:14:1
 returns-5 : tie.Need-returns-5
 returns-5 c =
     let start = c .before .before .before .before .before .before .before .before .before .before .before .before .before in

@@ -1,9 +1,7 @@
--- Which kinds of value a type without parts takes, by the first bytes of their forms. Assumes nothing: these are definitions.
+-- Which kinds of value a type takes, by the first bytes of their forms. Assumes nothing: these are definitions.
 use Prim.Native.Nat.{ℕ}
-use mathlib.Core.List.{[], _∷_}
-use mathlib.Core.Bool.{Bool, true, false}
+use mathlib.Core.Bool.{Bool, false}
 use lib.Dec.{eqb, leb}
-use lib.ListN.{getD}
 use Rattle.cedar.specs.Types.{Atom, never, true′, false′, bool, long, string, anyset, anyent}
 use Rattle.cedar.specs.TypeForm.{Kind, one, setKind, recKind, entKind, actKind, extKind, noKind, kindOf}
 
@@ -19,11 +17,11 @@ atomTakes anyent j = eqb j 4
 
 abbrev pub kindTakes : Kind → ℕ → Bool
 kindTakes (one a) j = atomTakes a j
-kindTakes setKind j = false
-kindTakes recKind j = false
-kindTakes entKind j = false
-kindTakes actKind j = false
-kindTakes extKind j = false
+kindTakes setKind j = eqb j 5
+kindTakes recKind j = eqb j 6
+kindTakes entKind j = eqb j 4
+kindTakes actKind j = eqb j 4
+kindTakes extKind j = eqb j 7
 kindTakes noKind j = false
 
 abbrev pub takes : ℕ → ℕ → Bool

@@ -1,0 +1,25 @@
+use Rattle.jobs.specs.Laws.Walk.{stands-is, next-is}
+use native.Mathlib.Omega.{arith}
+use Rattle.jobs.proofs.questions.next.Statement.{statement}
+use Rattle.jobs.proofs.questions.next.Tie as tie
+
+mul-lengths : tie.Need-mul-lengths
+mul-lengths c = let s = stands-is ((c .before) .args .job .now) ((c .before) .args .cursor) ((c .before) .pre) in omega (arith, s .entry, (c .before) .good)
+
+add-lengths : tie.Need-add-lengths
+add-lengths c = let s = stands-is ((c .before) .args .job .now) ((c .before) .args .cursor) ((c .before) .pre) in omega (arith, s .entry, (c .before) .good)
+
+lengths-requires : tie.Need-lengths-requires
+lengths-requires c κs = (stands-is ((c .before) .args .job .now) ((c .before) .args .cursor) ((c .before) .pre)) .entry
+
+add-t6 : tie.Need-add-t6
+add-t6 c = let s = stands-is ((c .before .before) .args .job .now) ((c .before .before) .args .cursor) ((c .before .before) .pre) in omega (arith, s .entry, (c .before .before) .good)
+
+add-t7 : tie.Need-add-t7
+add-t7 c = let s = stands-is ((c .before .before) .args .job .now) ((c .before .before) .args .cursor) ((c .before .before) .pre) in omega (arith, s .body, c .lengths .ensures, (c .before .before) .good)
+
+returns : tie.Need-returns
+returns c = next-is ((c .before .before) .args .job .now) ((c .before .before) .args .cursor) (c .lengths .ensures)
+
+pub next-spec : {M : Type 1} → statement M
+next-spec = tie.close (tie.spec mul-lengths add-lengths lengths-requires add-t6 add-t7 returns)

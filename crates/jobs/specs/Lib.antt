@@ -1,0 +1,5 @@
+pub mod Writing
+pub mod JobBytes
+pub mod LineBytes
+pub mod Walk
+pub mod Laws
