@@ -3,6 +3,7 @@ use bounds::writers::copy;
 use bounds::writers::put_entity;
 use bounds::writers::put_kind;
 use forms::kinds::Kind;
+use forms::offsets::Offset;
 use schemas::entries::FoundEntry;
 use schemas::entries::find_action;
 use schemas::entries::find_entity;
@@ -49,7 +50,7 @@ pub fn literal_length(schema: &[u8], found: Literal) -> usize
             let body = &schema[start..end];
             body.len() + 1
         }
-        Literal::Entity => 5,
+        Literal::Entity => Offset::ENTITY_END,
         Literal::Nothing => 0,
     }
 }
@@ -65,7 +66,10 @@ pub fn write_literal(schema: &[u8], found: Literal, entity: usize, out: &mut [u8
         Literal::Action(start, end) => {
             let body = &schema[start..end];
             put_kind(out, Kind::ACTION, entity);
-            copy(&body[2..], &mut out[3..]);
+            copy(
+                &body[Offset::RECORD_COUNT..],
+                &mut out[Offset::ACTION_COUNT..],
+            );
         }
         Literal::Entity => put_entity(out, entity),
         Literal::Nothing => {}

@@ -5,6 +5,7 @@ use forms::kinds::Kind;
 use forms::kinds::Openness;
 use forms::limits::Limits;
 use forms::numbers::u16_at;
+use forms::offsets::Offset;
 use forms::widths::Width;
 use schemas::entries::FoundEntry;
 use schemas::entries::find_entity;
@@ -39,7 +40,7 @@ fn record_may_have(t: &[u8], name: usize, levels: usize) -> bool
     requires { ⌜ kind (now t) ≡ 8 ⌝ }
     ensures { λ r. ⌜ r ≡ recordMayHave name (dec levels (now (t .entry))) ⌝ }
 {
-    if t[1] == Openness::OPEN {
+    if t[Offset::OPEN] == Openness::OPEN {
         return true;
     }
     lists_attribute(t, name, levels)
@@ -85,7 +86,13 @@ pub fn may_have_attr(schema: &[u8], at: Sections, t: &[u8], name: usize) -> bool
         Kind::NEVER => true,
         Kind::ANY_ENTITY => true,
         Kind::RECORD => record_may_have(t, name, Limits::LEVELS),
-        Kind::ENTITY => entity_may_have(schema, at, &t[3..], u16_at(t, 1), name),
+        Kind::ENTITY => entity_may_have(
+            schema,
+            at,
+            &t[Offset::ENTITY_NAMES..],
+            u16_at(t, Offset::ENTITY_COUNT),
+            name,
+        ),
         Kind::ACTION => lists_attribute(t, name, Limits::LEVELS),
         _ => false,
     }

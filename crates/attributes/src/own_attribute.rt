@@ -1,6 +1,8 @@
 // The attribute of a record or an action, found in its own form.
 use forms::kinds::Kind;
+use forms::kinds::Requirement;
 use forms::numbers::u16_at;
+use forms::offsets::Offset;
 use forms::search::Found;
 use forms::search::find;
 use forms::widths::Width;
@@ -26,7 +28,7 @@ fn listed_attribute(t: &[u8], at: usize, name: usize, levels: usize) -> Place
     ensures { λ r. ⌜ Placed levels (now (t .entry)) (findIn name (decA (dec levels) (rd (now (t .entry)) «at») (part («at» + 2) («at» + 2 + 5 * rd (now (t .entry)) «at») (now (t .entry))) (rest («at» + 2 + 5 * rd (now (t .entry)) «at») (now (t .entry))))) r ⌝ }
 {
     let n = u16_at(t, at);
-    let start = at + 2;
+    let start = at + Width::COUNT;
     let end = start + Width::ATTRIBUTE * n;
     let es = &t[start..end];
     let bs = &t[end..];
@@ -35,7 +37,11 @@ fn listed_attribute(t: &[u8], at: usize, name: usize, levels: usize) -> Place
     };
     let e = &es[Width::ATTRIBUTE * i..];
     let s = end + off;
-    Place::At(s, s + u16_at(e, 3), e[2] == 1)
+    Place::At(
+        s,
+        s + u16_at(e, Offset::BODY_LENGTH),
+        e[Offset::REQUIRED] == Requirement::REQUIRED,
+    )
 }
 
 // The attribute of a record or an action; other kinds have none.
@@ -45,10 +51,10 @@ pub fn own_attribute(t: &[u8], name: usize, levels: usize) -> Place
 {
     let k = t[0];
     if k == Kind::RECORD {
-        return listed_attribute(t, 2, name, levels - 1);
+        return listed_attribute(t, Offset::RECORD_COUNT, name, levels - 1);
     }
     if k == Kind::ACTION {
-        return listed_attribute(t, 3, name, levels - 1);
+        return listed_attribute(t, Offset::ACTION_COUNT, name, levels - 1);
     }
     Place::Nothing
 }

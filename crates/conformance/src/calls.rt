@@ -5,6 +5,7 @@ use crate::verdicts::tested;
 use forms::kinds::ArgumentKind;
 use forms::kinds::ValueKind;
 use forms::numbers::u16_at;
+use forms::offsets::ValueOffset;
 use forms::widths::Width;
 use schemas::entries::FoundFunction;
 use schemas::entries::find_function;
@@ -35,7 +36,7 @@ pub fn call_returns(
     requires { ⌜ wholeVAs (wholeV levels) callKind (now v) ≡ true ⌝ }
     ensures { λ r. ⌜ r ≡ verdictOf (isExtension shorter (decS standard (now (schema .entry))) extension (rd (now (v .entry)) 1, argumentsOf levels (now (v .entry)))) ⌝ }
 {
-    let name = u16_at(v, 1);
+    let name = u16_at(v, ValueOffset::FUNCTION);
     let FoundFunction::At(f) = find_function(schema, sections, name) else {
         return Verdict::Unknown;
     };
@@ -63,9 +64,9 @@ fn arguments_fit(
     requires { ⌜ wholeVAs (wholeV levels) callKind (now v) ≡ true ⌝ }
     ensures { λ r. ⌜ r ≡ verdictOf (fitAll shorter (decS standard (now (schema .entry))) (argumentsOf levels (now (v .entry))) (argsOf (now (asked .entry)))) ⌝ }
 {
-    let n = u16_at(v, 3);
-    let end = 5 + Width::MEMBER * n;
-    let mut e = &v[5..end];
+    let n = u16_at(v, ValueOffset::CALL_COUNT);
+    let end = ValueOffset::CALL_ENTRIES + Width::MEMBER * n;
+    let mut e = &v[ValueOffset::CALL_ENTRIES..end];
     let mut b = &v[end..];
     let mut left = n;
     let mut k = asked;

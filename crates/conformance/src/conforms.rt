@@ -9,6 +9,8 @@ use crate::verdicts::tested;
 use forms::kinds::Kind;
 use forms::kinds::Openness;
 use forms::numbers::u16_at;
+use forms::offsets::Offset;
+use forms::offsets::ValueOffset;
 use forms::search::Found;
 use forms::search::find;
 use forms::search::skip_below;
@@ -42,8 +44,15 @@ pub fn conforms(schema: &[u8], sections: Sections, t: &[u8], v: &[u8], levels: u
     match k {
         Kind::SET => members_conform(schema, sections, &t[1..], v, levels - 1),
         Kind::RECORD => record_conforms(schema, sections, t, v, levels - 1),
-        Kind::ENTITY => tested(stands(&t[3..], u16_at(t, 1), u16_at(v, 1))),
-        Kind::ACTION => tested(is_action_of(u16_at(v, 1), u16_at(t, 1))),
+        Kind::ENTITY => tested(stands(
+            &t[Offset::ENTITY_NAMES..],
+            u16_at(t, Offset::ENTITY_COUNT),
+            u16_at(v, ValueOffset::UID_TYPE),
+        )),
+        Kind::ACTION => tested(is_action_of(
+            u16_at(v, ValueOffset::UID_TYPE),
+            u16_at(t, Offset::ACTION_NAME),
+        )),
         Kind::EXTENSION => call_returns(schema, sections, v, u16_at(t, 1), levels - 1),
         _ => Verdict::Holds,
     }
@@ -56,9 +65,9 @@ fn members_conform(schema: &[u8], sections: Sections, t: &[u8], v: &[u8], levels
     requires { ⌜ wholeVAs (wholeV levels) setKind (now v) ≡ true ⌝ }
     ensures { λ r. ⌜ r ≡ verdictOf (eachValue (λ x. has shorter (decS standard (now (schema .entry))) (dec levels (now (t .entry))) x) (membersOf levels (now (v .entry)))) ⌝ }
 {
-    let n = u16_at(v, 1);
-    let end = 3 + Width::MEMBER * n;
-    let mut e = &v[3..end];
+    let n = u16_at(v, ValueOffset::SET_COUNT);
+    let end = ValueOffset::SET_ENTRIES + Width::MEMBER * n;
+    let mut e = &v[ValueOffset::SET_ENTRIES..end];
     let mut b = &v[end..];
     let mut left = n;
     while 0 < left {
@@ -82,19 +91,19 @@ fn record_conforms(schema: &[u8], sections: Sections, t: &[u8], v: &[u8], levels
     requires { ⌜ wholeVAs (wholeV levels) recordKind (now v) ≡ true ⌝ }
     ensures { λ r. ⌜ r ≡ verdictOf (recordSaid (decS standard (now (schema .entry))) (isOpen (now (t .entry))) (attributesOf levels (now (t .entry))) (pairsOf levels (now (v .entry)))) ⌝ }
 {
-    let m = u16_at(t, 2);
-    let n = u16_at(v, 1);
-    let p = 4 + Width::ATTRIBUTE * m;
-    let q = 3 + Width::PAIR * n;
-    let mut f = &t[4..p];
+    let m = u16_at(t, Offset::RECORD_COUNT);
+    let n = u16_at(v, ValueOffset::RECORD_COUNT);
+    let p = Offset::RECORD_ENTRIES + Width::ATTRIBUTE * m;
+    let q = ValueOffset::RECORD_ENTRIES + Width::PAIR * n;
+    let mut f = &t[Offset::RECORD_ENTRIES..p];
     let mut c = &t[p..];
-    let mut e = &v[3..q];
+    let mut e = &v[ValueOffset::RECORD_ENTRIES..q];
     let mut b = &v[q..];
     let mut ahead = m;
     let mut left = n;
     while 0 < left {
         let name = u16_at(e, 0);
-        let len = u16_at(e, 2);
+        let len = u16_at(e, ValueOffset::PAIR_LENGTH);
         let s = skip_below(Width::ATTRIBUTE, f, c, ahead, name);
         let passed = s.entries;
         let bytes = s.bytes;
@@ -103,7 +112,17 @@ fn record_conforms(schema: &[u8], sections: Sections, t: &[u8], v: &[u8], levels
         c = &c[bytes..];
         ahead -= passed;
         let x = &b[0..len];
-        let said = pair_conforms(schema, sections, t[1], f, c, ahead, name, x, levels);
+        let said = pair_conforms(
+            schema,
+            sections,
+            t[Offset::OPEN],
+            f,
+            c,
+            ahead,
+            name,
+            x,
+            levels,
+        );
         let Verdict::Holds = said else {
             return said;
         };
@@ -136,6 +155,6 @@ fn pair_conforms(
     };
     let at = Width::ATTRIBUTE * i;
     let attribute = &f[at..];
-    let end = start + u16_at(attribute, 3);
+    let end = start + u16_at(attribute, Offset::BODY_LENGTH);
     conforms(schema, sections, &c[start..end], v, levels)
 }

@@ -1,5 +1,8 @@
 // The names that a record type requires.
+use forms::kinds::Requirement;
 use forms::numbers::u16_at;
+use forms::offsets::Offset;
+use forms::offsets::ValueOffset;
 use forms::search::skip_below;
 use forms::widths::Width;
 ghost use mathlib.Core.Path.{_≡_};
@@ -11,19 +14,12 @@ ghost use Rattle.cedar.specs.Conformance.{hasRequired};
 ghost use Rattle.forms.specs.Parts.{rd};
 ghost use Rattle.conformance.specs.Walks.{Records, attributesOf, pairsOf};
 
-// The required byte of an attribute.
-pub struct Requirement;
-
-impl Requirement {
-    pub const REQUIRED: u8 = 1;
-}
-
 // Whether an attribute is optional, or the first of n pairs has its name.
 fn is_met(attribute: &[u8], pairs: &[u8], n: usize) -> bool
     requires { ⌜ (5 ≤ length (now attribute)) × (length (now pairs) ≡ 4 * n) ⌝ }
     ensures { λ r. ⌜ r ≡ (not (eqb (getD (now (attribute .entry)) 2 0) 1) || (ltb 0 n && eqb (rd (now (attribute .entry)) 0) (rd (now (pairs .entry)) 0))) ⌝ }
 {
-    if attribute[2] != Requirement::REQUIRED {
+    if attribute[Offset::REQUIRED] != Requirement::REQUIRED {
         return true;
     }
     if n == 0 {
@@ -37,12 +33,12 @@ pub fn has_required(t: &[u8], v: &[u8]) -> bool
     requires { ⌜ Records (now t) (now v) ⌝ }
     ensures { λ r. ⌜ ((l : ℕ) → r ≡ hasRequired (attributesOf l (now (t .entry))) (pairsOf l (now (v .entry)))) ⌝ }
 {
-    let m = u16_at(t, 2);
-    let n = u16_at(v, 1);
-    let p = 4 + Width::ATTRIBUTE * m;
-    let q = 3 + Width::PAIR * n;
-    let mut f = &t[4..p];
-    let mut e = &v[3..q];
+    let m = u16_at(t, Offset::RECORD_COUNT);
+    let n = u16_at(v, ValueOffset::RECORD_COUNT);
+    let p = Offset::RECORD_ENTRIES + Width::ATTRIBUTE * m;
+    let q = ValueOffset::RECORD_ENTRIES + Width::PAIR * n;
+    let mut f = &t[Offset::RECORD_ENTRIES..p];
+    let mut e = &v[ValueOffset::RECORD_ENTRIES..q];
     let mut b = &v[q..];
     let mut ahead = m;
     let mut left = n;

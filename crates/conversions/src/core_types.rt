@@ -10,6 +10,7 @@ use bounds::writers::put_one;
 use bounds::writers::put_record;
 use forms::kinds::Kind;
 use forms::numbers::u16_at;
+use forms::offsets::Offset;
 use forms::refusals::Refusal;
 use forms::widths::Width;
 ghost use mathlib.Core.Path.{_≡_};
@@ -31,18 +32,23 @@ pub fn core_extent(t: &[u8], levels: usize) -> Extent
         Kind::ANY_ENTITY => Extent::Not(Refusal::CONVERSION),
         Kind::SET => core_extent(&t[1..], levels - 1).plus(1),
         Kind::RECORD => {
-            let n = u16_at(t, 2);
-            core_attributes_extent(entries_at(t, 2), bodies_at(t, 2), n, levels - 1).plus(4)
+            let n = u16_at(t, Offset::RECORD_COUNT);
+            core_attributes_extent(
+                entries_at(t, Offset::RECORD_COUNT),
+                bodies_at(t, Offset::RECORD_COUNT),
+                n,
+                levels - 1,
+            ).plus(Offset::RECORD_ENTRIES)
         }
         Kind::ENTITY => {
-            if u16_at(t, 1) == 1 {
-                return Extent::Of(5);
+            if u16_at(t, Offset::ENTITY_COUNT) == 1 {
+                return Extent::Of(Offset::ENTITY_END);
             }
             Extent::Not(Refusal::CONVERSION)
         }
-        Kind::ACTION => Extent::Of(5),
-        Kind::EXTENSION => Extent::Of(3),
-        _ => Extent::Of(1),
+        Kind::ACTION => Extent::Of(Offset::ENTITY_END),
+        Kind::EXTENSION => Extent::Of(Offset::EXTENSION_END),
+        _ => Extent::Of(Offset::ELEMENT),
     }
 }
 
@@ -56,7 +62,7 @@ fn core_attributes_extent(es: &[u8], bs: &[u8], n: usize, levels: usize) -> Exte
     let mut left = n;
     let mut sum = 0;
     while 0 < left {
-        let len = u16_at(e, 3);
+        let len = u16_at(e, Offset::BODY_LENGTH);
         let Extent::Of(x) = core_extent(&b[0..len], levels) else {
             return Extent::Not(Refusal::CONVERSION);
         };
@@ -94,28 +100,28 @@ pub fn write_core(t: &[u8], levels: usize, out: &mut [u8]) -> usize
             write_core(&t[1..], levels - 1, &mut out[1..]) + 1
         }
         Kind::RECORD => {
-            let n = u16_at(t, 2);
-            put_record(out, t[1], n);
+            let n = u16_at(t, Offset::RECORD_COUNT);
+            put_record(out, t[Offset::OPEN], n);
             write_core_attributes(
-                entries_at(t, 2),
-                bodies_at(t, 2),
+                entries_at(t, Offset::RECORD_COUNT),
+                bodies_at(t, Offset::RECORD_COUNT),
                 n,
                 levels - 1,
-                &mut out[4..],
+                &mut out[Offset::RECORD_ENTRIES..],
             )
-                + 4
+                + Offset::RECORD_ENTRIES
         }
         Kind::ENTITY => {
-            put_entity(out, u16_at(t, 3));
-            5
+            put_entity(out, u16_at(t, Offset::ENTITY_NAMES));
+            Offset::ENTITY_END
         }
         Kind::ACTION => {
-            put_entity(out, u16_at(t, 1));
-            5
+            put_entity(out, u16_at(t, Offset::ACTION_NAME));
+            Offset::ENTITY_END
         }
         Kind::EXTENSION => {
-            put_kind(out, Kind::EXTENSION, u16_at(t, 1));
-            3
+            put_kind(out, Kind::EXTENSION, u16_at(t, Offset::EXTENSION_NAME));
+            Offset::EXTENSION_END
         }
         _ => {
             put_one(out, bool_or(k));
@@ -136,9 +142,9 @@ fn write_core_attributes(es: &[u8], bs: &[u8], n: usize, levels: usize, out: &mu
     let mut at = 0;
     let mut pos = Width::ATTRIBUTE * n;
     while 0 < left {
-        let len = u16_at(e, 3);
+        let len = u16_at(e, Offset::BODY_LENGTH);
         let x = write_core(&b[0..len], levels, &mut out[pos..]);
-        put_attribute(&mut out[at..], u16_at(e, 0), e[2], x);
+        put_attribute(&mut out[at..], u16_at(e, 0), e[Offset::REQUIRED], x);
         at += Width::ATTRIBUTE;
         pos += x;
         e = &e[Width::ATTRIBUTE..];

@@ -82,3 +82,12 @@ impl Openness {
 
     pub const OPEN: u8 = 1;
 }
+
+// The required byte of an attribute's entry.
+pub struct Requirement;
+
+impl Requirement {
+    pub const OPTIONAL: u8 = 0;
+
+    pub const REQUIRED: u8 = 1;
+}

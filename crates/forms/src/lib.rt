@@ -4,6 +4,7 @@ pub mod limits;
 pub mod lists;
 pub mod modes;
 pub mod numbers;
+pub mod offsets;
 pub mod refusals;
 pub mod search;
 pub mod types;

@@ -1,6 +1,7 @@
 // Whether bytes are a whole list of type forms.
 use crate::limits::Limits;
 use crate::numbers::u16_at;
+use crate::offsets::Offset;
 use crate::types::whole_type;
 use crate::widths::Width;
 ghost use mathlib.Core.Path.{_≡_};
@@ -41,16 +42,16 @@ pub fn whole_list(l: &[u8]) -> bool
     if Limits::BLOCK_BYTES < l.len() {
         return false;
     }
-    if l.len() < 2 {
+    if l.len() < Offset::LIST_ENTRIES {
         return false;
     }
     let n = u16_at(l, 0);
     if Limits::LISTED < n {
         return false;
     }
-    let end = 2 + Width::MEMBER * n;
+    let end = Offset::LIST_ENTRIES + Width::MEMBER * n;
     if l.len() < end {
         return false;
     }
-    types_within(&l[2..end], &l[end..], n)
+    types_within(&l[Offset::LIST_ENTRIES..end], &l[end..], n)
 }

@@ -1,8 +1,10 @@
 // Whether bytes are a whole type form.
 use crate::kinds::Kind;
 use crate::kinds::Openness;
+use crate::kinds::Requirement;
 use crate::limits::Limits;
 use crate::numbers::u16_at;
+use crate::offsets::Offset;
 use crate::widths::Width;
 ghost use mathlib.Core.Path.{_≡_};
 ghost use Prim.Native.Nat.{_*_, _<_, _≤_};
@@ -37,17 +39,17 @@ pub fn names_ascend(names: &[u8], n: usize) -> bool
 fn entity_within(t: &[u8]) -> bool
     ensures { λ r. ⌜ r ≡ namesFit (now (t .entry)) ⌝ }
 {
-    if t.len() < 3 {
+    if t.len() < Offset::ENTITY_NAMES {
         return false;
     }
-    let n = u16_at(t, 1);
+    let n = u16_at(t, Offset::ENTITY_COUNT);
     if n < 1 {
         return false;
     }
-    if t.len() != 3 + Width::NAME * n {
+    if t.len() != Offset::ENTITY_NAMES + Width::NAME * n {
         return false;
     }
-    names_ascend(&t[3..], n)
+    names_ascend(&t[Offset::ENTITY_NAMES..], n)
 }
 
 // Whether an attribute's entry has a flag and a name of at least low.
@@ -55,7 +57,7 @@ fn attribute_follows(e: &[u8], low: usize) -> bool
     requires { ⌜ 5 ≤ length (now e) ⌝ }
     ensures { λ r. ⌜ r ≡ attrRow .ok low (now (e .entry)) ⌝ }
 {
-    if 1 < e[2] {
+    if Requirement::REQUIRED < e[Offset::REQUIRED] {
         return false;
     }
     low <= u16_at(e, 0)
@@ -66,7 +68,7 @@ fn attributes_within(t: &[u8], at: usize, levels: usize) -> bool
     requires { ⌜ at < 4 ⌝ }
     ensures { λ r. ⌜ r ≡ tableFits attrRow (λ _. whole levels) 0 at (now (t .entry)) ⌝ }
 {
-    let start = at + 2;
+    let start = at + Width::COUNT;
     if t.len() < start {
         return false;
     }
@@ -83,7 +85,7 @@ fn attributes_within(t: &[u8], at: usize, levels: usize) -> bool
         if !attribute_follows(e, low) {
             return false;
         }
-        let len = u16_at(e, 3);
+        let len = u16_at(e, Offset::BODY_LENGTH);
         if b.len() < len {
             return false;
         }
@@ -110,24 +112,24 @@ pub fn type_within(t: &[u8], levels: usize) -> bool
     }
     let k = t[0];
     match k {
-        Kind::SET => type_within(&t[1..], levels - 1),
+        Kind::SET => type_within(&t[Offset::ELEMENT..], levels - 1),
         Kind::RECORD => {
-            if t.len() < 2 {
+            if t.len() < Offset::RECORD_COUNT {
                 return false;
             }
-            if Openness::OPEN < t[1] {
+            if Openness::OPEN < t[Offset::OPEN] {
                 return false;
             }
-            attributes_within(t, 2, levels - 1)
+            attributes_within(t, Offset::RECORD_COUNT, levels - 1)
         }
         Kind::ENTITY => entity_within(t),
-        Kind::ACTION => attributes_within(t, 3, levels - 1),
-        Kind::EXTENSION => t.len() == 3,
+        Kind::ACTION => attributes_within(t, Offset::ACTION_COUNT, levels - 1),
+        Kind::EXTENSION => t.len() == Offset::EXTENSION_END,
         _ => {
             if Kind::EXTENSION < k {
                 return false;
             }
-            t.len() == 1
+            t.len() == Offset::ELEMENT
         }
     }
 }

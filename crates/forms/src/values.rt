@@ -2,6 +2,7 @@
 use crate::kinds::ValueKind;
 use crate::limits::Limits;
 use crate::numbers::u16_at;
+use crate::offsets::ValueOffset;
 use crate::widths::Width;
 ghost use mathlib.Core.Path.{_≡_};
 ghost use Prim.Native.Nat.{_<_};
@@ -16,7 +17,7 @@ fn members_within(v: &[u8], at: usize, levels: usize) -> bool
     requires { ⌜ at < 4 ⌝ }
     ensures { λ r. ⌜ r ≡ tableFits memberRow (λ _. wholeV levels) tt at (now (v .entry)) ⌝ }
 {
-    let start = at + 2;
+    let start = at + Width::COUNT;
     if v.len() < start {
         return false;
     }
@@ -47,15 +48,15 @@ fn members_within(v: &[u8], at: usize, levels: usize) -> bool
 fn pairs_within(v: &[u8], levels: usize) -> bool
     ensures { λ r. ⌜ r ≡ tableFits pairRow (λ _. wholeV levels) 0 1 (now (v .entry)) ⌝ }
 {
-    if v.len() < 3 {
+    if v.len() < ValueOffset::RECORD_ENTRIES {
         return false;
     }
-    let n = u16_at(v, 1);
-    let end = 3 + Width::PAIR * n;
+    let n = u16_at(v, ValueOffset::RECORD_COUNT);
+    let end = ValueOffset::RECORD_ENTRIES + Width::PAIR * n;
     if v.len() < end {
         return false;
     }
-    let mut e = &v[3..end];
+    let mut e = &v[ValueOffset::RECORD_ENTRIES..end];
     let mut b = &v[end..];
     let mut left = n;
     let mut low = 0;
@@ -64,7 +65,7 @@ fn pairs_within(v: &[u8], levels: usize) -> bool
         if name < low {
             return false;
         }
-        let len = u16_at(e, 2);
+        let len = u16_at(e, ValueOffset::PAIR_LENGTH);
         if b.len() < len {
             return false;
         }
@@ -91,22 +92,22 @@ pub fn value_within(v: &[u8], levels: usize) -> bool
     }
     let k = v[0];
     match k {
-        ValueKind::LONG => v.len() == 9,
+        ValueKind::LONG => v.len() == ValueOffset::LONG_END,
         ValueKind::STRING => {
-            if v.len() < 3 {
+            if v.len() < ValueOffset::STRING {
                 return false;
             }
-            v.len() == 3 + u16_at(v, 1)
+            v.len() == ValueOffset::STRING + u16_at(v, ValueOffset::STRING_COUNT)
         }
-        ValueKind::UID => v.len() == 5,
-        ValueKind::SET => members_within(v, 1, levels - 1),
+        ValueKind::UID => v.len() == ValueOffset::UID_END,
+        ValueKind::SET => members_within(v, ValueOffset::SET_COUNT, levels - 1),
         ValueKind::RECORD => pairs_within(v, levels - 1),
-        ValueKind::CALL => members_within(v, 3, levels - 1),
+        ValueKind::CALL => members_within(v, ValueOffset::CALL_COUNT, levels - 1),
         _ => {
             if ValueKind::CALL < k {
                 return false;
             }
-            v.len() == 1
+            v.len() == ValueOffset::BOOLEAN_END
         }
     }
 }

@@ -2,6 +2,9 @@
 pub struct Width;
 
 impl Width {
+    // The count before a table.
+    pub const COUNT: usize = 2;
+
     // A name of an entity type form.
     pub const NAME: usize = 2;
 

@@ -1,8 +1,8 @@
 // Whether two types have no entity type in common.
 use crate::names::names_share;
-use crate::places::Place;
 use forms::kinds::Kind;
 use forms::numbers::u16_at;
+use forms::offsets::Offset;
 ghost use mathlib.Core.Path.{_≡_};
 ghost use mathlib.Core.Bool.{true};
 ghost use Rattle.cedar.specs.Limits.{standard};
@@ -23,8 +23,8 @@ fn type_names(t: &[u8]) -> TypeNames
 {
     let k = t[0];
     match k {
-        Kind::ENTITY => TypeNames::From(Place::ENTITY_NAMES, u16_at(t, Place::ENTITY_COUNT)),
-        Kind::ACTION => TypeNames::From(Place::ACTION_NAME, 1),
+        Kind::ENTITY => TypeNames::From(Offset::ENTITY_NAMES, u16_at(t, Offset::ENTITY_COUNT)),
+        Kind::ACTION => TypeNames::From(Offset::ACTION_NAME, 1),
         _ => TypeNames::Nothing,
     }
 }

@@ -1,12 +1,12 @@
 // Whether a type and a core type, a plain one, may have a value in common.
 use crate::is_plain::kind_is_plain;
 use crate::names::names_share;
-use crate::places::Place;
-use crate::places::Requirement;
 use crate::same_bytes::same_bytes;
 use forms::kinds::Kind;
 use forms::kinds::Openness;
+use forms::kinds::Requirement;
 use forms::numbers::u16_at;
+use forms::offsets::Offset;
 use forms::search::Found;
 use forms::search::find;
 use forms::search::skip_below;
@@ -47,12 +47,12 @@ fn entity_consistent(t0: &[u8], t1: &[u8], levels: usize) -> bool
     match j {
         Kind::ANY_ENTITY => true,
         Kind::ENTITY => names_share(
-            &t0[Place::ENTITY_NAMES..],
-            u16_at(t0, Place::ENTITY_COUNT),
-            &t1[Place::ENTITY_NAMES..],
+            &t0[Offset::ENTITY_NAMES..],
+            u16_at(t0, Offset::ENTITY_COUNT),
+            &t1[Offset::ENTITY_NAMES..],
             1,
         ),
-        Kind::ACTION => u16_at(t0, Place::ACTION_NAME) == u16_at(t1, Place::ENTITY_NAMES),
+        Kind::ACTION => u16_at(t0, Offset::ACTION_NAME) == u16_at(t1, Offset::ENTITY_NAMES),
         _ => false,
     }
 }
@@ -66,7 +66,7 @@ fn attribute_covered(e: &[u8], openness: u8, fs: &[u8], cs: &[u8], m: usize) -> 
     if openness == Openness::OPEN {
         return true;
     }
-    if e[Place::REQUIRED] != Requirement::REQUIRED {
+    if e[Offset::REQUIRED] != Requirement::REQUIRED {
         return true;
     }
     let Found::At(_, _) = find(Width::ATTRIBUTE, fs, cs, m, u16_at(e, 0)) else {
@@ -123,10 +123,10 @@ fn attribute_consistent(
         if openness == Openness::OPEN {
             return true;
         }
-        return f[Place::REQUIRED] != Requirement::REQUIRED;
+        return f[Offset::REQUIRED] != Requirement::REQUIRED;
     };
     let at = Width::ATTRIBUTE * i;
-    let len = u16_at(&es[at..], Place::BODY_LENGTH);
+    let len = u16_at(&es[at..], Offset::BODY_LENGTH);
     let b = &bs[off..];
     is_consistent_with(&b[0..len], u, levels)
 }
@@ -160,7 +160,7 @@ fn attributes_consistent(
         e = &e[at..];
         b = &b[off..];
         left -= i;
-        let len = u16_at(f, Place::BODY_LENGTH);
+        let len = u16_at(f, Offset::BODY_LENGTH);
         if !attribute_consistent(openness, e, b, left, f, &c[0..len], levels) {
             return false;
         }
@@ -186,19 +186,19 @@ pub fn is_consistent_with(t0: &[u8], t1: &[u8], levels: usize) -> bool
         return kind_consistent(j, k);
     }
     match k {
-        Kind::SET => is_consistent_with(&t0[Place::ELEMENT..], &t1[Place::ELEMENT..], levels - 1),
+        Kind::SET => is_consistent_with(&t0[Offset::ELEMENT..], &t1[Offset::ELEMENT..], levels - 1),
         Kind::RECORD => {
-            let n = u16_at(t0, Place::RECORD_COUNT);
-            let m = u16_at(t1, Place::RECORD_COUNT);
-            let p = Place::RECORD_ENTRIES + Width::ATTRIBUTE * n;
-            let q = Place::RECORD_ENTRIES + Width::ATTRIBUTE * m;
-            let es = &t0[Place::RECORD_ENTRIES..p];
-            let fs = &t1[Place::RECORD_ENTRIES..q];
+            let n = u16_at(t0, Offset::RECORD_COUNT);
+            let m = u16_at(t1, Offset::RECORD_COUNT);
+            let p = Offset::RECORD_ENTRIES + Width::ATTRIBUTE * n;
+            let q = Offset::RECORD_ENTRIES + Width::ATTRIBUTE * m;
+            let es = &t0[Offset::RECORD_ENTRIES..p];
+            let fs = &t1[Offset::RECORD_ENTRIES..q];
             let cs = &t1[q..];
-            if !attributes_consistent(t0[Place::OPEN], es, &t0[p..], n, fs, cs, m, levels - 1) {
+            if !attributes_consistent(t0[Offset::OPEN], es, &t0[p..], n, fs, cs, m, levels - 1) {
                 return false;
             }
-            names_covered(es, n, t1[Place::OPEN], fs, cs, m)
+            names_covered(es, n, t1[Offset::OPEN], fs, cs, m)
         }
         Kind::EXTENSION => same_bytes(t0, t1),
         _ => kind_is_plain(k),

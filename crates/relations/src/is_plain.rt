@@ -1,7 +1,7 @@
 // Whether a type is plain throughout, as the types of a core schema are.
-use crate::places::Place;
 use forms::kinds::Kind;
 use forms::numbers::u16_at;
+use forms::offsets::Offset;
 use forms::widths::Width;
 ghost use mathlib.Core.Path.{_≡_};
 ghost use mathlib.Core.Bool.{true};
@@ -28,7 +28,7 @@ fn attributes_plain(es: &[u8], bs: &[u8], n: usize, levels: usize) -> bool
     let mut b = bs;
     let mut left = n;
     while 0 < left {
-        let len = u16_at(e, Place::BODY_LENGTH);
+        let len = u16_at(e, Offset::BODY_LENGTH);
         if !is_plain(&b[0..len], levels) {
             return false;
         }
@@ -46,13 +46,13 @@ pub fn is_plain(t: &[u8], levels: usize) -> bool
 {
     let k = t[0];
     match k {
-        Kind::SET => is_plain(&t[Place::ELEMENT..], levels - 1),
+        Kind::SET => is_plain(&t[Offset::ELEMENT..], levels - 1),
         Kind::RECORD => {
-            let n = u16_at(t, Place::RECORD_COUNT);
-            let p = Place::RECORD_ENTRIES + Width::ATTRIBUTE * n;
-            attributes_plain(&t[Place::RECORD_ENTRIES..p], &t[p..], n, levels - 1)
+            let n = u16_at(t, Offset::RECORD_COUNT);
+            let p = Offset::RECORD_ENTRIES + Width::ATTRIBUTE * n;
+            attributes_plain(&t[Offset::RECORD_ENTRIES..p], &t[p..], n, levels - 1)
         }
-        Kind::ENTITY => u16_at(t, Place::ENTITY_COUNT) == 1,
+        Kind::ENTITY => u16_at(t, Offset::ENTITY_COUNT) == 1,
         Kind::EXTENSION => true,
         _ => kind_is_plain(k),
     }

@@ -2,11 +2,11 @@
 use crate::modes::is_permissive;
 use crate::names::names_subset;
 use crate::names::same_attribute_names;
-use crate::places::Place;
 use crate::same_bytes::same_bytes;
 use forms::kinds::Kind;
 use forms::kinds::Openness;
 use forms::numbers::u16_at;
+use forms::offsets::Offset;
 use forms::search::Found;
 use forms::search::find;
 use forms::widths::Width;
@@ -66,14 +66,14 @@ fn entity_under(mode: u8, t0: &[u8], t1: &[u8]) -> bool
     requires { ⌜ EntityForm (now t1) ⌝ }
     ensures { λ r. ⌜ r ≡ subNames (modeAs mode) (entityNames (now (t0 .entry))) (entityNames (now (t1 .entry))) ⌝ }
 {
-    let a = &t0[Place::ENTITY_NAMES..];
-    let b = &t1[Place::ENTITY_NAMES..];
+    let a = &t0[Offset::ENTITY_NAMES..];
+    let b = &t1[Offset::ENTITY_NAMES..];
     if is_permissive(mode) {
         return names_subset(
             a,
-            u16_at(t0, Place::ENTITY_COUNT),
+            u16_at(t0, Offset::ENTITY_COUNT),
             b,
-            u16_at(t1, Place::ENTITY_COUNT),
+            u16_at(t1, Offset::ENTITY_COUNT),
         );
     }
     same_bytes(a, b)
@@ -130,11 +130,11 @@ fn attributes_subtype(
         e = &e[at..];
         b = &b[off..];
         left -= i;
-        if !required_under(mode, e[Place::REQUIRED], f[Place::REQUIRED]) {
+        if !required_under(mode, e[Offset::REQUIRED], f[Offset::REQUIRED]) {
             return false;
         }
-        let lower = u16_at(e, Place::BODY_LENGTH);
-        let upper = u16_at(f, Place::BODY_LENGTH);
+        let lower = u16_at(e, Offset::BODY_LENGTH);
+        let upper = u16_at(f, Offset::BODY_LENGTH);
         if !is_subtype(mode, &b[0..lower], &c[0..upper], levels) {
             return false;
         }
@@ -159,18 +159,18 @@ pub fn is_subtype(mode: u8, t0: &[u8], t1: &[u8], levels: usize) -> bool
     match k {
         Kind::SET => is_subtype(
             mode,
-            &t0[Place::ELEMENT..],
-            &t1[Place::ELEMENT..],
+            &t0[Offset::ELEMENT..],
+            &t1[Offset::ELEMENT..],
             levels - 1,
         ),
         Kind::RECORD => {
-            let n = u16_at(t0, Place::RECORD_COUNT);
-            let m = u16_at(t1, Place::RECORD_COUNT);
-            let p = Place::RECORD_ENTRIES + Width::ATTRIBUTE * n;
-            let q = Place::RECORD_ENTRIES + Width::ATTRIBUTE * m;
-            let es = &t0[Place::RECORD_ENTRIES..p];
-            let fs = &t1[Place::RECORD_ENTRIES..q];
-            if !record_under(mode, t0[Place::OPEN], es, n, t1[Place::OPEN], fs, m) {
+            let n = u16_at(t0, Offset::RECORD_COUNT);
+            let m = u16_at(t1, Offset::RECORD_COUNT);
+            let p = Offset::RECORD_ENTRIES + Width::ATTRIBUTE * n;
+            let q = Offset::RECORD_ENTRIES + Width::ATTRIBUTE * m;
+            let es = &t0[Offset::RECORD_ENTRIES..p];
+            let fs = &t1[Offset::RECORD_ENTRIES..q];
+            if !record_under(mode, t0[Offset::OPEN], es, n, t1[Offset::OPEN], fs, m) {
                 return false;
             }
             attributes_subtype(mode, es, &t0[p..], n, fs, &t1[q..], m, levels - 1)

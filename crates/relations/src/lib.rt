@@ -5,5 +5,4 @@ pub mod is_plain;
 pub mod is_subtype;
 pub mod modes;
 pub mod names;
-pub mod places;
 pub mod same_bytes;

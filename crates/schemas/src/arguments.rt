@@ -1,6 +1,7 @@
 // The body of a function's entry: the arguments that it takes.
 use forms::kinds::ArgumentKind;
 use forms::numbers::u16_at;
+use forms::offsets::SchemaOffset;
 use forms::widths::Width;
 ghost use mathlib.Core.Path.{_≡_};
 ghost use Prim.Native.Nat.{_≤_};
@@ -16,7 +17,7 @@ fn argument_within(a: &[u8]) -> bool
     if k == ArgumentKind::EXTENSION {
         return true;
     }
-    if u16_at(a, 1) != 0 {
+    if u16_at(a, SchemaOffset::ARGUMENT_EXTENSION) != 0 {
         return false;
     }
     if k < ArgumentKind::BOOL {

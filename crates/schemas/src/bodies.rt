@@ -1,6 +1,7 @@
 // The body of an entity type or an action: a record form.
 use forms::kinds::Kind;
 use forms::kinds::Openness;
+use forms::offsets::Offset;
 use forms::types::whole_type;
 ghost use mathlib.Core.Path.{_≡_};
 ghost use Rattle.cedar.specs.Limits.{standard};
@@ -17,7 +18,7 @@ pub fn body_within(b: &[u8], closed: bool) -> bool
         return false;
     }
     if closed {
-        return b[1] == Openness::CLOSED;
+        return b[Offset::OPEN] == Openness::CLOSED;
     }
     true
 }

@@ -3,6 +3,7 @@ use crate::order::Returns;
 use crate::sections::Section;
 use crate::sections::Sections;
 use forms::numbers::u16_at;
+use forms::offsets::SchemaOffset;
 use forms::widths::Width;
 ghost use mathlib.Core.Path.{_≡_};
 ghost use Prim.Native.Nat.{_≤_};
@@ -45,7 +46,7 @@ fn has_key(e: &[u8], key: Key) -> bool
             if kind != u16_at(e, 0) {
                 return false;
             }
-            id == u16_at(e, 2)
+            id == u16_at(e, SchemaOffset::ACTION_ID)
         }
     }
 }
@@ -102,8 +103,8 @@ pub fn find_function(s: &[u8], at: Sections, name: usize) -> FoundFunction
     };
     let e = &s[i..];
     FoundFunction::At(Signature {
-        returns: e[2] == Returns::EXTENSION,
-        extension: u16_at(e, 3),
+        returns: e[SchemaOffset::RETURNS] == Returns::EXTENSION,
+        extension: u16_at(e, SchemaOffset::EXTENSION),
         start,
         end,
     })

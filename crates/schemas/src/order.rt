@@ -1,6 +1,7 @@
 // Whether an entry of a section may follow the one before.
 use forms::kinds::EntityKind;
 use forms::numbers::u16_at;
+use forms::offsets::SchemaOffset;
 ghost use mathlib.Core.Path.{_≡_};
 ghost use Prim.Native.Nat.{_≤_};
 ghost use lib.ListN.{length};
@@ -32,7 +33,7 @@ pub fn entity_follows(e: &[u8], low: usize) -> bool
     if is_action(name) {
         return false;
     }
-    if EntityKind::ENUMERATED < e[2] {
+    if EntityKind::ENUMERATED < e[SchemaOffset::ENTITY_KIND] {
         return false;
     }
     low <= name
@@ -48,7 +49,7 @@ pub fn action_follows(e: &[u8], low: usize, id: usize) -> bool
         return false;
     }
     if name == low {
-        return id <= u16_at(e, 2);
+        return id <= u16_at(e, SchemaOffset::ACTION_ID);
     }
     low < name
 }
@@ -59,13 +60,13 @@ pub fn function_follows(e: &[u8], low: usize) -> bool
     ensures { λ r. ⌜ r ≡ functionRow .ok low (now (e .entry)) ⌝ }
 {
     let name = u16_at(e, 0);
-    if e[2] == Returns::EXTENSION {
+    if e[SchemaOffset::RETURNS] == Returns::EXTENSION {
         return low <= name;
     }
-    if e[2] != Returns::NOTHING {
+    if e[SchemaOffset::RETURNS] != Returns::NOTHING {
         return false;
     }
-    if u16_at(e, 3) != 0 {
+    if u16_at(e, SchemaOffset::EXTENSION) != 0 {
         return false;
     }
     low <= name

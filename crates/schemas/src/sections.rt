@@ -6,6 +6,7 @@ use crate::order::entity_follows;
 use crate::order::function_follows;
 use forms::kinds::EntityKind;
 use forms::numbers::u16_at;
+use forms::offsets::SchemaOffset;
 use forms::widths::Width;
 ghost use mathlib.Core.Path.{_≡_};
 ghost use Rattle.cedar.specs.Limits.{standard};
@@ -58,11 +59,14 @@ pub fn entities_within(s: &[u8], x: Section) -> Passed
         if !entity_follows(e, low) {
             return Passed::Broken;
         }
-        let len = u16_at(e, 3);
+        let len = u16_at(e, SchemaOffset::ENTITY_LENGTH);
         if b.len() < len {
             return Passed::Broken;
         }
-        if !body_within(&b[0..len], e[2] == EntityKind::ENUMERATED) {
+        if !body_within(
+            &b[0..len],
+            e[SchemaOffset::ENTITY_KIND] == EntityKind::ENUMERATED,
+        ) {
             return Passed::Broken;
         }
         low = u16_at(e, 0) + 1;
@@ -89,7 +93,7 @@ pub fn actions_within(s: &[u8], x: Section) -> Passed
         if !action_follows(e, low, id) {
             return Passed::Broken;
         }
-        let len = u16_at(e, 4);
+        let len = u16_at(e, SchemaOffset::ACTION_LENGTH);
         if b.len() < len {
             return Passed::Broken;
         }
@@ -97,7 +101,7 @@ pub fn actions_within(s: &[u8], x: Section) -> Passed
             return Passed::Broken;
         }
         low = u16_at(e, 0);
-        id = u16_at(e, 2) + 1;
+        id = u16_at(e, SchemaOffset::ACTION_ID) + 1;
         e = &e[Width::ACTION..];
         b = &b[len..];
         left -= 1;
@@ -120,7 +124,7 @@ pub fn functions_within(s: &[u8], x: Section) -> Passed
         if !function_follows(e, low) {
             return Passed::Broken;
         }
-        let len = u16_at(e, 5);
+        let len = u16_at(e, SchemaOffset::FUNCTION_LENGTH);
         if b.len() < len {
             return Passed::Broken;
         }

@@ -7,6 +7,7 @@ use crate::sections::entities_within;
 use crate::sections::functions_within;
 use forms::limits::Limits;
 use forms::numbers::u16_at;
+use forms::offsets::SchemaOffset;
 use forms::widths::Width;
 ghost use mathlib.Core.Path.{_≡_};
 ghost use Rattle.cedar.specs.Types.{present};
@@ -34,9 +35,9 @@ fn counts_within(s: &[u8]) -> bool
     if s.len() < Counts::BYTES {
         return false;
     }
-    let entities = u16_at(s, 0);
-    let actions = u16_at(s, 2);
-    let functions = u16_at(s, 4);
+    let entities = u16_at(s, SchemaOffset::ENTITIES);
+    let actions = u16_at(s, SchemaOffset::ACTIONS);
+    let functions = u16_at(s, SchemaOffset::FUNCTIONS);
     if Limits::ENTITIES < entities {
         return false;
     }
@@ -60,9 +61,9 @@ pub fn check_schema(s: &[u8]) -> Checked
     if !counts_within(s) {
         return Checked::Broken;
     }
-    let m = u16_at(s, 0);
-    let n = u16_at(s, 2);
-    let k = u16_at(s, 4);
+    let m = u16_at(s, SchemaOffset::ENTITIES);
+    let n = u16_at(s, SchemaOffset::ACTIONS);
+    let k = u16_at(s, SchemaOffset::FUNCTIONS);
     let second = Counts::BYTES + Width::ENTITY * m;
     let third = second + Width::ACTION * n;
     let entities = Section::new(m, Counts::BYTES, third + Width::FUNCTION * k);

@@ -2,3 +2,4 @@ pub mod Answers
 pub mod Handed
 pub mod Uids
 pub mod Laws
+pub mod Sequence

@@ -6,6 +6,7 @@ use attributes::euid_literal::literal_length;
 use attributes::euid_literal::write_literal;
 use forms::kinds::ValueKind;
 use forms::numbers::u16_at;
+use forms::offsets::ValueOffset;
 use forms::refusals::Refusal;
 use forms::values::whole_value;
 use schemas::whole::Checked;
@@ -37,8 +38,8 @@ pub fn euid_literal(schema: &[u8], v: &[u8], out: &mut [u8]) -> Answer
     if !whole_uid(v) {
         return Answer::Refused(Refusal::VALUE);
     }
-    let entity = u16_at(v, 1);
-    let found = find_literal(schema, at, entity, u16_at(v, 3));
+    let entity = u16_at(v, ValueOffset::UID_TYPE);
+    let found = find_literal(schema, at, entity, u16_at(v, ValueOffset::UID_ID));
     let n = literal_length(schema, found);
     if n == 0 {
         return Answer::Nothing;
