@@ -1,4 +1,5 @@
 // The type of a literal, lookup of attributes, may-have and attribute names.
+pub mod entity_attribute;
 pub mod euid_literal;
 pub mod may_have_attr;
 pub mod own_attribute;

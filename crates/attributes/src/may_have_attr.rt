@@ -52,7 +52,7 @@ fn entity_type_may_have(schema: &[u8], at: Sections, entity: usize, name: usize)
     ensures { λ r. ⌜ r ≡ mayHaveType (decS standard (now (schema .entry))) name entity ⌝ }
 {
     let FoundEntry::At(_, start, end) = find_entity(schema, at, entity) else {
-        return true;
+        return true; // the schema says nothing against it
     };
     record_may_have(&schema[start..end], name, Limits::LEVELS)
 }

@@ -1,5 +1,9 @@
 -- Laws of the definitions, for the proofs here and in the crates above.
 pub mod Writing
-pub mod Tables
 pub mod Extents
 pub mod Laying
+pub mod Tables
+pub mod Names
+pub mod Kinds
+pub mod Pairs
+pub mod Bounds

@@ -1,3 +1,6 @@
 pub mod Written
 pub mod Extents
+pub mod Kinds
+pub mod Names
+pub mod Pairs
 pub mod Laws

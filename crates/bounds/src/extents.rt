@@ -2,6 +2,7 @@
 use forms::limits::Limits;
 ghost use mathlib.Core.Path.{_≡_};
 ghost use Rattle.bounds.specs.Extents.{cap, plus};
+ghost use Rattle.bounds.specs.Pairs.{behind};
 
 // A length of at most one byte more than the largest form, or the number of a refusal.
 pub enum Extent {
@@ -32,4 +33,29 @@ impl Extent {
             Extent::Not(e) => Extent::Not(e),
         }
     }
+}
+
+// How many attributes are kept and how long they are together, or the number of a refusal.
+pub enum Kept {
+    Of(usize, usize),
+    Not(u8),
+}
+
+impl Kept {
+    // The form with so many bytes before its attributes.
+    pub fn behind(self, n: usize) -> Extent
+        ensures { λ r. ⌜ r ≡ behind n self ⌝ }
+    {
+        match self {
+            Kept::Of(_, x) => Extent::Of(capped(capped(x) + capped(n))),
+            Kept::Not(e) => Extent::Not(e),
+        }
+    }
+}
+
+// What an attribute comes to: kept with a type of so many bytes, dropped, or the number of a refusal.
+pub enum Pair {
+    Kept(usize),
+    Dropped,
+    Not(u8),
 }

@@ -61,7 +61,7 @@ cut-extent {w = w} {v} {p} {r} {s} k x y g h = h ∙ ap (plus (length p)) g ∙ 
 abbrev pub before : ℕ → Bool → Result Ty → Result Attrs → Result Attrs
 before n r c cs = bind c (λ t. bind cs (λ l. ok (attr n r t l)))
 
-table-length : (n : ℕ) (r : Bool) (t : Ty) (xs : Attrs) → length (table (attr n r t xs)) ≡ length (table xs) + (length (enc t) + 5)
+pub table-length : (n : ℕ) (r : Bool) (t : Ty) (xs : Attrs) → length (table (attr n r t xs)) ≡ length (table xs) + (length (enc t) + 5)
 unfolding enc
 table-length n r t xs = omega (arith, length-append (entries (attr n r t xs)) (bodies (attr n r t xs)), length-append (enc t) (bodies xs), length-append (entries xs) (bodies xs))
 
