@@ -5,3 +5,6 @@ pub mod EntityAttribute
 pub mod Ahead
 pub mod MayHave
 pub mod Literal
+pub mod Steps
+pub mod Lookup
+pub mod Names

@@ -1,4 +1,7 @@
 pub mod Place
 pub mod MayHave
 pub mod Literal
+pub mod Steps
+pub mod Lookup
+pub mod Names
 pub mod Laws

@@ -7,3 +7,6 @@ pub mod Names
 pub mod Kinds
 pub mod Pairs
 pub mod Bounds
+pub mod BoundWrites
+pub mod Attached
+pub mod Joining

@@ -3,4 +3,5 @@ pub mod Extents
 pub mod Kinds
 pub mod Names
 pub mod Pairs
+pub mod Joins
 pub mod Laws

@@ -4,8 +4,12 @@ pub mod Schemas
 pub mod Values
 pub mod Uids
 pub mod Writing
+pub mod Workspaces
 pub mod MayHave
 pub mod Handed
 pub mod Literal
 pub mod Conversion
 pub mod Conformance
+pub mod Bound
+pub mod Lookup
+pub mod Names

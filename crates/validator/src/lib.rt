@@ -1,11 +1,15 @@
 // The public entries: each asks the questions of its call in order, and answers or refuses by number.
+pub mod all_attributes;
 pub mod answers;
 pub mod are_types_disjoint;
 pub mod convert;
 pub mod euid_literal;
 pub mod is_consistent_with;
 pub mod is_subtype;
+pub mod least_upper_bound;
+pub mod lookup_attribute_type;
 pub mod may_have_attr;
 pub mod own_attribute_type;
 pub mod rooms;
 pub mod typecheck_restricted_expr;
+pub mod workspaces;

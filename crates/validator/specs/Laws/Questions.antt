@@ -3,11 +3,11 @@ use mathlib.Core.Path.{_≡_, refl, ap, sym, _∙_}
 use mathlib.Core.List.{List}
 use mathlib.Core.Bool.{Bool, true, false, not, _&&_}
 use mathlib.Core.Option.{Option, none, some}
-use Prim.Native.Nat.{ℕ}
+use Prim.Native.Nat.{ℕ, _≤_}
 use native.Mathlib.Omega.{arith}
 use lib.Dec.{leb}
 use lib.ListN.{length}
-use borrow.Author.Tests.{not-true, not-false}
+use borrow.Author.Tests.{leb-true, not-true, not-false}
 use Rattle.cedar.specs.Types.{present}
 use Rattle.cedar.specs.Bytes.{guard}
 use Rattle.cedar.specs.Limits.{standard}
@@ -16,7 +16,7 @@ use Rattle.cedar.specs.Outcome.{Outcome}
 use Rattle.cedar.specs.Calls.{ask}
 use Rattle.cedar.specs.Laws.Tests.{none-of}
 use Rattle.forms.specs.TypeBytes.{whole, dec}
-use Rattle.forms.specs.Laws.Parts.{and-r}
+use Rattle.forms.specs.Laws.Parts.{and-l, and-r}
 use Rattle.forms.specs.Laws.Sure.{sure-present, sure-yes}
 use Rattle.forms.specs.Laws.TypeTwin.{whole-type-twin}
 use Rattle.validator.specs.Answers.{answerOf}
@@ -64,3 +64,6 @@ module _ (b : List ℕ) (r : Bool) (q : r ≡ present (wholeType standard b)) wh
 
     pub type-whole : whole (standard .levels) b ≡ true
     type-whole = and-r (leb (length b) (standard .bytes)) _ both
+
+    pub type-few : length b ≤ standard .bytes
+    type-few = leb-true (length b) (standard .bytes) (and-l (leb (length b) (standard .bytes)) (whole (standard .levels) b) both)

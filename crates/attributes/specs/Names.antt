@@ -1,0 +1,42 @@
+-- Name lists: what is asked, and how one ends. Assumes nothing: these are definitions.
+use Prim.Native.Nat.{ℕ, zero, suc, _*_, _≤_}
+use mathlib.Core.List.{List, [], _∷_}
+use mathlib.Core.Bool.{Bool, true, false}
+use mathlib.Core.Path.{_≡_}
+use lib.ListN.{length}
+use Rattle.cedar.specs.Bytes.{u16, encNames}
+use Rattle.cedar.specs.Result.{Result, ok, err, stepTooLong}
+use Rattle.forms.specs.Parts.{rest, rd}
+use Rattle.bounds.specs.Written.{Written}
+use Rattle.attributes.specs.declared.lookup_attribute_type.Looked.{Looked}
+use Rattle.attributes.specs.declared.lookup_attribute_type.Looked.the-variants as looks
+use Rattle.attributes.specs.declared.all_attributes.Names.{Names}
+use Rattle.attributes.specs.declared.all_attributes.Names.the-variants.{Of, TooLong}
+
+-- The names of n attribute entries.
+unfoldable pub entryNames : ℕ → List ℕ → List ℕ
+entryNames zero es = []
+entryNames (suc n) es = rd es 0 ∷ entryNames n (rest 5 es)
+
+-- A lookup that met a bound too long.
+abbrev pub isTooLong : Looked → Bool
+isTooLong (looks.Found q n) = false
+isTooLong looks.Nothing = false
+isTooLong looks.TooLong = true
+
+-- The name's bytes, of an attribute that was found.
+abbrev pub keptName : Looked → ℕ → List ℕ
+keptName (looks.Found q n) a = u16 a
+keptName looks.Nothing a = []
+keptName looks.TooLong a = []
+
+-- n attribute entries, and room for their names.
+pub record Entered (n : ℕ) (es kept : List ℕ) : Type 0 where
+  pub sized : 5 * n ≤ length es
+  pub room : 2 * n ≤ length kept
+  pub size : length kept ≡ 4096
+
+-- The name list o ends: with the bytes of its names written, or with 9.
+abbrev pub NamedBy : Result (List ℕ) → List ℕ → List ℕ → Names → Type 0
+NamedBy o before after (Of n) = (ns : List ℕ) × ((o ≡ ok ns) × Written (encNames ns) before after n)
+NamedBy o before after TooLong = o ≡ err stepTooLong

@@ -1,0 +1,23 @@
+-- What is written of the bound of two attribute lists. Assumes nothing: these are definitions.
+use Prim.Native.Nat.{ℕ}
+use mathlib.Core.List.{List, []}
+use mathlib.Core.Bool.{Bool}
+use mathlib.Core.Option.{Option, none, some}
+use Rattle.cedar.specs.Types.{Mode, Ty, Attrs}
+use Rattle.cedar.specs.TypeForm.{count, enc}
+use Rattle.cedar.specs.Result.{Result, ok, err}
+use Rattle.cedar.specs.Bound.{sameNames}
+use Rattle.cedar.specs.Direct.{directAttrs}
+
+-- The bound of two attribute lists, with the names that the mode allows.
+abbrev pub joinedAttrs : Mode → Attrs → Attrs → Result Attrs
+joinedAttrs m xs ys = sameNames m xs ys (directAttrs m xs ys)
+
+abbrev pub countOf : Result Attrs → ℕ
+countOf (ok cs) = count cs
+countOf (err e) = 0
+
+-- The body of an attribute that is kept.
+abbrev pub pairForm : Option (Bool × Ty) → List ℕ
+pairForm none = []
+pairForm (some y) = enc (y .1)

@@ -1,0 +1,293 @@
+-- The write pass over two whole forms whose bound has room, by their kinds. Assumes nothing.
+use mathlib.Core.Path.{_≡_, refl, ap, sym, _∙_}
+use mathlib.Core.List.{List, [], _∷_, _++_}
+use mathlib.Core.Bool.{Bool, true, false, not, _&&_, _||_, cond}
+use mathlib.Core.Option.{Option, none, some}
+use Prim.Native.Nat.{ℕ, suc, _+_, _*_, _-_, _≤_, _<_}
+use native.Mathlib.Omega.{arith}
+use native.Mathlib.Decide.{ℕ-discrete}
+use lib.Dec.{eqb}
+use lib.ListN.{length, getD, take, length-append}
+use Rattle.cedar.specs.Types.{Mode, strict, permissive, isPermissive, eqNames, eqFlag, Ty, atom, set, rec, act, ent, ext, Attrs, nil, attr, maybe, names, find}
+use Rattle.cedar.specs.Bytes.{u16, flag, encNames}
+use Rattle.cedar.specs.Shape.{Ordered}
+use Rattle.cedar.specs.TypeForm.{count, enc, entries, bodies}
+use Rattle.cedar.specs.Result.{Result, ok, err, bind}
+use Rattle.cedar.specs.Outcome.{over}
+use Rattle.cedar.specs.Bound.{union, absent, joinEqual, joinOne, joinRecord}
+use Rattle.cedar.specs.Direct.{direct, directAttrs, directNames}
+use Rattle.cedar.specs.Laws.Join.{joinAttrs-join}
+use Rattle.cedar.specs.Laws.Lost.{lost-count}
+use Rattle.cedar.specs.Laws.Direct.{directAttrs-bound}
+use Rattle.forms.specs.Parts.{part, rest, rd, kind}
+use Rattle.forms.specs.TypeBytes.{whole, dec, namesUp, namesOf}
+use Rattle.forms.specs.Laws.Parts.{part-is, length-part, length-rest}
+use Rattle.forms.specs.Laws.Views.{is-record, is-entity, is-action, is-extension, is-atom}
+use Rattle.bounds.specs.declared.kinds.Joined.{Joined}
+use Rattle.bounds.specs.declared.kinds.Joined.the-variants.{Kind, Not}
+use Rattle.bounds.specs.declared.extents.Kept.{Kept}
+use Rattle.bounds.specs.declared.extents.Kept.the-variants.{Of as KeptOf, Not as KeptNot}
+use Rattle.bounds.specs.Written.{Written}
+use Rattle.bounds.specs.Extents.{table, formOf, Ready}
+use Rattle.bounds.specs.Kinds.{asMode, code, unlike, joinedOf}
+use Rattle.bounds.specs.Pairs.{attrsAt, keptOf}
+use Rattle.bounds.specs.Joins.{joinedAttrs, countOf}
+use Rattle.bounds.specs.Laws.Extents.{length-entries, Cut}
+use Rattle.bounds.specs.Laws.Kinds.{asMode-strict, asMode-permissive, unlike-of}
+use Rattle.bounds.specs.Laws.Laying.{ready-room, written-known}
+use Rattle.bounds.specs.Laws.Tables.{attrs-count}
+use Rattle.bounds.specs.Laws.Bounds.{form-is, ordered, never-left, never-right, unlike-join, set-cut, record-join, action-join, action-apart, extension-join, extension-apart, entity-join, atoms-join, atom-form}
+
+first-code : (t : Ty) → kind (enc t) ≡ code t
+unfolding enc
+first-code (atom k) = refl
+first-code (set t) = refl
+first-code (rec o xs) = refl
+first-code (act n xs) = refl
+first-code (ent ns) = refl
+first-code (ext n) = refl
+
+one-byte : (l : List ℕ) → length l ≡ 1 → l ≡ kind l ∷ []
+one-byte [] h = absurd (omega arith)
+one-byte (n ∷ []) h = refl
+one-byte (n ∷ i ∷ l) h = absurd (omega arith)
+
+pub kept-few : {r : Result Attrs} {o : List ℕ} → Ready table r o → (n : ℕ) → n ≡ countOf r → n < 65536
+kept-few g n e = omega (arith, e ∙ ap countOf (g .is), g .small, length-append (entries (g .result)) (bodies (g .result)), length-entries (g .result))
+
+-- The bound of two unlike kinds is its code.
+module _ (m : Mode) (j k : ℕ) {o : List ℕ} (g : Ready enc (unlike m j k) o) (x : Joined) (told : x ≡ joinedOf (unlike m j k)) where
+  pub unlike-refused : (d : ℕ) → x ≡ Not d → ⊥
+  unlike-refused d q = let f : x ≡ Kind (code (g .result)) = told ∙ ap joinedOf (g .is) in let z : _≡_ {A = ℕ} 0 1 = cc in omega arith
+
+  module _ (b : ℕ) (q : x ≡ Kind b) where
+    is-code : enc (g .result) ≡ b ∷ []
+    is-code =
+        let f : x ≡ Kind (code (g .result)) = told ∙ ap joinedOf (g .is) in
+        let z : b ≡ code (g .result) = cc in
+        let u = unlike-of m j k x told b q in
+        let w : ok (u .0) ≡ ok (g .result) = sym (u .1 .0) ∙ g .is in
+        let v : u .0 ≡ g .result = cc in
+        one-byte (enc (g .result)) (sym (ap (λ (t : Ty). length (enc t)) v) ∙ u .1 .1 .1) ∙ ap (λ (n : ℕ). n ∷ []) (first-code (g .result) ∙ sym z)
+
+    pub unlike-room : 1 ≤ length o
+    unlike-room = omega (arith, g .room, ap length is-code)
+
+    pub unlike-written : (xs : List ℕ) → xs ≡ over (b ∷ []) o → Written (formOf enc (unlike m j k)) o xs 1
+    unlike-written xs f = written-known g (g .result) (g .is) (b ∷ []) xs 1 is-code f refl
+
+-- The names of an entity's form.
+pub names-asked : (a : List ℕ) (n : ℕ) → length a ≡ 3 + 2 * rd a 1 → namesUp (rd a 1) 0 (rest 3 a) ≡ true → n ≡ rd a 1 → (length (rest 3 a) ≡ 2 * n) × (namesUp n 0 (rest 3 a) ≡ true)
+names-asked a n s u e = (omega (arith, length-rest 3 a), rw e u)
+
+-- The kind and the count of k names stand before the names.
+pub entities-cut : (a b : List ℕ) (n m k : ℕ) → n ≡ rd a 1 → m ≡ rd b 1 → k ≡ length (union (namesOf n (rest 3 a)) (namesOf m (rest 3 b))) →
+    Cut encNames enc (10 ∷ u16 k) (ok (union (namesOf n (rest 3 a)) (namesOf m (rest 3 b)))) (ok (ent (union (namesOf (rd a 1) (rest 3 a)) (namesOf (rd b 1) (rest 3 b)))))
+unfolding enc
+entities-cut a b n m k e f g =
+    record {
+      make = ent;
+      is = rw (e, f) refl;
+      cut = λ ns q. let z : union (namesOf n (rest 3 a)) (namesOf m (rest 3 b)) ≡ ns = cc in rw (g, z) refl;
+    }
+
+pub entities-few : (a b : List ℕ) (n m k : ℕ) → n ≡ rd a 1 → m ≡ rd b 1 → k ≡ length (union (namesOf n (rest 3 a)) (namesOf m (rest 3 b))) → {o : List ℕ} →
+    Ready enc (ok (ent (union (namesOf (rd a 1) (rest 3 a)) (namesOf (rd b 1) (rest 3 b))))) o → k < 65536
+unfolding enc
+entities-few a b n m k e f h g =
+    let ns = union (namesOf (rd a 1) (rest 3 a)) (namesOf (rd b 1) (rest 3 b)) in
+    let z : k ≡ length ns = h ∙ rw (e, f) refl in
+    omega (arith, ready-room g (ent ns) refl, names-long ns, z)
+  where
+    names-long : (ns : List ℕ) → length (encNames ns) ≡ 2 * length ns
+    names-long [] = refl
+    names-long (n ∷ ns) = omega (arith, names-long ns)
+
+-- How many attributes the length pass counted.
+module _ (r : Result Attrs) (x : Kept) (told : x ≡ keptOf r) where
+  pub count-of : (n y : ℕ) → x ≡ KeptOf n y → n ≡ countOf r
+  count-of n y e = go r told
+    where
+      go : (r : Result Attrs) → x ≡ keptOf r → n ≡ countOf r
+      go (ok cs) f = cc
+      go (err d) f = absurd (let z : _≡_ {A = ℕ} 0 1 = cc in omega arith)
+
+  pub count-not : (d : ℕ) → x ≡ KeptNot d → 0 ≡ countOf r
+  count-not d e = go r told
+    where
+      go : (r : Result Attrs) → x ≡ keptOf r → 0 ≡ countOf r
+      go (ok cs) f = absurd (let z : _≡_ {A = ℕ} 0 1 = cc in omega arith)
+      go (err d) f = refl
+
+-- Strict, no attribute is dropped.
+strict-count : (xs ys cs : Attrs) → directAttrs strict xs ys ≡ ok cs → count cs ≡ count xs
+unfolding direct
+strict-count nil ys cs e = let z : nil ≡ cs = cc in rw (← z) refl
+strict-count (attr n r t xs) ys cs e = go (find n ys) (λ ls q. strict-count xs ys ls q) e
+  where
+    more : (s : Bool) (c : Result Ty) (ds : Result Attrs) → ((ls : Attrs) → ds ≡ ok ls → count ls ≡ count xs) →
+        joinEqual n r s c ds ≡ ok cs → count cs ≡ suc (count xs)
+    more s (err d) ds f e = absurd (let z : _≡_ {A = ℕ} 0 1 = cc in omega arith)
+    more s (ok c) ds f e = flags (eqFlag r s) ds f e
+      where
+        flags : (b : Bool) (ds : Result Attrs) → ((ls : Attrs) → ds ≡ ok ls → count ls ≡ count xs) →
+            cond b (bind ds (λ l. ok (attr n r c l))) (err 11) ≡ ok cs → count cs ≡ suc (count xs)
+        flags false ds f e = absurd (let z : _≡_ {A = ℕ} 0 1 = cc in omega arith)
+        flags true (err d) f e = absurd (let z : _≡_ {A = ℕ} 0 1 = cc in omega arith)
+        flags true (ok ls) f e = let z : attr n r c ls ≡ cs = cc in rw (← z) (ap suc (f ls refl))
+
+    go : (o : Option (Bool × Ty)) → ((ls : Attrs) → directAttrs strict xs ys ≡ ok ls → count ls ≡ count xs) →
+        maybe (absent strict (directAttrs strict xs ys)) (λ y. joinOne strict n r (y .0) (direct strict t (y .1)) (directAttrs strict xs ys)) o ≡ ok cs →
+        count cs ≡ suc (count xs)
+    go none f e = absurd (let z : _≡_ {A = ℕ} 0 1 = cc in omega arith)
+    go (some y) f e = more (y .0) (direct strict t (y .1)) (directAttrs strict xs ys) f e
+
+-- Where the mode allows the names, the bound of the lists is that of their attributes.
+pub joined-direct : (m : Mode) (xs ys cs : Attrs) → joinedAttrs m xs ys ≡ ok cs → joinedAttrs m xs ys ≡ directAttrs m xs ys
+joined-direct m xs ys cs e = go (isPermissive m || eqNames (names xs) (names ys)) (directAttrs m xs ys) e
+  where
+    go : (b : Bool) (r : Result Attrs) → cond b r (err 12) ≡ ok cs → cond b r (err 12) ≡ r
+    go true r e = refl
+    go false r e = absurd (let z : _≡_ {A = ℕ} 0 1 = cc in omega arith)
+
+strict-many : (xs ys cs : Attrs) → joinedAttrs (asMode 0) xs ys ≡ ok cs → count xs ≡ count cs
+strict-many xs ys cs z =
+    let s : joinedAttrs strict xs ys ≡ ok cs = rw (asMode-strict 0 (λ z. omega arith)) at z in
+    sym (strict-count xs ys cs (sym (joined-direct strict xs ys cs s) ∙ s))
+
+-- Two whole forms, and room for their bound.
+pub record Given (mode l : ℕ) (a b o : List ℕ) : Type 0 where
+  pub first : whole l a ≡ true
+  pub second : whole l b ≡ true
+  pub bytes : (i : ℕ) → getD a i 0 < 256
+  pub bytes′ : (i : ℕ) → getD b i 0 < 256
+  pub ready : Ready enc (direct (asMode mode) (dec l a) (dec l b)) o
+
+pub given : (mode l : ℕ) (a b : List ℕ) {o : List ℕ} → whole l a ≡ true → whole l b ≡ true → ((i : ℕ) → getD a i 0 < 256) → ((i : ℕ) → getD b i 0 < 256) → Ready enc (direct (asMode mode) (dec l a) (dec l b)) o → Given mode l a b o
+given mode l a b p q y z g = record { first = p; second = q; bytes = y; bytes′ = z; ready = g }
+
+-- The bound is one of the forms.
+pub record Copied (r : Result Ty) (b o : List ℕ) : Type 0 where
+  pub room : length b ≤ length o
+  pub written : (xs : List ℕ) (x : ℕ) → Written b o xs x → Written (formOf enc r) o xs x
+
+copied : {r : Result Ty} {o : List ℕ} → Ready enc r o → (c : Ty) (b : List ℕ) → r ≡ ok c → enc c ≡ b → Copied r b o
+copied g c b e f = record { room = omega (arith, ready-room g c e, ap length f); written = λ xs x t. written-known g c e b xs x f (t .bytes) (t .many) }
+
+-- The bound is another result.
+pub record Same (r s : Result Ty) (o : List ℕ) : Type 0 where
+  pub ready : Ready enc s o
+  pub written : (xs : List ℕ) (x : ℕ) → Written (formOf enc s) o xs x → Written (formOf enc r) o xs x
+
+known : {r : Result Ty} {o : List ℕ} → Ready enc r o → (s : Result Ty) → r ≡ s → Same r s o
+known g s e = record { ready = rw e at g; written = λ xs x t. rw e t }
+
+-- Two entities in strict mode: the first, where there is a bound.
+strict-names : (m : Mode) (ns ks : List ℕ) (c : Ty) → isPermissive m ≡ false → directNames m ns ks ≡ ok c → directNames m ns ks ≡ ok (ent ns)
+strict-names permissive ns ks c p e = absurd (let y : _≡_ {A = ℕ} 0 1 = cc in omega arith)
+strict-names strict ns ks c p e = go (eqNames ns ks) e
+  where
+    go : (q : Bool) → cond q (ok (ent ns)) (err 13) ≡ ok c → cond q (ok (ent ns)) (err 13) ≡ ok (ent ns)
+    go true e = refl
+    go false e = absurd (let z : _≡_ {A = ℕ} 0 1 = cc in omega arith)
+
+module _ {mode l : ℕ} {a b o : List ℕ} (g : Given mode l a b o) where
+  abbrev m : Mode
+  m = asMode mode
+
+  abbrev Both : Result Ty
+  Both = direct m (dec l a) (dec l b)
+
+  abbrev pub Tables : ℕ → ℕ → Result Attrs
+  Tables d at = joinedAttrs (asMode d) (attrsAt (l - 1) at a) (attrsAt (l - 1) at b)
+
+  own : enc (dec l a) ≡ a
+  own = form-is l a (g .first) (g .bytes)
+
+  -- Never on either side.
+  pub second-copied : kind a ≡ 0 → Copied Both b o
+  second-copied e = copied (g .ready) (dec l b) b (never-left m l a b (g .first) (g .second) e) (form-is l b (g .second) (g .bytes′))
+
+  pub first-copied : kind b ≡ 0 → Copied Both a o
+  first-copied e = copied (g .ready) (dec l a) a (never-right m l a b (g .first) (g .second) e) own
+
+  pub unlike-forms : (kind a ≡ kind b → ⊥) → (kind a ≡ 0 → ⊥) → (kind b ≡ 0 → ⊥) → Same Both (unlike m (kind a) (kind b)) o
+  unlike-forms p q r = known (g .ready) (unlike m (kind a) (kind b)) (unlike-join m l a b (g .first) (g .second) p q r)
+
+  -- Forms of one kind.
+  module _ (k : kind a ≡ kind b) where
+    pub sets-cut : kind a ≡ 7 → Cut enc enc (7 ∷ []) (direct m (dec (l - 1) (rest 1 a)) (dec (l - 1) (rest 1 b))) Both
+    sets-cut e = set-cut m l a b (g .first) (g .second) e (sym k ∙ e)
+
+    pub entities-union : kind a ≡ 10 → mode ≡ 1 → Same Both (ok (ent (union (namesOf (rd a 1) (rest 3 a)) (namesOf (rd b 1) (rest 3 b))))) o
+    entities-union e s =
+        known (g .ready) (ok (ent (union (namesOf (rd a 1) (rest 3 a)) (namesOf (rd b 1) (rest 3 b)))))
+        (entity-join m l a b (g .first) (g .second) e (sym k ∙ e) ∙ rw (asMode-permissive mode s) refl)
+
+    pub entities-copied : kind a ≡ 10 → (mode ≡ 1 → ⊥) → Copied Both a o
+    entities-copied e s =
+        let j = entity-join m l a b (g .first) (g .second) e (sym k ∙ e) in
+        let n = strict-names m (namesOf (rd a 1) (rest 3 a)) (namesOf (rd b 1) (rest 3 b)) (g .ready .result) (ap isPermissive (asMode-strict mode s)) (sym j ∙ g .ready .is) in
+        copied (g .ready) (ent (namesOf (rd a 1) (rest 3 a))) a (j ∙ n) (ap enc (sym (is-entity l a (g .first) e .is)) ∙ own)
+
+    pub others-copied : (kind a ≡ 7 → ⊥) → (kind a ≡ 8 → ⊥) → (kind a ≡ 10 → ⊥) → (kind a ≡ 11 → ⊥) → Copied Both a o
+    others-copied p7 p8 p10 p11 = go (ℕ-discrete (kind a) 12) (ℕ-discrete (rd a 1) (rd b 1))
+      where
+        go : Dec (kind a ≡ 12) → Dec (rd a 1 ≡ rd b 1) → Copied Both a o
+        go (yes e) (yes z) = copied (g .ready) (ext (rd a 1)) a (extension-join m l a b (g .first) (g .second) e (sym k ∙ e) (rd a 1) (rd b 1) refl refl z) (ap enc (sym (is-extension l a (g .first) e .is)) ∙ own)
+        go (yes e) (no z) =
+            let r : err 15 ≡ ok (g .ready .result) = sym (extension-apart m l a b (g .first) (g .second) e (sym k ∙ e) (rd a 1) (rd b 1) refl refl z) ∙ g .ready .is in
+            absurd (let w : _≡_ {A = ℕ} 0 1 = cc in omega arith)
+        go (no p12) z =
+            let s = atoms-join m l a b (g .first) (g .second) k p7 p8 p10 p11 p12 in
+            let one = is-atom l a (g .first) p7 p8 p10 p11 p12 .sized in
+            copied (g .ready) (atom (s .0)) a (s .1 .0) (atom-form (s .0) ∙ ap (λ (n : ℕ). n ∷ []) (s .1 .1) ∙ sym (one-byte a one))
+
+    -- Records: n attributes are kept.
+    pub records-cut : kind a ≡ 8 → (n i j x : ℕ) → n ≡ countOf (Tables mode 2) → i ≡ rd a 2 → j ≡ rd b 2 → x ≡ flag (eqb (getD a 1 0) 1 || eqb (getD b 1 0) 1 || not (eqb n i && eqb n j)) →
+        Cut table enc (8 ∷ x ∷ u16 n) (Tables mode 2) Both
+    unfolding enc Ordered
+    records-cut e n i j x nn ni nj nx =
+        let f = sym k ∙ e in
+        let oa : Ordered (dec l a) = ordered l a (g .first) (g .bytes) in
+        let ob : Ordered (dec l b) = ordered l b (g .second) (g .bytes′) in
+        record {
+          make = joinRecord (eqb (getD a 1 0) 1) (eqb (getD b 1 0) 1) (attrsAt (l - 1) 2 a) (attrsAt (l - 1) 2 b);
+          is = record-join m l a b (g .first) (g .second) e f;
+          cut = λ cs z. front (attrsAt (l - 1) 2 a) (attrsAt (l - 1) 2 b) cs z (rw (is-record l a (g .first) e .is) at oa) (rw (is-record l b (g .second) f .is) at ob)
+              (nn ∙ rw z refl) (ni ∙ sym (attrs-count (dec (l - 1)) (rd a 2) _ _)) (nj ∙ sym (attrs-count (dec (l - 1)) (rd b 2) _ _));
+        }
+      where
+        front : (xs ys cs : Attrs) → joinedAttrs m xs ys ≡ ok cs → Ordered (rec (eqb (getD a 1 0) 1) xs) → Ordered (rec (eqb (getD b 1 0) 1) ys) → n ≡ count cs → i ≡ count xs → j ≡ count ys →
+            enc (joinRecord (eqb (getD a 1 0) 1) (eqb (getD b 1 0) 1) xs ys cs) ≡ (8 ∷ x ∷ u16 n) ++ table cs
+        front xs ys cs z ox oy u v w =
+            let d : directAttrs m xs ys ≡ ok cs = sym (joined-direct m xs ys cs z) ∙ z in
+            let c = lost-count (joinAttrs-join xs m ys cs (sym (directAttrs-bound xs m ys 0 ox oy) ∙ d)) ox oy in
+            rw (nx, u, v, w, c) refl
+
+    -- Actions, whose names were read.
+    module _ (e : kind a ≡ 11) (n i : ℕ) (q : n ≡ rd a 1) (r : i ≡ rd b 1) where
+      pub actions-unlike : (n ≡ i → ⊥) → Same Both (unlike m (kind a) (kind b)) o
+      actions-unlike h =
+          let f = sym k ∙ e in
+          known (g .ready) (unlike m (kind a) (kind b)) (action-apart m l a b (g .first) (g .second) e f n i q r h ∙ rw (e, f) refl)
+
+      -- The kind, the name and the count stand before the first's attributes.
+      pub actions-cut : n ≡ i → Cut table enc (part 0 5 a) (Tables 0 3) Both
+      unfolding enc
+      actions-cut h =
+          record {
+            make = act (rd a 1);
+            is = action-join m l a b (g .first) (g .second) e (sym k ∙ e) n i q r h ∙ rw (asMode-strict 0 (λ z. omega arith)) refl;
+            cut = λ cs z. rw (front (attrsAt (l - 1) 3 a) (sym own ∙ ap enc (is-action l a (g .first) e .is)), strict-many (attrsAt (l - 1) 3 a) (attrsAt (l - 1) 3 b) cs z) refl;
+          }
+        where
+          front : (xs : Attrs) → a ≡ enc (act (rd a 1) xs) → part 0 5 a ≡ 11 ∷ u16 (rd a 1) ++ u16 (count xs)
+          front xs z = part-is 5 a ∙ ap (λ (w : List ℕ). take 5 w) z
+
+      pub actions-front : 5 ≡ length (part 0 5 a)
+      actions-front = sym (length-part 0 5 a (is-action l a (g .first) e .some))
+
+      pub actions-many : {o′ : List ℕ} → Ready table (Tables 0 3) o′ → (c : ℕ) → c ≡ rd a 3 → c ≡ countOf (Tables 0 3)
+      actions-many t c z =
+          z ∙ sym (attrs-count (dec (l - 1)) (rd a 3) _ _) ∙ strict-many (attrsAt (l - 1) 3 a) (attrsAt (l - 1) 3 b) (t .result) (t .is) ∙ sym (ap countOf (t .is))

@@ -1,0 +1,209 @@
+// The least upper bound of two types, written where the length pass found it to fit.
+use crate::bound_extents::attributes_extent;
+use crate::bound_extents::pair_extent;
+use crate::extents::Kept;
+use crate::extents::Pair;
+use crate::kinds::Joined;
+use crate::kinds::unlike_kinds;
+use crate::names::union_count;
+use crate::names::write_union;
+use crate::pairs::both_required;
+use crate::pairs::open_byte;
+use crate::tables::bodies_at;
+use crate::tables::entries_at;
+use crate::writers::copy;
+use crate::writers::put_attribute;
+use crate::writers::put_kind;
+use crate::writers::put_one;
+use crate::writers::put_record;
+use forms::kinds::Kind;
+use forms::modes::Mode;
+use forms::numbers::u16_at;
+use forms::search::skip_below;
+use forms::widths::Width;
+ghost use mathlib.Core.Path.{_≡_};
+ghost use mathlib.Core.Bool.{true};
+ghost use Prim.Native.Nat.{_+_, _*_, _≤_};
+ghost use lib.Dec.{eqb};
+ghost use lib.ListN.{length, getD};
+ghost use Rattle.cedar.specs.Types.{ent, find as findAttr};
+ghost use Rattle.cedar.specs.TypeForm.{enc};
+ghost use Rattle.cedar.specs.Result.{ok};
+ghost use Rattle.cedar.specs.Bound.{union};
+ghost use Rattle.cedar.specs.Direct.{direct};
+ghost use Rattle.forms.specs.Parts.{rd, rest};
+ghost use Rattle.forms.specs.TypeBytes.{whole, dec, decA, namesUp, namesOf};
+ghost use Rattle.bounds.specs.Extents.{table, formOf, Ready};
+ghost use Rattle.bounds.specs.Written.{Written};
+ghost use Rattle.bounds.specs.Kinds.{asMode, unlike};
+ghost use Rattle.bounds.specs.Pairs.{Front, Tabled, attrsAt, joined};
+ghost use Rattle.bounds.specs.Joins.{joinedAttrs, countOf, pairForm};
+
+// Writes the bound of two unlike kinds, neither of them Never, and says how long it is.
+fn write_unlike(mode: u8, j: u8, k: u8, out: &mut [u8]) -> usize
+    requires { ⌜ Ready enc (unlike (asMode mode) j k) (now out) ⌝ }
+    ensures { λ r. ⌜ Written (formOf enc (unlike (asMode mode) j k)) (now (out .entry)) (now (out .exit)) r ⌝ }
+{
+    let Joined::Kind(c) = unlike_kinds(mode, j, k) else {
+        return 0;
+    };
+    put_one(out, c);
+    1
+}
+
+// Writes a form as it is, and says how long it is.
+fn write_form(t: &[u8], out: &mut [u8]) -> usize
+    requires { ⌜ length (now t) ≤ length (now out) ⌝ }
+    ensures { λ r. ⌜ Written (now (t .entry)) (now (out .entry)) (now (out .exit)) r ⌝ }
+{
+    copy(t, out);
+    t.len()
+}
+
+// Writes the entity of the names of two, and says how long it is.
+fn write_entities(a: &[u8], b: &[u8], out: &mut [u8]) -> usize
+    requires { ⌜ (length (now a) ≡ 3 + 2 * rd (now a) 1) × (namesUp (rd (now a) 1) 0 (rest 3 (now a)) ≡ true) ⌝ }
+    requires { ⌜ (length (now b) ≡ 3 + 2 * rd (now b) 1) × (namesUp (rd (now b) 1) 0 (rest 3 (now b)) ≡ true) ⌝ }
+    requires { ⌜ Ready enc (ok (ent (union (namesOf (rd (now a) 1) (rest 3 (now a))) (namesOf (rd (now b) 1) (rest 3 (now b)))))) (now out) ⌝ }
+    ensures { λ r. ⌜ Written (enc (ent (union (namesOf (rd (now (a .entry)) 1) (rest 3 (now (a .entry)))) (namesOf (rd (now (b .entry)) 1) (rest 3 (now (b .entry))))))) (now (out .entry)) (now (out .exit)) r ⌝ }
+{
+    let n = u16_at(a, 1);
+    let m = u16_at(b, 1);
+    let x = &a[3..];
+    let y = &b[3..];
+    put_kind(out, Kind::ENTITY, union_count(x, n, y, m));
+    write_union(x, n, y, m, &mut out[3..]) + 3
+}
+
+// How many attributes the bound of two lists has.
+fn kept_count(mode: u8, a: &[u8], b: &[u8], at: usize, levels: usize) -> usize
+    requires { ⌜ Tabled levels at (now a) ⌝ }
+    requires { ⌜ Tabled levels at (now b) ⌝ }
+    ensures { λ r. ⌜ r ≡ countOf (joinedAttrs (asMode mode) (attrsAt levels at (now (a .entry))) (attrsAt levels at (now (b .entry)))) ⌝ }
+{
+    let Kept::Of(n, _) = attributes_extent(mode, a, b, at, levels) else {
+        return 0;
+    };
+    n
+}
+
+// Writes the bound of two types, and says how long it is.
+pub fn write_bound(mode: u8, a: &[u8], b: &[u8], levels: usize, out: &mut [u8]) -> usize
+    requires { ⌜ whole levels (now a) ≡ true ⌝ }
+    requires { ⌜ whole levels (now b) ≡ true ⌝ }
+    requires { ⌜ Ready enc (direct (asMode mode) (dec levels (now a)) (dec levels (now b))) (now out) ⌝ }
+    ensures { λ r. ⌜ Written (formOf enc (direct (asMode mode) (dec levels (now (a .entry))) (dec levels (now (b .entry))))) (now (out .entry)) (now (out .exit)) r ⌝ }
+{
+    let j = a[0];
+    let k = b[0];
+    if j == Kind::NEVER {
+        return write_form(b, out);
+    }
+    if k == Kind::NEVER {
+        return write_form(a, out);
+    }
+    if j != k {
+        return write_unlike(mode, j, k, out);
+    }
+    match j {
+        Kind::SET => {
+            put_one(out, Kind::SET);
+            write_bound(mode, &a[1..], &b[1..], levels - 1, &mut out[1..]) + 1
+        }
+        Kind::RECORD => {
+            let n = kept_count(mode, a, b, 2, levels - 1);
+            put_record(out, open_byte(a[1], b[1], n, u16_at(a, 2), u16_at(b, 2)), n);
+            write_attributes(mode, a, b, 2, n, levels - 1, &mut out[4..]) + 4
+        }
+        Kind::ENTITY => {
+            if mode == Mode::PERMISSIVE {
+                return write_entities(a, b, out);
+            }
+            write_form(a, out)
+        }
+        Kind::ACTION => {
+            if u16_at(a, 1) != u16_at(b, 1) {
+                return write_unlike(mode, j, k, out);
+            }
+            copy(&a[0..5], out);
+            let n = u16_at(a, 3);
+            write_attributes(Mode::STRICT, a, b, 3, n, levels - 1, &mut out[5..]) + 5
+        }
+        _ => write_form(a, out),
+    }
+}
+
+// Writes the n attributes of the bound of two lists whose counts stand at `at`, and says how long they are.
+fn write_attributes(
+    mode: u8,
+    a: &[u8],
+    b: &[u8],
+    at: usize,
+    n: usize,
+    levels: usize,
+    out: &mut [u8],
+) -> usize
+    requires { ⌜ Tabled levels at (now a) ⌝ }
+    requires { ⌜ Tabled levels at (now b) ⌝ }
+    requires { ⌜ n ≡ countOf (joinedAttrs (asMode mode) (attrsAt levels at (now a)) (attrsAt levels at (now b))) ⌝ }
+    requires { ⌜ Ready table (joinedAttrs (asMode mode) (attrsAt levels at (now a)) (attrsAt levels at (now b))) (now out) ⌝ }
+    ensures { λ r. ⌜ Written (formOf table (joinedAttrs (asMode mode) (attrsAt levels at (now (a .entry))) (attrsAt levels at (now (b .entry))))) (now (out .entry)) (now (out .exit)) r ⌝ }
+{
+    let mut left = u16_at(a, at);
+    let mut e = entries_at(a, at);
+    let mut s = bodies_at(a, at);
+    let mut m = u16_at(b, at);
+    let mut f = entries_at(b, at);
+    let mut c = bodies_at(b, at);
+    let mut next = 0;
+    let mut pos = Width::ATTRIBUTE * n;
+    while 0 < left {
+        let name = u16_at(e, 0);
+        let required = e[2];
+        let len = u16_at(e, 3);
+        let passed = skip_below(Width::ATTRIBUTE, f, c, m, name);
+        let k = passed.entries;
+        let off = passed.bytes;
+        f = &f[Width::ATTRIBUTE * k..];
+        c = &c[off..];
+        m -= k;
+        let x = write_pair(mode, e, &s[0..len], f, c, m, levels, &mut out[pos..]);
+        e = &e[Width::ATTRIBUTE..];
+        s = &s[len..];
+        left -= 1;
+        if x == 0 {
+            continue;
+        }
+        put_attribute(&mut out[next..], name, both_required(required, f[2]), x);
+        next += Width::ATTRIBUTE;
+        pos += x;
+    }
+    pos
+}
+
+// Writes the type of an attribute that is kept, and says how long it is: 0 where the attribute is dropped.
+fn write_pair(
+    mode: u8,
+    e: &[u8],
+    t: &[u8],
+    f: &[u8],
+    c: &[u8],
+    m: usize,
+    levels: usize,
+    out: &mut [u8],
+) -> usize
+    requires { ⌜ (5 ≤ length (now e)) × (getD (now e) 2 0 ≤ 1) ⌝ }
+    requires { ⌜ whole levels (now t) ≡ true ⌝ }
+    requires { ⌜ Front levels m (rd (now e) 0) (now f) (now c) ⌝ }
+    requires { ⌜ Ready pairForm (joined (asMode mode) (eqb (getD (now e) 2 0) 1) (dec levels (now t)) (findAttr (rd (now e) 0) (decA (dec levels) m (now f) (now c)))) (now out) ⌝ }
+    ensures { λ r. ⌜ Written (formOf pairForm (joined (asMode mode) (eqb (getD (now (e .entry)) 2 0) 1) (dec levels (now (t .entry))) (findAttr (rd (now (e .entry)) 0) (decA (dec levels) m (now (f .entry)) (now (c .entry)))))) (now (out .entry)) (now (out .exit)) r ⌝ }
+{
+    match pair_extent(mode, e, t, f, c, m, levels) {
+        Pair::Kept(_) => {
+            let len = u16_at(f, 3);
+            write_bound(mode, t, &c[0..len], levels, out)
+        }
+        Pair::Dropped => 0,
+        Pair::Not(_) => 0,
+    }
+}

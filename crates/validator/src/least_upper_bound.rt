@@ -1,0 +1,42 @@
+// The least upper bound of two types.
+use crate::answers::Answer;
+use crate::rooms::answer_fits;
+use bounds::bound_extents::bound_extent;
+use bounds::bound_writes::write_bound;
+use bounds::extents::Extent;
+use forms::limits::Limits;
+use forms::refusals::Refusal;
+use forms::types::whole_type;
+use relations::modes::is_mode;
+use schemas::whole::whole_schema;
+ghost use lib.ListN.{length};
+ghost use Rattle.cedar.specs.Limits.{standard};
+ghost use Rattle.cedar.specs.Calls.{boundCall};
+ghost use Rattle.validator.specs.Answers.{Answered};
+
+pub fn least_upper_bound(mode: u8, schema: &[u8], t0: &[u8], t1: &[u8], out: &mut [u8]) -> Answer
+    ensures { λ r. ⌜ Answered (boundCall standard mode (now (schema .entry)) (now (t0 .entry)) (now (t1 .entry)) (length (now (out .entry)))) (now (out .entry)) (now (out .exit)) r ⌝ }
+{
+    if !is_mode(mode) {
+        return Answer::Refused(Refusal::MODE);
+    }
+    if !whole_schema(schema) {
+        return Answer::Refused(Refusal::SCHEMA);
+    }
+    if !whole_type(t0) {
+        return Answer::Refused(Refusal::FIRST);
+    }
+    if !whole_type(t1) {
+        return Answer::Refused(Refusal::SECOND);
+    }
+    match bound_extent(mode, t0, t1, Limits::LEVELS) {
+        Extent::Of(n) => {
+            if !answer_fits(n, out.len()) {
+                return Answer::Refused(Refusal::RESULT);
+            }
+            write_bound(mode, t0, t1, Limits::LEVELS, out);
+            Answer::Wrote(n)
+        }
+        Extent::Not(e) => Answer::Refused(e),
+    }
+}
