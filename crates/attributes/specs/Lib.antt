@@ -1,7 +1,6 @@
 pub mod Place
 pub mod MayHave
 pub mod Literal
-pub mod Steps
 pub mod Lookup
 pub mod Names
 pub mod Laws

@@ -6,19 +6,12 @@ use mathlib.Core.Option.{Option, none, some}
 use mathlib.Core.Path.{_≡_}
 use lib.ListN.{length}
 use Rattle.cedar.specs.Types.{Ty}
-use Rattle.cedar.specs.TypeForm.{enc}
 use Rattle.cedar.specs.Result.{Result, ok, err, stepTooLong}
 use Rattle.forms.specs.Parts.{part}
 use Rattle.forms.specs.TypeBytes.{whole, dec}
+use Rattle.folds.specs.Steps.{Held}
 use Rattle.attributes.specs.declared.lookup_attribute_type.Looked.{Looked}
 use Rattle.attributes.specs.declared.lookup_attribute_type.Looked.the-variants.{Found, Nothing, TooLong}
-
--- A whole form stands in the first len bytes of `last`.
-pub record Held (len : ℕ) (last : List ℕ) : Type 0 where
-  pub room : length last ≡ 4096
-  pub fits : len ≤ 4096
-  pub good : whole 15 (part 0 len last) ≡ true
-  pub exact : enc (dec 15 (part 0 len last)) ≡ part 0 len last
 
 -- n names.
 pub record Named (n : ℕ) (ns : List ℕ) : Type 0 where
@@ -32,6 +25,6 @@ pub record Asked (t last : List ℕ) : Type 0 where
 
 -- The lookup o ends: with an attribute, whose form stands in the first n bytes of `last`; with none; or with 9.
 abbrev pub LookedUp : Result (Option (Bool × Ty)) → List ℕ → Looked → Type 0
-LookedUp o last (Found q n) = (o ≡ ok (some (q, dec 15 (part 0 n last)))) × (whole 15 (part 0 n last) ≡ true) × (n ≤ 4096) × (enc (dec 15 (part 0 n last)) ≡ part 0 n last)
+LookedUp o last (Found q n) = (o ≡ ok (some (q, dec 15 (part 0 n last)))) × Held 15 n last
 LookedUp o last Nothing = o ≡ ok none
 LookedUp o last TooLong = o ≡ err stepTooLong

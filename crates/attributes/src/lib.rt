@@ -5,4 +5,3 @@ pub mod euid_literal;
 pub mod lookup_attribute_type;
 pub mod may_have_attr;
 pub mod own_attribute;
-pub mod steps;

@@ -2,11 +2,12 @@
 use crate::entity_attribute::entity_attribute;
 use crate::own_attribute::Place;
 use crate::own_attribute::own_attribute;
-use crate::steps::Step;
-use crate::steps::join_step;
 use bounds::writers::copy;
+use folds::steps::Step;
+use folds::steps::join_step;
 use forms::kinds::Kind;
 use forms::limits::Limits;
+use forms::modes::Mode;
 use forms::numbers::u16_at;
 use forms::widths::Width;
 use schemas::sections::Sections;
@@ -20,7 +21,8 @@ ghost use Rattle.forms.specs.Parts.{part};
 ghost use Rattle.forms.specs.TypeBytes.{dec, namesOf};
 ghost use Rattle.schemas.specs.SchemaBytes.{decS};
 ghost use Rattle.schemas.specs.Entries.{Kept};
-ghost use Rattle.attributes.specs.Lookup.{Held, Named, Asked, LookedUp};
+ghost use Rattle.folds.specs.Steps.{Held};
+ghost use Rattle.attributes.specs.Lookup.{Named, Asked, LookedUp};
 
 // How a lookup ends: found, required?, with so many bytes; nothing; or a step's bound is too long.
 pub enum Looked {
@@ -53,7 +55,7 @@ fn fold_attribute(
 ) -> Looked
     requires { ⌜ Kept (now schema) «at» ⌝ }
     requires { ⌜ Named n (now types) ⌝ }
-    requires { ⌜ Held bytes (now last) ⌝ }
+    requires { ⌜ Held 15 bytes (now last) ⌝ }
     ensures { λ r. ⌜ LookedUp (foldAttr (stepFits standard (length (now (work .entry)))) (decS standard (now (schema .entry))) name (first, dec 15 (part 0 bytes (now (last .entry)))) (namesOf n (now (types .entry)))) (now (last .exit)) r ⌝ }
 {
     let mut len = bytes;
@@ -65,9 +67,18 @@ fn fold_attribute(
         let Place::At(start, end, also) = entity_attribute(schema, at, u16_at(e, 0), name) else {
             return Looked::Nothing;
         };
-        match join_step(last, len, &schema[start..end], second, work) {
+        let t = &schema[start..end];
+        match join_step(
+            Mode::PERMISSIVE,
+            last,
+            len,
+            t,
+            Limits::LEVELS - 1,
+            second,
+            work,
+        ) {
             Step::To(m) => len = m,
-            Step::Unbounded => return Looked::Nothing,
+            Step::Not(_) => return Looked::Nothing,
             Step::TooLong => return Looked::TooLong,
         }
         required = both(required, also);

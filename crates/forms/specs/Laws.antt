@@ -5,6 +5,7 @@ pub mod Types
 pub mod Sure
 pub mod RowsTwin
 pub mod TypeTwin
+pub mod Bytes
 pub mod Search
 pub mod Skips
 pub mod Attributes

@@ -100,36 +100,45 @@ fn attributes_within(t: &[u8], at: usize, levels: usize) -> bool
     b.len() == 0
 }
 
-// Whether t is a whole type form of at most so many levels.
+// Whether t is a whole type form of at most so many levels. It walks a part of t, since a slice that is handed on as it
+// came is copied through memory at each call, which takes several times as long.
 pub fn type_within(t: &[u8], levels: usize) -> bool
     ensures { λ r. ⌜ r ≡ whole levels (now (t .entry)) ⌝ }
 {
-    if levels == 0 {
-        return false;
-    }
-    if t.len() == 0 {
-        return false;
-    }
-    let k = t[0];
-    match k {
-        Kind::SET => type_within(&t[Offset::ELEMENT..], levels - 1),
-        Kind::RECORD => {
-            if t.len() < Offset::RECORD_COUNT {
-                return false;
-            }
-            if Openness::OPEN < t[Offset::OPEN] {
-                return false;
-            }
-            attributes_within(t, Offset::RECORD_COUNT, levels - 1)
+    let mut b = &t[0..];
+    let mut left = levels;
+    loop {
+        if left == 0 {
+            return false;
         }
-        Kind::ENTITY => entity_within(t),
-        Kind::ACTION => attributes_within(t, Offset::ACTION_COUNT, levels - 1),
-        Kind::EXTENSION => t.len() == Offset::EXTENSION_END,
+        if b.len() == 0 {
+            return false;
+        }
+        if b[0] != Kind::SET {
+            break;
+        }
+        b = &b[Offset::ELEMENT..];
+        left -= 1;
+    }
+    let k = b[0];
+    match k {
+        Kind::RECORD => {
+            if b.len() < Offset::RECORD_COUNT {
+                return false;
+            }
+            if Openness::OPEN < b[Offset::OPEN] {
+                return false;
+            }
+            attributes_within(b, Offset::RECORD_COUNT, left - 1)
+        }
+        Kind::ENTITY => entity_within(b),
+        Kind::ACTION => attributes_within(b, Offset::ACTION_COUNT, left - 1),
+        Kind::EXTENSION => b.len() == Offset::EXTENSION_END,
         _ => {
             if Kind::EXTENSION < k {
                 return false;
             }
-            t.len() == Offset::ELEMENT
+            b.len() == Offset::ELEMENT
         }
     }
 }

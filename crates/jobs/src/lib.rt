@@ -1,9 +1,11 @@
 // Jobs: whether one is whole, its questions, and the line of each.
+mod answers;
 mod lines;
 mod operations;
 mod questions;
 mod steps;
 mod text;
+mod walk;
 mod whole;
 mod writing;
 
@@ -13,4 +15,5 @@ pub use questions::count;
 pub use questions::start;
 pub use steps::Buffers;
 pub use steps::Step;
+pub use walk::next_line;
 pub use whole::whole_job;

@@ -12,4 +12,5 @@ pub mod Conversion
 pub mod Conformance
 pub mod Bound
 pub mod Lookup
+pub mod Fold
 pub mod Names

@@ -10,6 +10,7 @@ pub mod least_upper_bound;
 pub mod lookup_attribute_type;
 pub mod may_have_attr;
 pub mod own_attribute_type;
+pub mod reduce_to_least_upper_bound;
 pub mod rooms;
 pub mod typecheck_restricted_expr;
 pub mod workspaces;

@@ -23,7 +23,7 @@ use Rattle.bounds.specs.Laws.Writing.{back, over-at, room-at}
 use Rattle.attributes.specs.declared.euid_literal.Literal.{Literal}
 use Rattle.attributes.specs.declared.euid_literal.Literal.the-variants.{Action, Entity, Nothing}
 use Rattle.attributes.specs.Literal.{literalType, literalForm, literalLength, Standing, LiteralAt}
-use Rattle.attributes.specs.Laws.Bytes.{Bytes-part, enc-dec}
+use Rattle.forms.specs.Laws.Bytes.{Bytes-part, enc-dec}
 
 -- By the finders' answers.
 module _ (b : List ℕ) (k i : ℕ) (y : Bool) (q : y ≡ isAction k) where

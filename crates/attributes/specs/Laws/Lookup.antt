@@ -6,7 +6,7 @@ use mathlib.Core.Bool.{Bool, true, false, _&&_}
 use mathlib.Core.Option.{Option, none, some}
 use mathlib.Core.Path.{_≡_, refl, ap, sym, subst, _∙_}
 use lib.ListN.{length}
-use Rattle.cedar.specs.Types.{permissive, Ty, Schema}
+use Rattle.cedar.specs.Types.{Mode, permissive, Ty, Schema}
 use Rattle.cedar.specs.TypeForm.{enc}
 use Rattle.cedar.specs.Limits.{standard}
 use Rattle.cedar.specs.Result.{Result, ok, err}
@@ -23,13 +23,19 @@ use Rattle.attributes.specs.declared.own_attribute.Place.{Place}
 use Rattle.attributes.specs.declared.own_attribute.Place.the-variants as places
 use Rattle.attributes.specs.Place.{Placed, PlacedIn}
 use Rattle.attributes.specs.Laws.Ahead.{Ahead, ahead-start, ahead-end, ahead-first, ahead-next}
-use Rattle.attributes.specs.declared.steps.Step.{Step}
-use Rattle.attributes.specs.declared.steps.Step.the-variants.{To, Unbounded, TooLong}
+use Rattle.folds.specs.declared.steps.Step.{Step}
+use Rattle.folds.specs.declared.steps.Step.the-variants.{To, Not, TooLong}
 use Rattle.attributes.specs.declared.lookup_attribute_type.Looked.{Looked}
 use Rattle.attributes.specs.declared.lookup_attribute_type.Looked.the-variants as looks
-use Rattle.attributes.specs.Steps.{Ready, Stepped}
-use Rattle.attributes.specs.Lookup.{Held, Named, Asked, LookedUp}
-use Rattle.attributes.specs.Laws.Steps.{front-is}
+use Rattle.bounds.specs.Kinds.{asMode}
+use Rattle.folds.specs.Steps.{Held, Stepped}
+use Rattle.attributes.specs.Lookup.{Named, Asked, LookedUp}
+use Rattle.folds.specs.Laws.Steps.{front-is}
+
+-- A lookup's steps are permissive.
+as-permissive : asMode 1 ≡ permissive
+unfolding asMode
+as-permissive = refl
 
 -- A place by its cases.
 pub in-at : (b : List ℕ) (o : Option (Bool × Ty)) (r : Place) (s e : ℕ) (q : Bool) → r ≡ places.At s e q → PlacedIn b o r → PlacedIn b o (places.At s e q)
@@ -40,46 +46,51 @@ in-none b o r h p = subst (λ (x : Place). PlacedIn b o x) h p
 
 -- A form that was copied to the front of `last`.
 pub held-copy : (b last xs : List ℕ) (s e : ℕ) → s ≤ e → e ≤ length b → e ≤ s + 4096 → length last ≡ 4096 → length xs ≡ length last → whole 15 (part s e b) ≡ true → enc (dec 15 (part s e b)) ≡ part s e b → xs ≡ over (part s e b) last →
-    (part 0 (e - s) xs ≡ part s e b) × Held (e - s) xs
+    (part 0 (e - s) xs ≡ part s e b) × Held 15 (e - s) xs
 held-copy b last xs s e h g k r l w x f =
     let p = front-is (part s e b) last xs (e - s) f (sym (length-part s e b g)) in
     (p, record { room = l ∙ r; fits = omega arith; good = ap (whole 15) p ∙ w; exact = ap (λ (z : List ℕ). enc (dec 15 z)) p ∙ x ∙ sym p })
 
 -- The loop of the fold: `all` is what it is to end with.
 pub record Folding (work : ℕ) (s : Schema) (a : ℕ) (all : Result (Option (Bool × Ty))) (len : ℕ) (q : Bool) (last : List ℕ) (left : ℕ) (ns : List ℕ) : Type 0 where
-  pub held : Held len last
+  pub held : Held 15 len last
   pub ahead : Ahead all (foldAttr (stepFits standard work) s a (q, dec 15 (part 0 len last))) left ns
 
-pub folding-start : (work : ℕ) (s : Schema) (a len : ℕ) (q : Bool) (last : List ℕ) (n : ℕ) (ns : List ℕ) → Held len last → Named n ns →
+pub folding-start : (work : ℕ) (s : Schema) (a len : ℕ) (q : Bool) (last : List ℕ) (n : ℕ) (ns : List ℕ) → Held 15 len last → Named n ns →
     Folding work s a (foldAttr (stepFits standard work) s a (q, dec 15 (part 0 len last)) (namesOf n ns)) len q last n ns
 folding-start work s a len q last n ns h k = record { held = h; ahead = ahead-start (foldAttr (stepFits standard work) s a (q, dec 15 (part 0 len last))) n ns (k .sized) }
 
 module _ {work : ℕ} {s : Schema} {a : ℕ} {all : Result (Option (Bool × Ty))} {len : ℕ} {q : Bool} {last : List ℕ} {left : ℕ} {ns : List ℕ} (i : Folding work s a all len q last left ns) where
   pub folding-end : left ≤ 0 → LookedUp all last (looks.Found q len)
-  folding-end h = (ahead-end (i .ahead) h, i .held .good, i .held .fits, i .held .exact)
+  folding-end h = (ahead-end (i .ahead) h, i .held)
 
   module _ (p : 0 < left) (k : ℕ) (e : k ≡ rd ns 0) where
     pub folding-lacks : attrOf s a k ≡ none → all ≡ ok none
     folding-lacks f = ahead-first (i .ahead) p k e ∙ rw f refl
 
     module _ (y : Bool) (t : List ℕ) (f : attrOf s a k ≡ some (y, dec 15 t)) (last′ : List ℕ) (r : Step)
-        (g : Stepped (bound permissive (dec 15 (part 0 len last)) (dec 15 t)) work last′ r) where
-      pub folding-unbounded : r ≡ Unbounded → all ≡ ok none
-      folding-unbounded h =
-          let d = subst (λ (x : Step). Stepped (bound permissive (dec 15 (part 0 len last)) (dec 15 t)) work last′ x) h g in
-          ahead-first (i .ahead) p k e ∙ rw (f, d .1) refl
+        (g : Stepped 15 (bound (asMode 1) (dec 15 (part 0 len last)) (dec 15 t)) work last′ r) where
+      told : (x : Step) → r ≡ x → Stepped 15 (bound permissive (dec 15 (part 0 len last)) (dec 15 t)) work last′ x
+      told x h =
+          subst (λ (y : Step). Stepped 15 (bound permissive (dec 15 (part 0 len last)) (dec 15 t)) work last′ y) h
+          (subst (λ (m : Mode). Stepped 15 (bound m (dec 15 (part 0 len last)) (dec 15 t)) work last′ r) as-permissive g)
+
+      pub folding-unbounded : (n : ℕ) → r ≡ Not n → all ≡ ok none
+      folding-unbounded n h =
+          let d = told (Not n) h in
+          ahead-first (i .ahead) p k e ∙ rw (f, d) refl
 
       pub folding-too-long : r ≡ TooLong → all ≡ err 9
       folding-too-long h =
-          let d = subst (λ (x : Step). Stepped (bound permissive (dec 15 (part 0 len last)) (dec 15 t)) work last′ x) h g in
+          let d = told TooLong h in
           ahead-first (i .ahead) p k e ∙ rw (f, d .1 .0, d .1 .1) refl
 
-      pub folding-next : (m : ℕ) → r ≡ To m → length last′ ≡ length last → (z : Bool) → z ≡ q && y → Folding work s a all m z last′ (left - 1) (rest 2 ns)
-      folding-next m h l z c =
-          let d = subst (λ (x : Step). Stepped (bound permissive (dec 15 (part 0 len last)) (dec 15 t)) work last′ x) h g in
+      pub folding-next : (m : ℕ) → r ≡ To m → (z : Bool) → z ≡ q && y → Folding work s a all m z last′ (left - 1) (rest 2 ns)
+      folding-next m h z c =
+          let d = told (To m) h in
           record {
-            held = record { room = l ∙ i .held .room; fits = d .3; good = d .1; exact = d .4 };
-            ahead = ahead-next (i .ahead) p k e (foldAttr (stepFits standard work) s a (z, dec 15 (part 0 m last′))) (rw (f, d .0, d .2, c) refl);
+            held = d .2;
+            ahead = ahead-next (i .ahead) p k e (foldAttr (stepFits standard work) s a (z, dec 15 (part 0 m last′))) (rw (f, d .0, d .1, c) refl);
           }
 
 -- The first of an entity's types.
@@ -123,5 +134,5 @@ module _ (fits : Ty → Bool) (s : Schema) (a l : ℕ) (b : List ℕ) (w : whole
     pub own-none : ownAttr a (dec l b) ≡ none → lookup fits s a (dec l b) ≡ ok none
     own-none f = sym (other-lookup n) ∙ ap ok f
 
-    pub own-found : (q : Bool) (t : List ℕ) → ownAttr a (dec l b) ≡ some (q, dec 15 t) → (last : List ℕ) {k : ℕ} → (part 0 k last ≡ t) × Held k last → LookedUp (lookup fits s a (dec l b)) last (looks.Found q k)
-    own-found q t f last {k} h = (sym (other-lookup n) ∙ ap ok (f ∙ ap (λ (z : List ℕ). some (q, dec 15 z)) (sym (h .0))), h .1 .good, h .1 .fits, h .1 .exact)
+    pub own-found : (q : Bool) (t : List ℕ) → ownAttr a (dec l b) ≡ some (q, dec 15 t) → (last : List ℕ) {k : ℕ} → (part 0 k last ≡ t) × Held 15 k last → LookedUp (lookup fits s a (dec l b)) last (looks.Found q k)
+    own-found q t f last {k} h = (sym (other-lookup n) ∙ ap ok (f ∙ ap (λ (z : List ℕ). some (q, dec 15 z)) (sym (h .0))), h .1)

@@ -13,7 +13,7 @@ use Rattle.forms.specs.TypeBytes.{namesUp, namesOf, namesFit, attrRow, w
 use Rattle.forms.specs.Rows.{tableFits}
 use Rattle.cedar.specs.Types.{Atom, never, true′, false′, bool, long, string, anyset, anyent}
 use Rattle.cedar.specs.TypeForm.{one, setKind, recKind, entKind, actKind, extKind, noKind, kindOf}
-use Rattle.forms.specs.Laws.Parts.{and-l, and-r, and-not-l, and-not-r, and-yes, length-rest, pos}
+use Rattle.forms.specs.Laws.Parts.{and-l, and-r, and-not-l, and-not-r, and-yes, length-rest, rest-0, pos}
 
 pub names-step : (n low : ℕ) (b : List ℕ) → 0 < n → namesUp n low b ≡ (leb low (rd b 0) && namesUp (n - 1) (rd b 0 + 1) (rest 2 b))
 unfolding namesUp
@@ -103,6 +103,17 @@ module _ (l : ℕ) (b : List ℕ) (p : l ≡ 0 → ⊥) where
 
   pub whole-by : (length b ≡ 0 → ⊥) → (k : ℕ) → kind b ≡ k → whole l b ≡ wholeAs (whole (l - 1)) (kindOf k) b
   whole-by h k e = whole-step ∙ and-yes (ltb 0 (length b)) _ (lt-ltb 0 (length b) (pos (length b) h)) ∙ ap (λ (j : ℕ). wholeAs (whole (l - 1)) (kindOf j) b) e
+
+-- The loop of `type_within`: what is left under some sets answers for the whole.
+pub record SetsLeft (l : ℕ) (t : List ℕ) (left : ℕ) (b : List ℕ) : Type 0 where
+  pub same : whole l t ≡ whole left b
+  pub few : left ≤ l
+
+pub sets-start : (l : ℕ) (t : List ℕ) → SetsLeft l t l (rest 0 t)
+sets-start l t = record { same = ap (λ (b : List ℕ). whole l b) (sym (rest-0 t)); few = omega arith }
+
+pub sets-again : {l left : ℕ} {t b : List ℕ} → SetsLeft l t left b → (left ≡ 0 → ⊥) → (length b ≡ 0 → ⊥) → kind b ≡ 7 → SetsLeft l t (left - 1) (rest 1 b)
+sets-again {l} {left} {t} {b} i p s e = record { same = i .same ∙ whole-by left b p s 7 e; few = omega (arith, i .few) }
 
 -- Kinds with nothing after the first byte, and those that are none.
 pub kind-atom : (k : ℕ) → (k ≡ 7 → ⊥) → (k ≡ 8 → ⊥) → (k ≡ 10 → ⊥) → (k ≡ 11 → ⊥) → (k ≡ 12 → ⊥) → k ≤ 12 → (a : Atom) × (kindOf k ≡ one a)

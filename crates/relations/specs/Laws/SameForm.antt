@@ -23,11 +23,6 @@ use Rattle.forms.specs.Laws.Sure.{sure-yes}
 use Rattle.forms.specs.Laws.TypeTwin.{names-twin, type-twin}
 use Rattle.relations.specs.Names.{EntityForm, entityNames}
 
--- The elements of a slice are bytes.
-pub all-bytes : (b : List ℕ) → ((i : ℕ) → getD b i 0 < 256) → Bytes b
-all-bytes [] h = tt
-all-bytes (x ∷ b) h = (h 0, all-bytes b (λ i. h (suc i)))
-
 -- What is written from equal things is equal, and what is read from equal bytes too: a test of the things is one of the bytes.
 module _ {A : Type 0} (write : A → List ℕ) (x y : A) (a b : List ℕ) (p : write x ≡ a) (q : write y ≡ b) where
   bytes-test : (s : Bool) → (T s → x ≡ y) → (x ≡ y → T s) → (a ≡ b → x ≡ y) → eqNames a b ≡ s

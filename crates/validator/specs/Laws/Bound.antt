@@ -21,7 +21,7 @@ use Rattle.cedar.specs.Laws.Whole.{wholeType-reads}
 use Rattle.cedar.specs.Laws.Direct.{direct-bound}
 use Rattle.forms.specs.TypeBytes.{dec}
 use Rattle.bounds.specs.Kinds.{asMode}
-use Rattle.attributes.specs.Laws.Bytes.{Bytes-index}
+use Rattle.forms.specs.Laws.Bytes.{Bytes-index}
 use Rattle.validator.specs.Laws.Questions.{there}
 
 -- A mode's number, read.

@@ -13,7 +13,7 @@ use Rattle.cedar.specs.Attribute.{ownAttr}
 use Rattle.cedar.specs.Calls.{ask, ownAttributeCall}
 use Rattle.forms.specs.Parts.{part}
 use Rattle.forms.specs.TypeBytes.{whole, dec}
-use Rattle.attributes.specs.Laws.Bytes.{Bytes-index, Bytes-part, enc-dec}
+use Rattle.forms.specs.Laws.Bytes.{Bytes-index, Bytes-part, enc-dec}
 use Rattle.validator.specs.Handed.{Handed, toldOf}
 
 -- What the entry goes on with once the type is whole.

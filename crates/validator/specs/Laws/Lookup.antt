@@ -56,10 +56,10 @@ module _ (schema : List ℕ) (a : ℕ) (t o : List ℕ) (work : ℕ) where
 
       module _ (q : Bool) (n : ℕ) (e : r ≡ looks.Found q n) (full : length last ≡ 4096) where
         pub small : n ≤ 4096
-        small = ends (looks.Found q n) e .2
+        small = ends (looks.Found q n) e .1 .fits
 
         exact : enc (dec 15 (part 0 n last)) ≡ part 0 n last
-        exact = ends (looks.Found q n) e .3
+        exact = ends (looks.Found q n) e .1 .exact
 
         sized : length (part 0 n last) ≡ n
         sized = length-part 0 n last (omega (arith, small)) ∙ omega arith

@@ -21,7 +21,7 @@ use Rattle.bounds.specs.Written.{Written}
 use Rattle.attributes.specs.declared.all_attributes.Names.{Names}
 use Rattle.attributes.specs.declared.all_attributes.Names.the-variants.{Of, TooLong}
 use Rattle.attributes.specs.Names.{NamedBy}
-use Rattle.attributes.specs.Laws.Steps.{front-is}
+use Rattle.folds.specs.Laws.Steps.{front-is}
 use Rattle.validator.specs.declared.answers.Answer.the-variants.{Refused, Wrote}
 use Rattle.validator.specs.Answers.{Answered}
 use Rattle.validator.specs.Laws.Writing.{refuses}

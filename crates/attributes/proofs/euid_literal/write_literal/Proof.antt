@@ -2,7 +2,7 @@ use native.Mathlib.Omega.{arith}
 use mathlib.Core.Path.{ap}
 use Rattle.forms.specs.Laws.Parts.{length-part}
 use Rattle.attributes.specs.Literal.{literalLength}
-use Rattle.attributes.specs.Laws.Bytes.{Bytes-index}
+use Rattle.forms.specs.Laws.Bytes.{Bytes-index}
 use Rattle.attributes.specs.Laws.Literal.{standing-body, action-room, copy-room, action-written, entity-written}
 use borrow.Author.Needs.{needs}
 use Rattle.attributes.proofs.euid_literal.write_literal.Statement.{statement}

@@ -1,21 +1,26 @@
+use Rattle.attributes.specs.Laws.Lookup.{in-at, in-none, Folding, folding-start, folding-end, folding-lacks, folding-unbounded, folding-too-long, folding-next}
+use Rattle.folds.specs.Steps.{Stepped}
+use Rattle.bounds.specs.Kinds.{asMode}
+use Rattle.schemas.specs.SchemaBytes.{decS}
+use Rattle.forms.specs.TypeBytes.{dec, namesOf}
+use Rattle.forms.specs.Parts.{part}
+use Rattle.cedar.specs.Calls.{stepFits}
+use Rattle.cedar.specs.Attribute.{attrOf, foldAttr}
+use Rattle.cedar.specs.Bound.{bound}
+use Rattle.cedar.specs.Limits.{standard}
+use lib.ListN.{length}
 use mathlib.Core.Path.{_≡_, refl, subst, _∙_}
+use Prim.Native.Nat.{ℕ}
 use borrow.Author.Needs.{needs}
 use native.Mathlib.Omega.{arith}
-use Prim.Native.Nat.{ℕ}
-use mathlib.Core.Path.{_≡_, subst, _∙_}
-use lib.ListN.{length}
-use Rattle.cedar.specs.Types.{permissive}
-use Rattle.cedar.specs.Limits.{standard}
-use Rattle.cedar.specs.Bound.{bound}
-use Rattle.cedar.specs.Attribute.{attrOf, foldAttr}
-use Rattle.cedar.specs.Calls.{stepFits}
-use Rattle.forms.specs.Parts.{part}
-use Rattle.forms.specs.TypeBytes.{dec, namesOf}
-use Rattle.schemas.specs.SchemaBytes.{decS}
-use Rattle.attributes.specs.Steps.{Stepped}
-use Rattle.attributes.specs.Laws.Lookup.{in-at, in-none, Folding, folding-start, folding-end, folding-lacks, folding-unbounded, folding-too-long, folding-next}
 use Rattle.attributes.proofs.lookup_attribute_type.fold_attribute.Statement.{statement}
 use Rattle.attributes.proofs.lookup_attribute_type.fold_attribute.Tie as tie
+use Rattle.attributes.proofs.lookup_attribute_type.fold_attribute.Reads as reads
+use Rattle.attributes.proofs.lookup_attribute_type.fold_attribute.Lts as lts
+use Rattle.attributes.proofs.entity_attribute.entity_attribute.Reads as entity-attribute-reads
+use Rattle.attributes.proofs.lookup_attribute_type.both.Reads as both-reads
+use Rattle.folds.proofs.steps.join_step.Reads as join-step-reads
+use Rattle.forms.proofs.numbers.u16_at.Reads as u16-at-reads
 
 abbrev Inv-loop : tie.InvT-loop
 Inv-loop schema at types n name first bytes last₀ work₀ len₀ required₀ second₀ e₀ left₀ last work len required second e left = Folding (length work₀) (decS standard schema) name (foldAttr (stepFits standard (length work₀)) (decS standard schema) name (first, dec 15 (part 0 bytes last₀)) (namesOf n types)) len required last left e × (length work ≡ length work₀)
@@ -23,98 +28,148 @@ Inv-loop schema at types n name first bytes last₀ work₀ len₀ required₀ s
 abbrev μ-loop : tie.MeasureT-loop
 μ-loop schema at types n name first bytes last₀ work₀ len₀ required₀ second₀ e₀ left₀ last work len required second e left = left
 
+-- src/lookup_attribute_type.rt:66:5
 loop-holds : tie.Need-loop-holds Inv-loop μ-loop
-loop-holds c = (folding-start _ _ _ _ _ _ _ _ ((c .before .before .before .before) .pre .1 .1) ((c .before .before .before .before) .pre .1 .0), refl)
+loop-holds c = (folding-start _ _ _ _ _ _ _ _ (c .before .before .before .before .pre .1 .1) (c .before .before .before .before .pre .1 .0), refl)
 
+-- src/lookup_attribute_type.rt:67:72
 u16-at-requires : tie.Need-u16-at-requires Inv-loop μ-loop
-u16-at-requires c κs = omega (arith, (c .before) .loop .inv .0 .ahead .sized)
+u16-at-requires c κs = omega (arith, c .before .loop .inv .0 .ahead .sized)
 
+-- src/lookup_attribute_type.rt:67:43
 entity-attribute-requires : tie.Need-entity-attribute-requires Inv-loop μ-loop
-entity-attribute-requires c κs = (c .before .before .before .before .before .before .before) .pre .0
+entity-attribute-requires c κs = c .before .before .before .before .before .before .before .pre .0
 
+-- src/lookup_attribute_type.rt:67:23
 enum-known-start : tie.Need-enum-known-start Inv-loop μ-loop
 enum-known-start c = search needs
 
+-- src/lookup_attribute_type.rt:68:13
 enum-told : tie.Need-enum-told Inv-loop μ-loop
 enum-told c = search needs
 
+-- src/lookup_attribute_type.rt:68:13
 same-length : tie.Need-same-length Inv-loop μ-loop
-same-length c = omega (arith, (c .before .before .before .before .before) .loop .inv .0 .held .room, (c .before .before .before .before .before .before .before .before .before .before) .pre .1 .1 .room)
+same-length c = omega (arith, c .before .before .before .before .before .loop .inv .0 .held .room, c .before .before .before .before .before .before .before .before .before .before .pre .1 .1 .room)
 
+-- src/lookup_attribute_type.rt:68:13
 same-length-2 : tie.Need-same-length-2 Inv-loop μ-loop
-same-length-2 c = (c .before .before .before .before .before) .loop .inv .1
+same-length-2 c = c .before .before .before .before .before .loop .inv .1
 
+-- src/lookup_attribute_type.rt:68:13
 returns : tie.Need-returns Inv-loop μ-loop
-returns c = folding-lacks ((c .before .before .before .before .before) .loop .inv .0) ((c .before .before .before .before) .loop-test .taken) ((c .before .before .before) .u16-at .result) ((c .before .before .before) .u16-at .ensures .0) (in-none ((c .before .before .before .before .before .before .before .before .before .before) .args .schema .now) (attrOf (decS standard ((c .before .before .before .before .before .before .before .before .before .before) .args .schema .now)) ((c .before .before .before .before .before .before .before .before .before .before) .args .name) ((c .before .before .before) .u16-at .result)) ((c .before .before) .entity-attribute .result) (c .enum-told .given .1) ((c .before .before) .entity-attribute .ensures))
+returns c =
+    folding-lacks (c .before .before .before .before .before .loop .inv .0) (c .before .before .before .before .loop-test .taken) (c .before .before .before .u16-at .result) (c .before .before .before .u16-at .ensures .0) (in-none (c .before .before .before .before .before .before .before .before .before .before .args .schema .now) (attrOf (decS standard (c .before .before .before .before .before .before .before .before .before .before .args .schema .now)) (c .before .before .before .before .before .before .before .before .before .before .args .name) (c .before .before .before .u16-at .result)) (c .before .before .entity-attribute .result) (c .enum-told .given .1) (c .before .before .entity-attribute .ensures))
 
+-- src/lookup_attribute_type.rt:70:17
+sub-t : tie.Need-sub-t Inv-loop μ-loop
+sub-t c =
+    let here = in-at (c .before .before .before .before .before .before .before .before .before .before .before .args .schema .now) (attrOf (decS standard (c .before .before .before .before .before .before .before .before .before .before .before .args .schema .now)) (c .before .before .before .before .before .before .before .before .before .before .before .args .name) (c .before .before .before .before .u16-at .result)) (c .before .before .before .entity-attribute .result) (c .before .start .given .0 .0) (c .before .start .given .0 .1 .0) (c .before .start .given .0 .1 .1 .0) (c .before .start .given .1) (c .before .before .before .entity-attribute .ensures) in
+    omega (arith, here .0 .0, here .0 .1)
+
+-- src/lookup_attribute_type.rt:70:17
+part-t-start : tie.Need-part-t-start Inv-loop μ-loop
+part-t-start c =
+    let here = in-at (c .before .before .before .before .before .before .before .before .before .before .before .args .schema .now) (attrOf (decS standard (c .before .before .before .before .before .before .before .before .before .before .before .args .schema .now)) (c .before .before .before .before .before .before .before .before .before .before .before .args .name) (c .before .before .before .before .u16-at .result)) (c .before .before .before .entity-attribute .result) (c .before .start .given .0 .0) (c .before .start .given .0 .1 .0) (c .before .start .given .0 .1 .1 .0) (c .before .start .given .1) (c .before .before .before .entity-attribute .ensures) in
+    omega (arith, here .0 .0, here .0 .1)
+
+-- src/lookup_attribute_type.rt:70:17
+part-t-end : tie.Need-part-t-end Inv-loop μ-loop
+part-t-end c =
+    let here = in-at (c .before .before .before .before .before .before .before .before .before .before .before .args .schema .now) (attrOf (decS standard (c .before .before .before .before .before .before .before .before .before .before .before .args .schema .now)) (c .before .before .before .before .before .before .before .before .before .before .before .args .name) (c .before .before .before .before .u16-at .result)) (c .before .before .before .entity-attribute .result) (c .before .start .given .0 .0) (c .before .start .given .0 .1 .0) (c .before .start .given .0 .1 .1 .0) (c .before .start .given .1) (c .before .before .before .entity-attribute .ensures) in
+    omega (arith, here .0 .0, here .0 .1)
+
+-- src/lookup_attribute_type.rt:71:57
 sub-join-step : tie.Need-sub-join-step Inv-loop μ-loop
-sub-join-step c = omega (arith, (in-at ((c .before .before .before .before .before .before .before .before .before .before .before .before) .args .schema .now) (attrOf (decS standard ((c .before .before .before .before .before .before .before .before .before .before .before .before) .args .schema .now)) ((c .before .before .before .before .before .before .before .before .before .before .before .before) .args .name) ((c .before .before .before .before .before) .u16-at .result)) ((c .before .before .before .before) .entity-attribute .result) ((c .before .before) .start .given .0 .0) ((c .before .before) .start .given .0 .1 .0) ((c .before .before) .start .given .0 .1 .1 .0) ((c .before .before) .start .given .1) ((c .before .before .before .before) .entity-attribute .ensures)) .0 .0, (in-at ((c .before .before .before .before .before .before .before .before .before .before .before .before) .args .schema .now) (attrOf (decS standard ((c .before .before .before .before .before .before .before .before .before .before .before .before) .args .schema .now)) ((c .before .before .before .before .before .before .before .before .before .before .before .before) .args .name) ((c .before .before .before .before .before) .u16-at .result)) ((c .before .before .before .before) .entity-attribute .result) ((c .before .before) .start .given .0 .0) ((c .before .before) .start .given .0 .1 .0) ((c .before .before) .start .given .0 .1 .1 .0) ((c .before .before) .start .given .1) ((c .before .before .before .before) .entity-attribute .ensures)) .0 .1)
+sub-join-step c = search needs
 
-part-join-step-start : tie.Need-part-join-step-start Inv-loop μ-loop
-part-join-step-start c = omega (arith, (in-at ((c .before .before .before .before .before .before .before .before .before .before .before .before) .args .schema .now) (attrOf (decS standard ((c .before .before .before .before .before .before .before .before .before .before .before .before) .args .schema .now)) ((c .before .before .before .before .before .before .before .before .before .before .before .before) .args .name) ((c .before .before .before .before .before) .u16-at .result)) ((c .before .before .before .before) .entity-attribute .result) ((c .before .before) .start .given .0 .0) ((c .before .before) .start .given .0 .1 .0) ((c .before .before) .start .given .0 .1 .1 .0) ((c .before .before) .start .given .1) ((c .before .before .before .before) .entity-attribute .ensures)) .0 .0, (in-at ((c .before .before .before .before .before .before .before .before .before .before .before .before) .args .schema .now) (attrOf (decS standard ((c .before .before .before .before .before .before .before .before .before .before .before .before) .args .schema .now)) ((c .before .before .before .before .before .before .before .before .before .before .before .before) .args .name) ((c .before .before .before .before .before) .u16-at .result)) ((c .before .before .before .before) .entity-attribute .result) ((c .before .before) .start .given .0 .0) ((c .before .before) .start .given .0 .1 .0) ((c .before .before) .start .given .0 .1 .1 .0) ((c .before .before) .start .given .1) ((c .before .before .before .before) .entity-attribute .ensures)) .0 .1)
-
-part-join-step-end : tie.Need-part-join-step-end Inv-loop μ-loop
-part-join-step-end c = omega (arith, (in-at ((c .before .before .before .before .before .before .before .before .before .before .before .before) .args .schema .now) (attrOf (decS standard ((c .before .before .before .before .before .before .before .before .before .before .before .before) .args .schema .now)) ((c .before .before .before .before .before .before .before .before .before .before .before .before) .args .name) ((c .before .before .before .before .before) .u16-at .result)) ((c .before .before .before .before) .entity-attribute .result) ((c .before .before) .start .given .0 .0) ((c .before .before) .start .given .0 .1 .0) ((c .before .before) .start .given .0 .1 .1 .0) ((c .before .before) .start .given .1) ((c .before .before .before .before) .entity-attribute .ensures)) .0 .0, (in-at ((c .before .before .before .before .before .before .before .before .before .before .before .before) .args .schema .now) (attrOf (decS standard ((c .before .before .before .before .before .before .before .before .before .before .before .before) .args .schema .now)) ((c .before .before .before .before .before .before .before .before .before .before .before .before) .args .name) ((c .before .before .before .before .before) .u16-at .result)) ((c .before .before .before .before) .entity-attribute .result) ((c .before .before) .start .given .0 .0) ((c .before .before) .start .given .0 .1 .0) ((c .before .before) .start .given .0 .1 .1 .0) ((c .before .before) .start .given .1) ((c .before .before .before .before) .entity-attribute .ensures)) .0 .1)
-
+-- src/lookup_attribute_type.rt:71:15
 join-step-requires : tie.Need-join-step-requires Inv-loop μ-loop
-join-step-requires c κs = record { room = (c .before .before .before .before .before .before .before .before .before) .loop .inv .0 .held .room; fits = (c .before .before .before .before .before .before .before .before .before) .loop .inv .0 .held .fits; one = (c .before .before .before .before .before .before .before .before .before) .loop .inv .0 .held .good; other = (in-at ((c .before .before .before .before .before .before .before .before .before .before .before .before .before .before) .args .schema .now) (attrOf (decS standard ((c .before .before .before .before .before .before .before .before .before .before .before .before .before .before) .args .schema .now)) ((c .before .before .before .before .before .before .before .before .before .before .before .before .before .before) .args .name) ((c .before .before .before .before .before .before .before) .u16-at .result)) ((c .before .before .before .before .before .before) .entity-attribute .result) ((c .before .before .before .before) .start .given .0 .0) ((c .before .before .before .before) .start .given .0 .1 .0) ((c .before .before .before .before) .start .given .0 .1 .1 .0) ((c .before .before .before .before) .start .given .1) ((c .before .before .before .before .before .before) .entity-attribute .ensures)) .0 .2 }
+join-step-requires c κs =
+    let here = in-at (c .before .before .before .before .before .before .before .before .before .before .before .before .before .before .args .schema .now) (attrOf (decS standard (c .before .before .before .before .before .before .before .before .before .before .before .before .before .before .args .schema .now)) (c .before .before .before .before .before .before .before .before .before .before .before .before .before .before .args .name) (c .before .before .before .before .before .before .before .u16-at .result)) (c .before .before .before .before .before .before .entity-attribute .result) (c .before .before .before .before .start .given .0 .0) (c .before .before .before .before .start .given .0 .1 .0) (c .before .before .before .before .start .given .0 .1 .1 .0) (c .before .before .before .before .start .given .1) (c .before .before .before .before .before .before .entity-attribute .ensures) in
+    (c .before .before .before .before .before .before .before .before .before .loop .inv .0 .held, here .0 .2)
 
+-- src/lookup_attribute_type.rt:72:22
 enum-known-m : tie.Need-enum-known-m Inv-loop μ-loop
 enum-known-m c = search needs
 
+-- src/lookup_attribute_type.rt:73:29
 enum-told-2 : tie.Need-enum-told-2 Inv-loop μ-loop
 enum-told-2 c = search needs
 
+-- src/lookup_attribute_type.rt:73:29
 same-length-3 : tie.Need-same-length-3 Inv-loop μ-loop
-same-length-3 c = omega (arith, (c .before .before .before .before .before .before) .join-step .kept .0, (c .before .before .before .before .before .before .before .before .before .before .before .before .before .before .before .before) .loop .inv .0 .held .room, (c .before .before .before .before .before .before .before .before .before .before .before .before .before .before .before .before .before .before .before .before .before) .pre .1 .1 .room)
+same-length-3 c = c .before .before .before .before .before .before .join-step .kept .1 .0 ∙ omega (arith, c .before .before .before .before .before .before .before .before .before .before .before .before .before .before .before .before .loop .inv .0 .held .room, c .before .before .before .before .before .before .before .before .before .before .before .before .before .before .before .before .before .before .before .before .before .pre .1 .1 .room)
 
+-- src/lookup_attribute_type.rt:73:29
 same-length-4 : tie.Need-same-length-4 Inv-loop μ-loop
-same-length-4 c = (c .before .before .before .before .before .before) .join-step .kept .1 .1 .1 .1 .0 ∙ (c .before .before .before .before .before .before .before .before .before .before .before .before .before .before .before .before) .loop .inv .1
+same-length-4 c = c .before .before .before .before .before .before .join-step .kept .1 .1 .1 .1 .1 .1 .0 ∙ c .before .before .before .before .before .before .before .before .before .before .before .before .before .before .before .before .loop .inv .1
 
+-- src/lookup_attribute_type.rt:73:29
 returns-2 : tie.Need-returns-2 Inv-loop μ-loop
-returns-2 c = folding-unbounded ((c .before .before .before .before .before .before .before .before .before .before .before .before .before .before .before .before) .loop .inv .0) ((c .before .before .before .before .before .before .before .before .before .before .before .before .before .before .before) .loop-test .taken) ((c .before .before .before .before .before .before .before .before .before .before .before .before .before .before) .u16-at .result) ((c .before .before .before .before .before .before .before .before .before .before .before .before .before .before) .u16-at .ensures .0) ((c .before .before .before .before .before .before .before .before .before .before .before) .start .given .0 .1 .1 .0) (part ((c .before .before .before .before .before .before .before .before .before .before .before) .start .given .0 .0) ((c .before .before .before .before .before .before .before .before .before .before .before) .start .given .0 .1 .0) ((c .before .before .before .before .before .before .before .before .before .before .before .before .before .before .before .before .before .before .before .before .before) .args .schema .now)) ((in-at ((c .before .before .before .before .before .before .before .before .before .before .before .before .before .before .before .before .before .before .before .before .before) .args .schema .now) (attrOf (decS standard ((c .before .before .before .before .before .before .before .before .before .before .before .before .before .before .before .before .before .before .before .before .before) .args .schema .now)) ((c .before .before .before .before .before .before .before .before .before .before .before .before .before .before .before .before .before .before .before .before .before) .args .name) ((c .before .before .before .before .before .before .before .before .before .before .before .before .before .before) .u16-at .result)) ((c .before .before .before .before .before .before .before .before .before .before .before .before .before) .entity-attribute .result) ((c .before .before .before .before .before .before .before .before .before .before .before) .start .given .0 .0) ((c .before .before .before .before .before .before .before .before .before .before .before) .start .given .0 .1 .0) ((c .before .before .before .before .before .before .before .before .before .before .before) .start .given .0 .1 .1 .0) ((c .before .before .before .before .before .before .before .before .before .before .before) .start .given .1) ((c .before .before .before .before .before .before .before .before .before .before .before .before .before) .entity-attribute .ensures)) .0 .3) ((c .before .before .before .before .before .before) .join-step .last .0) ((c .before .before .before .before .before .before) .join-step .result) (subst (λ (w : ℕ). Stepped (bound permissive (dec 15 (part 0 ((c .before .before .before .before .before .before .before .before .before .before .before .before .before .before .before .before) .loop .len) ((c .before .before .before .before .before .before .before .before .before .before .before .before .before .before .before .before) .loop .last))) (dec 15 (part ((c .before .before .before .before .before .before .before .before .before .before .before) .start .given .0 .0) ((c .before .before .before .before .before .before .before .before .before .before .before) .start .given .0 .1 .0) ((c .before .before .before .before .before .before .before .before .before .before .before .before .before .before .before .before .before .before .before .before .before) .args .schema .now)))) w ((c .before .before .before .before .before .before) .join-step .last .0) ((c .before .before .before .before .before .before) .join-step .result)) ((c .before .before .before .before .before .before .before .before .before .before .before .before .before .before .before .before) .loop .inv .1) ((c .before .before .before .before .before .before) .join-step .ensures)) (c .enum-told2 .given .1)
+returns-2 c =
+    let here = in-at (c .before .before .before .before .before .before .before .before .before .before .before .before .before .before .before .before .before .before .before .before .before .args .schema .now) (attrOf (decS standard (c .before .before .before .before .before .before .before .before .before .before .before .before .before .before .before .before .before .before .before .before .before .args .schema .now)) (c .before .before .before .before .before .before .before .before .before .before .before .before .before .before .before .before .before .before .before .before .before .args .name) (c .before .before .before .before .before .before .before .before .before .before .before .before .before .before .u16-at .result)) (c .before .before .before .before .before .before .before .before .before .before .before .before .before .entity-attribute .result) (c .before .before .before .before .before .before .before .before .before .before .before .start .given .0 .0) (c .before .before .before .before .before .before .before .before .before .before .before .start .given .0 .1 .0) (c .before .before .before .before .before .before .before .before .before .before .before .start .given .0 .1 .1 .0) (c .before .before .before .before .before .before .before .before .before .before .before .start .given .1) (c .before .before .before .before .before .before .before .before .before .before .before .before .before .entity-attribute .ensures) in
+    folding-unbounded (c .before .before .before .before .before .before .before .before .before .before .before .before .before .before .before .before .loop .inv .0) (c .before .before .before .before .before .before .before .before .before .before .before .before .before .before .before .loop-test .taken) (c .before .before .before .before .before .before .before .before .before .before .before .before .before .before .u16-at .result) (c .before .before .before .before .before .before .before .before .before .before .before .before .before .before .u16-at .ensures .0) (c .before .before .before .before .before .before .before .before .before .before .before .start .given .0 .1 .1 .0) (part (c .before .before .before .before .before .before .before .before .before .before .before .start .given .0 .0) (c .before .before .before .before .before .before .before .before .before .before .before .start .given .0 .1 .0) (c .before .before .before .before .before .before .before .before .before .before .before .before .before .before .before .before .before .before .before .before .before .args .schema .now)) (here .0 .3) (c .before .before .before .before .before .before .join-step .last .1 .0) (c .before .before .before .before .before .before .join-step .result) (subst (λ (w : ℕ). Stepped 15 (bound (asMode 1) (dec 15 (part 0 (c .before .before .before .before .before .before .before .before .before .before .before .before .before .before .before .before .loop .len) (c .before .before .before .before .before .before .before .before .before .before .before .before .before .before .before .before .loop .last))) (dec 15 (part (c .before .before .before .before .before .before .before .before .before .before .before .start .given .0 .0) (c .before .before .before .before .before .before .before .before .before .before .before .start .given .0 .1 .0) (c .before .before .before .before .before .before .before .before .before .before .before .before .before .before .before .before .before .before .before .before .before .args .schema .now)))) w (c .before .before .before .before .before .before .join-step .last .1 .0) (c .before .before .before .before .before .before .join-step .result)) (c .before .before .before .before .before .before .before .before .before .before .before .before .before .before .before .before .loop .inv .1) (c .before .before .before .before .before .before .join-step .ensures)) (c .enum-told2 .given .0 .0) (c .enum-told2 .given .1)
 
+-- src/lookup_attribute_type.rt:74:30
 enum-told-3 : tie.Need-enum-told-3 Inv-loop μ-loop
 enum-told-3 c = search needs
 
+-- src/lookup_attribute_type.rt:74:30
 same-length-5 : tie.Need-same-length-5 Inv-loop μ-loop
-same-length-5 c = omega (arith, (c .before .before .before .before .before .before) .join-step .kept .0, (c .before .before .before .before .before .before .before .before .before .before .before .before .before .before .before .before) .loop .inv .0 .held .room, (c .before .before .before .before .before .before .before .before .before .before .before .before .before .before .before .before .before .before .before .before .before) .pre .1 .1 .room)
+same-length-5 c = c .before .before .before .before .before .before .join-step .kept .1 .0 ∙ omega (arith, c .before .before .before .before .before .before .before .before .before .before .before .before .before .before .before .before .loop .inv .0 .held .room, c .before .before .before .before .before .before .before .before .before .before .before .before .before .before .before .before .before .before .before .before .before .pre .1 .1 .room)
 
+-- src/lookup_attribute_type.rt:74:30
 same-length-6 : tie.Need-same-length-6 Inv-loop μ-loop
-same-length-6 c = (c .before .before .before .before .before .before) .join-step .kept .1 .1 .1 .1 .0 ∙ (c .before .before .before .before .before .before .before .before .before .before .before .before .before .before .before .before) .loop .inv .1
+same-length-6 c = c .before .before .before .before .before .before .join-step .kept .1 .1 .1 .1 .1 .1 .0 ∙ c .before .before .before .before .before .before .before .before .before .before .before .before .before .before .before .before .loop .inv .1
 
+-- src/lookup_attribute_type.rt:74:30
 returns-3 : tie.Need-returns-3 Inv-loop μ-loop
-returns-3 c = folding-too-long ((c .before .before .before .before .before .before .before .before .before .before .before .before .before .before .before .before) .loop .inv .0) ((c .before .before .before .before .before .before .before .before .before .before .before .before .before .before .before) .loop-test .taken) ((c .before .before .before .before .before .before .before .before .before .before .before .before .before .before) .u16-at .result) ((c .before .before .before .before .before .before .before .before .before .before .before .before .before .before) .u16-at .ensures .0) ((c .before .before .before .before .before .before .before .before .before .before .before) .start .given .0 .1 .1 .0) (part ((c .before .before .before .before .before .before .before .before .before .before .before) .start .given .0 .0) ((c .before .before .before .before .before .before .before .before .before .before .before) .start .given .0 .1 .0) ((c .before .before .before .before .before .before .before .before .before .before .before .before .before .before .before .before .before .before .before .before .before) .args .schema .now)) ((in-at ((c .before .before .before .before .before .before .before .before .before .before .before .before .before .before .before .before .before .before .before .before .before) .args .schema .now) (attrOf (decS standard ((c .before .before .before .before .before .before .before .before .before .before .before .before .before .before .before .before .before .before .before .before .before) .args .schema .now)) ((c .before .before .before .before .before .before .before .before .before .before .before .before .before .before .before .before .before .before .before .before .before) .args .name) ((c .before .before .before .before .before .before .before .before .before .before .before .before .before .before) .u16-at .result)) ((c .before .before .before .before .before .before .before .before .before .before .before .before .before) .entity-attribute .result) ((c .before .before .before .before .before .before .before .before .before .before .before) .start .given .0 .0) ((c .before .before .before .before .before .before .before .before .before .before .before) .start .given .0 .1 .0) ((c .before .before .before .before .before .before .before .before .before .before .before) .start .given .0 .1 .1 .0) ((c .before .before .before .before .before .before .before .before .before .before .before) .start .given .1) ((c .before .before .before .before .before .before .before .before .before .before .before .before .before) .entity-attribute .ensures)) .0 .3) ((c .before .before .before .before .before .before) .join-step .last .0) ((c .before .before .before .before .before .before) .join-step .result) (subst (λ (w : ℕ). Stepped (bound permissive (dec 15 (part 0 ((c .before .before .before .before .before .before .before .before .before .before .before .before .before .before .before .before) .loop .len) ((c .before .before .before .before .before .before .before .before .before .before .before .before .before .before .before .before) .loop .last))) (dec 15 (part ((c .before .before .before .before .before .before .before .before .before .before .before) .start .given .0 .0) ((c .before .before .before .before .before .before .before .before .before .before .before) .start .given .0 .1 .0) ((c .before .before .before .before .before .before .before .before .before .before .before .before .before .before .before .before .before .before .before .before .before) .args .schema .now)))) w ((c .before .before .before .before .before .before) .join-step .last .0) ((c .before .before .before .before .before .before) .join-step .result)) ((c .before .before .before .before .before .before .before .before .before .before .before .before .before .before .before .before) .loop .inv .1) ((c .before .before .before .before .before .before) .join-step .ensures)) (c .enum-told3 .given .1)
+returns-3 c =
+    let here = in-at (c .before .before .before .before .before .before .before .before .before .before .before .before .before .before .before .before .before .before .before .before .before .args .schema .now) (attrOf (decS standard (c .before .before .before .before .before .before .before .before .before .before .before .before .before .before .before .before .before .before .before .before .before .args .schema .now)) (c .before .before .before .before .before .before .before .before .before .before .before .before .before .before .before .before .before .before .before .before .before .args .name) (c .before .before .before .before .before .before .before .before .before .before .before .before .before .before .u16-at .result)) (c .before .before .before .before .before .before .before .before .before .before .before .before .before .entity-attribute .result) (c .before .before .before .before .before .before .before .before .before .before .before .start .given .0 .0) (c .before .before .before .before .before .before .before .before .before .before .before .start .given .0 .1 .0) (c .before .before .before .before .before .before .before .before .before .before .before .start .given .0 .1 .1 .0) (c .before .before .before .before .before .before .before .before .before .before .before .start .given .1) (c .before .before .before .before .before .before .before .before .before .before .before .before .before .entity-attribute .ensures) in
+    folding-too-long (c .before .before .before .before .before .before .before .before .before .before .before .before .before .before .before .before .loop .inv .0) (c .before .before .before .before .before .before .before .before .before .before .before .before .before .before .before .loop-test .taken) (c .before .before .before .before .before .before .before .before .before .before .before .before .before .before .u16-at .result) (c .before .before .before .before .before .before .before .before .before .before .before .before .before .before .u16-at .ensures .0) (c .before .before .before .before .before .before .before .before .before .before .before .start .given .0 .1 .1 .0) (part (c .before .before .before .before .before .before .before .before .before .before .before .start .given .0 .0) (c .before .before .before .before .before .before .before .before .before .before .before .start .given .0 .1 .0) (c .before .before .before .before .before .before .before .before .before .before .before .before .before .before .before .before .before .before .before .before .before .args .schema .now)) (here .0 .3) (c .before .before .before .before .before .before .join-step .last .1 .0) (c .before .before .before .before .before .before .join-step .result) (subst (λ (w : ℕ). Stepped 15 (bound (asMode 1) (dec 15 (part 0 (c .before .before .before .before .before .before .before .before .before .before .before .before .before .before .before .before .loop .len) (c .before .before .before .before .before .before .before .before .before .before .before .before .before .before .before .before .loop .last))) (dec 15 (part (c .before .before .before .before .before .before .before .before .before .before .before .start .given .0 .0) (c .before .before .before .before .before .before .before .before .before .before .before .start .given .0 .1 .0) (c .before .before .before .before .before .before .before .before .before .before .before .before .before .before .before .before .before .before .before .before .before .args .schema .now)))) w (c .before .before .before .before .before .before .join-step .last .1 .0) (c .before .before .before .before .before .before .join-step .result)) (c .before .before .before .before .before .before .before .before .before .before .before .before .before .before .before .before .loop .inv .1) (c .before .before .before .before .before .before .join-step .ensures)) (c .enum-told3 .given .1)
 
+-- src/lookup_attribute_type.rt:76:9
 both-requires : tie.Need-both-requires Inv-loop μ-loop
 both-requires c κs = search needs
 
+-- src/lookup_attribute_type.rt:78:13
 sub-e : tie.Need-sub-e Inv-loop μ-loop
-sub-e c = omega (arith, (c .before .before .before .before .before .before .before .before .before .before .before .before .before .before .before .before .before .before) .loop .inv .0 .ahead .sized)
+sub-e c = omega (arith, c .before .before .before .before .before .before .before .before .before .before .before .before .before .before .before .before .before .before .loop .inv .0 .ahead .sized)
 
+-- src/lookup_attribute_type.rt:78:13
 part-e-start : tie.Need-part-e-start Inv-loop μ-loop
-part-e-start c = omega (arith, (c .before .before .before .before .before .before .before .before .before .before .before .before .before .before .before .before .before .before) .loop .inv .0 .ahead .sized)
+part-e-start c = omega (arith, c .before .before .before .before .before .before .before .before .before .before .before .before .before .before .before .before .before .before .loop .inv .0 .ahead .sized)
 
+-- src/lookup_attribute_type.rt:78:13
 part-e-end : tie.Need-part-e-end Inv-loop μ-loop
 part-e-end c = omega arith
 
+-- src/lookup_attribute_type.rt:79:9
 sub-left : tie.Need-sub-left Inv-loop μ-loop
 sub-left c = omega arith
 
+-- src/lookup_attribute_type.rt:66:5
 loop-less : tie.Need-loop-less Inv-loop μ-loop
 loop-less c = omega arith
 
+-- src/lookup_attribute_type.rt:66:5
 loop-again : tie.Need-loop-again Inv-loop μ-loop
-loop-again c = (folding-next ((c .before .before .before .before .before .before .before .before .before .before .before .before .before .before .before .before .before .before .before) .loop .inv .0) ((c .before .before .before .before .before .before .before .before .before .before .before .before .before .before .before .before .before .before) .loop-test .taken) ((c .before .before .before .before .before .before .before .before .before .before .before .before .before .before .before .before .before) .u16-at .result) ((c .before .before .before .before .before .before .before .before .before .before .before .before .before .before .before .before .before) .u16-at .ensures .0) ((c .before .before .before .before .before .before .before .before .before .before .before .before .before .before) .start .given .0 .1 .1 .0) (part ((c .before .before .before .before .before .before .before .before .before .before .before .before .before .before) .start .given .0 .0) ((c .before .before .before .before .before .before .before .before .before .before .before .before .before .before) .start .given .0 .1 .0) ((c .before .before .before .before .before .before .before .before .before .before .before .before .before .before .before .before .before .before .before .before .before .before .before .before) .args .schema .now)) ((in-at ((c .before .before .before .before .before .before .before .before .before .before .before .before .before .before .before .before .before .before .before .before .before .before .before .before) .args .schema .now) (attrOf (decS standard ((c .before .before .before .before .before .before .before .before .before .before .before .before .before .before .before .before .before .before .before .before .before .before .before .before) .args .schema .now)) ((c .before .before .before .before .before .before .before .before .before .before .before .before .before .before .before .before .before .before .before .before .before .before .before .before) .args .name) ((c .before .before .before .before .before .before .before .before .before .before .before .before .before .before .before .before .before) .u16-at .result)) ((c .before .before .before .before .before .before .before .before .before .before .before .before .before .before .before .before) .entity-attribute .result) ((c .before .before .before .before .before .before .before .before .before .before .before .before .before .before) .start .given .0 .0) ((c .before .before .before .before .before .before .before .before .before .before .before .before .before .before) .start .given .0 .1 .0) ((c .before .before .before .before .before .before .before .before .before .before .before .before .before .before) .start .given .0 .1 .1 .0) ((c .before .before .before .before .before .before .before .before .before .before .before .before .before .before) .start .given .1) ((c .before .before .before .before .before .before .before .before .before .before .before .before .before .before .before .before) .entity-attribute .ensures)) .0 .3) ((c .before .before .before .before .before .before .before .before .before) .join-step .last .0) ((c .before .before .before .before .before .before .before .before .before) .join-step .result) (subst (λ (w : ℕ). Stepped (bound permissive (dec 15 (part 0 ((c .before .before .before .before .before .before .before .before .before .before .before .before .before .before .before .before .before .before .before) .loop .len) ((c .before .before .before .before .before .before .before .before .before .before .before .before .before .before .before .before .before .before .before) .loop .last))) (dec 15 (part ((c .before .before .before .before .before .before .before .before .before .before .before .before .before .before) .start .given .0 .0) ((c .before .before .before .before .before .before .before .before .before .before .before .before .before .before) .start .given .0 .1 .0) ((c .before .before .before .before .before .before .before .before .before .before .before .before .before .before .before .before .before .before .before .before .before .before .before .before) .args .schema .now)))) w ((c .before .before .before .before .before .before .before .before .before) .join-step .last .0) ((c .before .before .before .before .before .before .before .before .before) .join-step .result)) ((c .before .before .before .before .before .before .before .before .before .before .before .before .before .before .before .before .before .before .before) .loop .inv .1) ((c .before .before .before .before .before .before .before .before .before) .join-step .ensures)) ((c .before .before .before) .m .given .0 .0) ((c .before .before .before) .m .given .1) ((c .before .before .before .before .before .before .before .before .before) .join-step .kept .0) ((c .before) .both .result) ((c .before) .both .ensures), (c .before .before .before .before .before .before .before .before .before) .join-step .kept .1 .1 .1 .1 .0 ∙ (c .before .before .before .before .before .before .before .before .before .before .before .before .before .before .before .before .before .before .before) .loop .inv .1)
+loop-again c =
+    let here = in-at (c .before .before .before .before .before .before .before .before .before .before .before .before .before .before .before .before .before .before .before .before .before .before .before .before .args .schema .now) (attrOf (decS standard (c .before .before .before .before .before .before .before .before .before .before .before .before .before .before .before .before .before .before .before .before .before .before .before .before .args .schema .now)) (c .before .before .before .before .before .before .before .before .before .before .before .before .before .before .before .before .before .before .before .before .before .before .before .before .args .name) (c .before .before .before .before .before .before .before .before .before .before .before .before .before .before .before .before .before .u16-at .result)) (c .before .before .before .before .before .before .before .before .before .before .before .before .before .before .before .before .entity-attribute .result) (c .before .before .before .before .before .before .before .before .before .before .before .before .before .before .start .given .0 .0) (c .before .before .before .before .before .before .before .before .before .before .before .before .before .before .start .given .0 .1 .0) (c .before .before .before .before .before .before .before .before .before .before .before .before .before .before .start .given .0 .1 .1 .0) (c .before .before .before .before .before .before .before .before .before .before .before .before .before .before .start .given .1) (c .before .before .before .before .before .before .before .before .before .before .before .before .before .before .before .before .entity-attribute .ensures) in
+    (folding-next (c .before .before .before .before .before .before .before .before .before .before .before .before .before .before .before .before .before .before .before .loop .inv .0) (c .before .before .before .before .before .before .before .before .before .before .before .before .before .before .before .before .before .before .loop-test .taken) (c .before .before .before .before .before .before .before .before .before .before .before .before .before .before .before .before .before .u16-at .result) (c .before .before .before .before .before .before .before .before .before .before .before .before .before .before .before .before .before .u16-at .ensures .0) (c .before .before .before .before .before .before .before .before .before .before .before .before .before .before .start .given .0 .1 .1 .0) (part (c .before .before .before .before .before .before .before .before .before .before .before .before .before .before .start .given .0 .0) (c .before .before .before .before .before .before .before .before .before .before .before .before .before .before .start .given .0 .1 .0) (c .before .before .before .before .before .before .before .before .before .before .before .before .before .before .before .before .before .before .before .before .before .before .before .before .args .schema .now)) (here .0 .3) (c .before .before .before .before .before .before .before .before .before .join-step .last .1 .0) (c .before .before .before .before .before .before .before .before .before .join-step .result) (subst (λ (w : ℕ). Stepped 15 (bound (asMode 1) (dec 15 (part 0 (c .before .before .before .before .before .before .before .before .before .before .before .before .before .before .before .before .before .before .before .loop .len) (c .before .before .before .before .before .before .before .before .before .before .before .before .before .before .before .before .before .before .before .loop .last))) (dec 15 (part (c .before .before .before .before .before .before .before .before .before .before .before .before .before .before .start .given .0 .0) (c .before .before .before .before .before .before .before .before .before .before .before .before .before .before .start .given .0 .1 .0) (c .before .before .before .before .before .before .before .before .before .before .before .before .before .before .before .before .before .before .before .before .before .before .before .before .args .schema .now)))) w (c .before .before .before .before .before .before .before .before .before .join-step .last .1 .0) (c .before .before .before .before .before .before .before .before .before .join-step .result)) (c .before .before .before .before .before .before .before .before .before .before .before .before .before .before .before .before .before .before .before .loop .inv .1) (c .before .before .before .before .before .before .before .before .before .join-step .ensures)) (c .before .before .before .m .given .0 .0) (c .before .before .before .m .given .1) (c .before .both .result) (c .before .both .ensures), c .before .before .before .before .before .before .before .before .before .join-step .kept .1 .1 .1 .1 .1 .1 .0 ∙ c .before .before .before .before .before .before .before .before .before .before .before .before .before .before .before .before .before .before .before .loop .inv .1)
 
+-- src/lookup_attribute_type.rt:45:1
 same-length-7 : tie.Need-same-length-7 Inv-loop μ-loop
-same-length-7 c = omega (arith, (c .before) .loop .inv .0 .held .room, (c .before .before .before .before .before .before) .pre .1 .1 .room)
+same-length-7 c = omega (arith, c .before .loop .inv .0 .held .room, c .before .before .before .before .before .before .pre .1 .1 .room)
 
+-- src/lookup_attribute_type.rt:45:1
 same-length-8 : tie.Need-same-length-8 Inv-loop μ-loop
-same-length-8 c = (c .before) .loop .inv .1
+same-length-8 c = c .before .loop .inv .1
 
+-- src/lookup_attribute_type.rt:45:1
 returns-4 : tie.Need-returns-4 Inv-loop μ-loop
-returns-4 c = folding-end ((c .before) .loop .inv .0) (c .loop-test .left)
+returns-4 c = folding-end (c .before .loop .inv .0) (c .loop-test .left)
 
 pub fold-attribute-spec : {M : Type 1} → statement M
 fold-attribute-spec =
@@ -130,9 +185,10 @@ fold-attribute-spec =
     same-length
     same-length-2
     returns
+    sub-t
+    part-t-start
+    part-t-end
     sub-join-step
-    part-join-step-start
-    part-join-step-end
     join-step-requires
     enum-known-m
     enum-told-2

@@ -1,4 +1,4 @@
-use Rattle.attributes.specs.Laws.Bytes.{Bytes-index, Bytes-part, enc-dec}
+use Rattle.forms.specs.Laws.Bytes.{Bytes-index, Bytes-part, enc-dec}
 use Prim.Native.Nat.{_-_, _≤_}
 use Rattle.forms.specs.Parts.{part}
 use native.Mathlib.Omega.{arith}

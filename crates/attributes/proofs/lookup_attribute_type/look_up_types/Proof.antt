@@ -1,4 +1,4 @@
-use Rattle.attributes.specs.Laws.Bytes.{Bytes-index, Bytes-part, enc-dec}
+use Rattle.forms.specs.Laws.Bytes.{Bytes-index, Bytes-part, enc-dec}
 use native.Mathlib.Omega.{arith}
 use Prim.Native.Nat.{ℕ, _-_}
 use mathlib.Core.List.{List}

@@ -5,7 +5,7 @@ use Rattle.forms.specs.Rows.{noneLeft}
 use Rattle.forms.specs.TypeBytes.{attrRow, whole}
 use Rattle.forms.specs.Laws.Parts.{length-part}
 use Rattle.forms.specs.Laws.Rows.{RowsLeft, rows-start, rows-end, rows-unfit, rows-short, rows-body, rows-again, table-short, table-over, table-open}
-use Rattle.forms.specs.Laws.Types.{whole-none, whole-empty, whole-by, record-short, record-flag, record-open, unknown-not, atom-open}
+use Rattle.forms.specs.Laws.Types.{SetsLeft, sets-start, sets-again, whole-none, whole-empty, whole-by, record-short, record-flag, record-open, unknown-not, atom-open}
 use Prim.Native.Nat.{ℕ, _<_}
 use borrow.Fn.Kinds.{In}
 use borrow.Fn.PlainCycle.{Measures, is, falls, and}
@@ -57,7 +57,7 @@ attributes-within-Inv-loop t at levels start n end e₀ b₀ left₀ low₀ e b 
 abbrev attributes-within-μ-loop : attributes-within-lts.MeasureT-loop
 attributes-within-μ-loop t at levels start n end e₀ b₀ left₀ low₀ e b left low = left
 
--- src/types.rt:67:17
+-- src/types.rt:71:17
 attributes-within-add-start : (t : ℕ) → attributes-within-lts.Need-add-start (
   u16-at-reads.Asked,
   u16-at-reads.Learnt,
@@ -72,7 +72,7 @@ attributes-within-add-start : (t : ℕ) → attributes-within-lts.Need-add-start
     attributes-within-μ-loop
 attributes-within-add-start t c = omega arith
 
--- src/types.rt:69:9
+-- src/types.rt:73:9
 attributes-within-returns : (t : ℕ) → attributes-within-lts.Need-returns (
   u16-at-reads.Asked,
   u16-at-reads.Learnt,
@@ -87,7 +87,7 @@ attributes-within-returns : (t : ℕ) → attributes-within-lts.Need-returns (
     attributes-within-μ-loop
 attributes-within-returns t c = table-short attrRow (λ _. whole ((c .before .before) .args .levels)) 0 ((c .before .before) .args .at) ((c .before .before) .args .t .now) (c .if1 .taken)
 
--- src/types.rt:71:9
+-- src/types.rt:75:9
 attributes-within-u16-at-requires : (t : ℕ) → attributes-within-lts.Need-u16-at-requires (
   u16-at-reads.Asked,
   u16-at-reads.Learnt,
@@ -102,7 +102,7 @@ attributes-within-u16-at-requires : (t : ℕ) → attributes-within-lts.Need-u16
     attributes-within-μ-loop
 attributes-within-u16-at-requires t c κs = omega arith
 
--- src/types.rt:72:23
+-- src/types.rt:76:23
 attributes-within-mul-end : (t : ℕ) → attributes-within-lts.Need-mul-end (
   u16-at-reads.Asked,
   u16-at-reads.Learnt,
@@ -117,7 +117,7 @@ attributes-within-mul-end : (t : ℕ) → attributes-within-lts.Need-mul-end (
     attributes-within-μ-loop
 attributes-within-mul-end t c = omega arith
 
--- src/types.rt:72:15
+-- src/types.rt:76:15
 attributes-within-add-end : (t : ℕ) → attributes-within-lts.Need-add-end (
   u16-at-reads.Asked,
   u16-at-reads.Learnt,
@@ -132,7 +132,7 @@ attributes-within-add-end : (t : ℕ) → attributes-within-lts.Need-add-end (
     attributes-within-μ-loop
 attributes-within-add-end t c = omega arith
 
--- src/types.rt:74:9
+-- src/types.rt:78:9
 attributes-within-returns-2 : (t : ℕ) → attributes-within-lts.Need-returns-2 (
   u16-at-reads.Asked,
   u16-at-reads.Learnt,
@@ -147,7 +147,7 @@ attributes-within-returns-2 : (t : ℕ) → attributes-within-lts.Need-returns-2
     attributes-within-μ-loop
 attributes-within-returns-2 t c = table-over attrRow (λ _. whole ((c .before .before .before .before) .args .levels)) 0 ((c .before .before .before .before) .args .at) ((c .before .before .before .before) .args .t .now) ((c .before) .u16-at .result) ((c .before) .u16-at .ensures .0) (c .if2 .taken)
 
--- src/types.rt:76:17
+-- src/types.rt:80:17
 attributes-within-sub-e : (t : ℕ) → attributes-within-lts.Need-sub-e (
   u16-at-reads.Asked,
   u16-at-reads.Learnt,
@@ -162,7 +162,7 @@ attributes-within-sub-e : (t : ℕ) → attributes-within-lts.Need-sub-e (
     attributes-within-μ-loop
 attributes-within-sub-e t c = omega arith
 
--- src/types.rt:76:17
+-- src/types.rt:80:17
 attributes-within-part-e-start : (t : ℕ) → attributes-within-lts.Need-part-e-start (
   u16-at-reads.Asked,
   u16-at-reads.Learnt,
@@ -177,7 +177,7 @@ attributes-within-part-e-start : (t : ℕ) → attributes-within-lts.Need-part-e
     attributes-within-μ-loop
 attributes-within-part-e-start t c = omega arith
 
--- src/types.rt:76:17
+-- src/types.rt:80:17
 attributes-within-part-e-end : (t : ℕ) → attributes-within-lts.Need-part-e-end (
   u16-at-reads.Asked,
   u16-at-reads.Learnt,
@@ -192,7 +192,7 @@ attributes-within-part-e-end : (t : ℕ) → attributes-within-lts.Need-part-e-e
     attributes-within-μ-loop
 attributes-within-part-e-end t c = omega arith
 
--- src/types.rt:77:17
+-- src/types.rt:81:17
 attributes-within-sub-b : (t : ℕ) → attributes-within-lts.Need-sub-b (
   u16-at-reads.Asked,
   u16-at-reads.Learnt,
@@ -207,7 +207,7 @@ attributes-within-sub-b : (t : ℕ) → attributes-within-lts.Need-sub-b (
     attributes-within-μ-loop
 attributes-within-sub-b t c = omega arith
 
--- src/types.rt:77:17
+-- src/types.rt:81:17
 attributes-within-part-b-start : (t : ℕ) → attributes-within-lts.Need-part-b-start (
   u16-at-reads.Asked,
   u16-at-reads.Learnt,
@@ -222,7 +222,7 @@ attributes-within-part-b-start : (t : ℕ) → attributes-within-lts.Need-part-b
     attributes-within-μ-loop
 attributes-within-part-b-start t c = omega arith
 
--- src/types.rt:77:17
+-- src/types.rt:81:17
 attributes-within-part-b-end : (t : ℕ) → attributes-within-lts.Need-part-b-end (
   u16-at-reads.Asked,
   u16-at-reads.Learnt,
@@ -237,7 +237,7 @@ attributes-within-part-b-end : (t : ℕ) → attributes-within-lts.Need-part-b-e
     attributes-within-μ-loop
 attributes-within-part-b-end t c = omega arith
 
--- src/types.rt:80:5
+-- src/types.rt:84:5
 attributes-within-loop-holds : (t : ℕ) → attributes-within-lts.Need-loop-holds (
   u16-at-reads.Asked,
   u16-at-reads.Learnt,
@@ -252,7 +252,7 @@ attributes-within-loop-holds : (t : ℕ) → attributes-within-lts.Need-loop-hol
     attributes-within-μ-loop
 attributes-within-loop-holds t c = rows-start (omega (arith, length-part ((c .before .before .before .before .before .before) .args .at + 2) ((c .before .before .before .before .before .before) .args .at + 2 + 5 * (c .before .before .before) .u16-at .result) ((c .before .before .before .before .before .before) .args .t .now) ((c .before .before) .if2 .left)))
 
--- src/types.rt:81:13
+-- src/types.rt:85:13
 attributes-within-attribute-follows-requires :
     (t : ℕ) → attributes-within-lts.Need-attribute-follows-requires (
       u16-at-reads.Asked,
@@ -268,7 +268,7 @@ attributes-within-attribute-follows-requires :
     attributes-within-μ-loop
 attributes-within-attribute-follows-requires t c κs = omega arith
 
--- src/types.rt:82:13
+-- src/types.rt:86:13
 attributes-within-returns-3 : (t : ℕ) → attributes-within-lts.Need-returns-3 (
   u16-at-reads.Asked,
   u16-at-reads.Learnt,
@@ -283,7 +283,7 @@ attributes-within-returns-3 : (t : ℕ) → attributes-within-lts.Need-returns-3
     attributes-within-μ-loop
 attributes-within-returns-3 t c = rows-unfit ((c .before .before .before) .loop .inv) ((c .before .before) .loop-test .taken) ((c .before) .attribute-follows .result) ((c .before) .attribute-follows .ensures) (c .if3 .taken) ∙ sym (table-open attrRow (λ _. whole ((c .before .before .before .before .before .before .before .before .before .before) .args .levels)) 0 ((c .before .before .before .before .before .before .before .before .before .before) .args .at) ((c .before .before .before .before .before .before .before .before .before .before) .args .t .now) ((c .before .before .before .before .before .before .before) .u16-at .result) ((c .before .before .before .before .before .before .before) .u16-at .ensures .0) ((c .before .before .before .before .before .before .before .before) .if1 .left) ((c .before .before .before .before .before .before) .if2 .left))
 
--- src/types.rt:84:13
+-- src/types.rt:88:13
 attributes-within-u16-at-requires-2 : (t : ℕ) → attributes-within-lts.Need-u16-at-requires-2 (
   u16-at-reads.Asked,
   u16-at-reads.Learnt,
@@ -298,7 +298,7 @@ attributes-within-u16-at-requires-2 : (t : ℕ) → attributes-within-lts.Need-u
     attributes-within-μ-loop
 attributes-within-u16-at-requires-2 t c κs = omega arith
 
--- src/types.rt:86:13
+-- src/types.rt:90:13
 attributes-within-returns-4 : (t : ℕ) → attributes-within-lts.Need-returns-4 (
   u16-at-reads.Asked,
   u16-at-reads.Learnt,
@@ -313,7 +313,7 @@ attributes-within-returns-4 : (t : ℕ) → attributes-within-lts.Need-returns-4
     attributes-within-μ-loop
 attributes-within-returns-4 t c = rows-short ((c .before .before .before .before .before) .loop .inv) ((c .before .before .before .before) .loop-test .taken) ((c .before) .u16-at2 .result) ((c .before) .u16-at2 .ensures .0) (c .if4 .taken) ∙ sym (table-open attrRow (λ _. whole ((c .before .before .before .before .before .before .before .before .before .before .before .before) .args .levels)) 0 ((c .before .before .before .before .before .before .before .before .before .before .before .before) .args .at) ((c .before .before .before .before .before .before .before .before .before .before .before .before) .args .t .now) ((c .before .before .before .before .before .before .before .before .before) .u16-at .result) ((c .before .before .before .before .before .before .before .before .before) .u16-at .ensures .0) ((c .before .before .before .before .before .before .before .before .before .before) .if1 .left) ((c .before .before .before .before .before .before .before .before) .if2 .left))
 
--- src/types.rt:88:25
+-- src/types.rt:92:25
 attributes-within-sub-type-within : (t : ℕ) → attributes-within-lts.Need-sub-type-within (
   u16-at-reads.Asked,
   u16-at-reads.Learnt,
@@ -328,7 +328,7 @@ attributes-within-sub-type-within : (t : ℕ) → attributes-within-lts.Need-sub
     attributes-within-μ-loop
 attributes-within-sub-type-within t c = omega arith
 
--- src/types.rt:88:25
+-- src/types.rt:92:25
 attributes-within-part-type-within-start :
     (t : ℕ) → attributes-within-lts.Need-part-type-within-start (
       u16-at-reads.Asked,
@@ -344,7 +344,7 @@ attributes-within-part-type-within-start :
     attributes-within-μ-loop
 attributes-within-part-type-within-start t c = omega arith
 
--- src/types.rt:88:25
+-- src/types.rt:92:25
 attributes-within-part-type-within-end : (t : ℕ) → attributes-within-lts.Need-part-type-within-end (
   u16-at-reads.Asked,
   u16-at-reads.Learnt,
@@ -359,7 +359,7 @@ attributes-within-part-type-within-end : (t : ℕ) → attributes-within-lts.Nee
     attributes-within-μ-loop
 attributes-within-part-type-within-end t c = omega arith
 
--- src/types.rt:88:13
+-- src/types.rt:92:13
 attributes-within-type-within-requires : (t : ℕ) → attributes-within-lts.Need-type-within-requires (
   u16-at-reads.Asked,
   u16-at-reads.Learnt,
@@ -374,7 +374,7 @@ attributes-within-type-within-requires : (t : ℕ) → attributes-within-lts.Nee
     attributes-within-μ-loop
 attributes-within-type-within-requires t c κs = omega arith
 
--- src/types.rt:89:13
+-- src/types.rt:93:13
 attributes-within-returns-5 : (t : ℕ) → attributes-within-lts.Need-returns-5 (
   u16-at-reads.Asked,
   u16-at-reads.Learnt,
@@ -389,7 +389,7 @@ attributes-within-returns-5 : (t : ℕ) → attributes-within-lts.Need-returns-5
     attributes-within-μ-loop
 attributes-within-returns-5 t c = rows-body ((c .before .before .before .before .before .before .before .before) .loop .inv) ((c .before .before .before .before .before .before .before) .loop-test .taken) ((c .before .before .before .before) .u16-at2 .result) ((c .before .before .before .before) .u16-at2 .ensures .0) ((c .before) .type-within .result) ((c .before) .type-within .ensures) (c .if5 .taken) ∙ sym (table-open attrRow (λ _. whole ((c .before .before .before .before .before .before .before .before .before .before .before .before .before .before .before) .args .levels)) 0 ((c .before .before .before .before .before .before .before .before .before .before .before .before .before .before .before) .args .at) ((c .before .before .before .before .before .before .before .before .before .before .before .before .before .before .before) .args .t .now) ((c .before .before .before .before .before .before .before .before .before .before .before .before) .u16-at .result) ((c .before .before .before .before .before .before .before .before .before .before .before .before) .u16-at .ensures .0) ((c .before .before .before .before .before .before .before .before .before .before .before .before .before) .if1 .left) ((c .before .before .before .before .before .before .before .before .before .before .before) .if2 .left))
 
--- src/types.rt:91:15
+-- src/types.rt:95:15
 attributes-within-u16-at-requires-3 : (t : ℕ) → attributes-within-lts.Need-u16-at-requires-3 (
   u16-at-reads.Asked,
   u16-at-reads.Learnt,
@@ -404,7 +404,7 @@ attributes-within-u16-at-requires-3 : (t : ℕ) → attributes-within-lts.Need-u
     attributes-within-μ-loop
 attributes-within-u16-at-requires-3 t c κs = omega arith
 
--- src/types.rt:91:15
+-- src/types.rt:95:15
 attributes-within-add-low : (t : ℕ) → attributes-within-lts.Need-add-low (
   u16-at-reads.Asked,
   u16-at-reads.Learnt,
@@ -419,7 +419,7 @@ attributes-within-add-low : (t : ℕ) → attributes-within-lts.Need-add-low (
     attributes-within-μ-loop
 attributes-within-add-low t c = omega arith
 
--- src/types.rt:92:13
+-- src/types.rt:96:13
 attributes-within-sub-e-2 : (t : ℕ) → attributes-within-lts.Need-sub-e-2 (
   u16-at-reads.Asked,
   u16-at-reads.Learnt,
@@ -434,7 +434,7 @@ attributes-within-sub-e-2 : (t : ℕ) → attributes-within-lts.Need-sub-e-2 (
     attributes-within-μ-loop
 attributes-within-sub-e-2 t c = omega arith
 
--- src/types.rt:92:13
+-- src/types.rt:96:13
 attributes-within-part-e-start-2 : (t : ℕ) → attributes-within-lts.Need-part-e-start-2 (
   u16-at-reads.Asked,
   u16-at-reads.Learnt,
@@ -449,7 +449,7 @@ attributes-within-part-e-start-2 : (t : ℕ) → attributes-within-lts.Need-part
     attributes-within-μ-loop
 attributes-within-part-e-start-2 t c = omega arith
 
--- src/types.rt:92:13
+-- src/types.rt:96:13
 attributes-within-part-e-end-2 : (t : ℕ) → attributes-within-lts.Need-part-e-end-2 (
   u16-at-reads.Asked,
   u16-at-reads.Learnt,
@@ -464,7 +464,7 @@ attributes-within-part-e-end-2 : (t : ℕ) → attributes-within-lts.Need-part-e
     attributes-within-μ-loop
 attributes-within-part-e-end-2 t c = omega arith
 
--- src/types.rt:93:13
+-- src/types.rt:97:13
 attributes-within-sub-b-2 : (t : ℕ) → attributes-within-lts.Need-sub-b-2 (
   u16-at-reads.Asked,
   u16-at-reads.Learnt,
@@ -479,7 +479,7 @@ attributes-within-sub-b-2 : (t : ℕ) → attributes-within-lts.Need-sub-b-2 (
     attributes-within-μ-loop
 attributes-within-sub-b-2 t c = omega arith
 
--- src/types.rt:93:13
+-- src/types.rt:97:13
 attributes-within-part-b-start-2 : (t : ℕ) → attributes-within-lts.Need-part-b-start-2 (
   u16-at-reads.Asked,
   u16-at-reads.Learnt,
@@ -494,7 +494,7 @@ attributes-within-part-b-start-2 : (t : ℕ) → attributes-within-lts.Need-part
     attributes-within-μ-loop
 attributes-within-part-b-start-2 t c = omega arith
 
--- src/types.rt:93:13
+-- src/types.rt:97:13
 attributes-within-part-b-end-2 : (t : ℕ) → attributes-within-lts.Need-part-b-end-2 (
   u16-at-reads.Asked,
   u16-at-reads.Learnt,
@@ -509,7 +509,7 @@ attributes-within-part-b-end-2 : (t : ℕ) → attributes-within-lts.Need-part-b
     attributes-within-μ-loop
 attributes-within-part-b-end-2 t c = omega arith
 
--- src/types.rt:94:9
+-- src/types.rt:98:9
 attributes-within-sub-left : (t : ℕ) → attributes-within-lts.Need-sub-left (
   u16-at-reads.Asked,
   u16-at-reads.Learnt,
@@ -524,7 +524,7 @@ attributes-within-sub-left : (t : ℕ) → attributes-within-lts.Need-sub-left (
     attributes-within-μ-loop
 attributes-within-sub-left t c = omega arith
 
--- src/types.rt:80:5
+-- src/types.rt:84:5
 attributes-within-loop-less : (t : ℕ) → attributes-within-lts.Need-loop-less (
   u16-at-reads.Asked,
   u16-at-reads.Learnt,
@@ -539,7 +539,7 @@ attributes-within-loop-less : (t : ℕ) → attributes-within-lts.Need-loop-less
     attributes-within-μ-loop
 attributes-within-loop-less t c = omega arith
 
--- src/types.rt:80:5
+-- src/types.rt:84:5
 attributes-within-loop-again : (t : ℕ) → attributes-within-lts.Need-loop-again (
   u16-at-reads.Asked,
   u16-at-reads.Learnt,
@@ -554,7 +554,7 @@ attributes-within-loop-again : (t : ℕ) → attributes-within-lts.Need-loop-aga
     attributes-within-μ-loop
 attributes-within-loop-again t c = rows-again ((c .before .before .before .before .before .before .before .before .before .before .before) .loop .inv) ((c .before .before .before .before .before .before .before .before .before .before) .loop-test .taken) ((c .before .before .before .before .before .before .before) .u16-at2 .result) ((c .before .before .before .before .before .before .before) .u16-at2 .ensures .0) ((c .before .before .before .before .before .before .before .before .before) .attribute-follows .result) ((c .before .before .before .before .before .before .before .before .before) .attribute-follows .ensures) ((c .before .before .before .before .before .before .before .before) .if3 .left) ((c .before .before .before .before .before .before) .if4 .left) ((c .before .before .before .before) .type-within .result) ((c .before .before .before .before) .type-within .ensures) ((c .before .before .before) .if5 .left) _ (ap (λ (j : ℕ). j + 1) ((c .before .before) .u16-at3 .ensures .0))
 
--- src/types.rt:63:1
+-- src/types.rt:67:1
 attributes-within-returns-6 : (t : ℕ) → attributes-within-lts.Need-returns-6 (
   u16-at-reads.Asked,
   u16-at-reads.Learnt,
@@ -569,259 +569,264 @@ attributes-within-returns-6 : (t : ℕ) → attributes-within-lts.Need-returns-6
     attributes-within-μ-loop
 attributes-within-returns-6 t c = rows-end ((c .before) .loop .inv) (c .loop-test .left) _ refl ∙ sym (table-open attrRow (λ _. whole ((c .before .before .before .before .before .before .before .before) .args .levels)) 0 ((c .before .before .before .before .before .before .before .before) .args .at) ((c .before .before .before .before .before .before .before .before) .args .t .now) ((c .before .before .before .before .before) .u16-at .result) ((c .before .before .before .before .before) .u16-at .ensures .0) ((c .before .before .before .before .before .before) .if1 .left) ((c .before .before .before .before) .if2 .left))
 
--- src/types.rt:104:9
+abbrev type-within-Inv-loop : type-within-lts.InvT-loop
+type-within-Inv-loop t levels b₀ left₀ b left = SetsLeft levels t left b
+
+abbrev type-within-μ-loop : type-within-lts.MeasureT-loop
+type-within-μ-loop t levels b₀ left₀ b left = left
+
+-- src/types.rt:108:17
+type-within-sub-b : (t : ℕ) → type-within-lts.Need-sub-b (
+  attributes-within-below t,
+  attributes-within.Post,
+  entity-within-reads.Asked,
+  entity-within-reads.Learnt,
+) (type-within-at t) type-within.Post type-within-Inv-loop type-within-μ-loop
+type-within-sub-b t c = omega arith
+
+-- src/types.rt:108:17
+type-within-part-b-start : (t : ℕ) → type-within-lts.Need-part-b-start (
+  attributes-within-below t,
+  attributes-within.Post,
+  entity-within-reads.Asked,
+  entity-within-reads.Learnt,
+) (type-within-at t) type-within.Post type-within-Inv-loop type-within-μ-loop
+type-within-part-b-start t c = omega arith
+
+-- src/types.rt:108:17
+type-within-part-b-end : (t : ℕ) → type-within-lts.Need-part-b-end (
+  attributes-within-below t,
+  attributes-within.Post,
+  entity-within-reads.Asked,
+  entity-within-reads.Learnt,
+) (type-within-at t) type-within.Post type-within-Inv-loop type-within-μ-loop
+type-within-part-b-end t c = omega arith
+
+-- src/types.rt:110:5
+type-within-loop-holds : (t : ℕ) → type-within-lts.Need-loop-holds (
+  attributes-within-below t,
+  attributes-within.Post,
+  entity-within-reads.Asked,
+  entity-within-reads.Learnt,
+) (type-within-at t) type-within.Post type-within-Inv-loop type-within-μ-loop
+type-within-loop-holds t c = sets-start ((c .before .before) .args .levels) ((c .before .before) .args .t .now)
+
+-- src/types.rt:112:13
 type-within-returns : (t : ℕ) → type-within-lts.Need-returns (
-  type-within-below t,
-  type-within.Post,
   attributes-within-below t,
   attributes-within.Post,
   entity-within-reads.Asked,
   entity-within-reads.Learnt,
-) (type-within-at t) type-within.Post
-type-within-returns t c = whole-none ((c .before .before) .args .levels) ((c .before .before) .args .t .now) (c .if1 .taken)
+) (type-within-at t) type-within.Post type-within-Inv-loop type-within-μ-loop
+type-within-returns t c = whole-none ((c .before) .loop .left) ((c .before) .loop .b .now) (c .if1 .taken) ∙ sym ((c .before) .loop .inv .same)
 
--- src/types.rt:107:9
+-- src/types.rt:115:13
 type-within-returns-2 : (t : ℕ) → type-within-lts.Need-returns-2 (
-  type-within-below t,
-  type-within.Post,
   attributes-within-below t,
   attributes-within.Post,
   entity-within-reads.Asked,
   entity-within-reads.Learnt,
-) (type-within-at t) type-within.Post
-type-within-returns-2 t c = whole-empty ((c .before .before .before) .args .levels) ((c .before .before .before) .args .t .now) ((c .before) .if1 .left) (c .if2 .taken)
+) (type-within-at t) type-within.Post type-within-Inv-loop type-within-μ-loop
+type-within-returns-2 t c = whole-empty ((c .before .before) .loop .left) ((c .before .before) .loop .b .now) ((c .before) .if1 .left) (c .if2 .taken) ∙ sym ((c .before .before) .loop .inv .same)
 
--- src/types.rt:109:13
-type-within-shared-slice-read-k : (t : ℕ) → type-within-lts.Need-shared-slice-read-k (
-  type-within-below t,
-  type-within.Post,
+-- src/types.rt:117:12
+type-within-shared-slice-read-if3 : (t : ℕ) → type-within-lts.Need-shared-slice-read-if3 (
   attributes-within-below t,
   attributes-within.Post,
   entity-within-reads.Asked,
   entity-within-reads.Learnt,
-) (type-within-at t) type-within.Post
+) (type-within-at t) type-within.Post type-within-Inv-loop type-within-μ-loop
+type-within-shared-slice-read-if3 t c = omega arith
+
+-- src/types.rt:120:13
+type-within-sub-b-2 : (t : ℕ) → type-within-lts.Need-sub-b-2 (
+  attributes-within-below t,
+  attributes-within.Post,
+  entity-within-reads.Asked,
+  entity-within-reads.Learnt,
+) (type-within-at t) type-within.Post type-within-Inv-loop type-within-μ-loop
+type-within-sub-b-2 t c = omega arith
+
+-- src/types.rt:120:13
+type-within-part-b-start-2 : (t : ℕ) → type-within-lts.Need-part-b-start-2 (
+  attributes-within-below t,
+  attributes-within.Post,
+  entity-within-reads.Asked,
+  entity-within-reads.Learnt,
+) (type-within-at t) type-within.Post type-within-Inv-loop type-within-μ-loop
+type-within-part-b-start-2 t c = omega arith
+
+-- src/types.rt:120:13
+type-within-part-b-end-2 : (t : ℕ) → type-within-lts.Need-part-b-end-2 (
+  attributes-within-below t,
+  attributes-within.Post,
+  entity-within-reads.Asked,
+  entity-within-reads.Learnt,
+) (type-within-at t) type-within.Post type-within-Inv-loop type-within-μ-loop
+type-within-part-b-end-2 t c = omega arith
+
+-- src/types.rt:121:9
+type-within-sub-left : (t : ℕ) → type-within-lts.Need-sub-left (
+  attributes-within-below t,
+  attributes-within.Post,
+  entity-within-reads.Asked,
+  entity-within-reads.Learnt,
+) (type-within-at t) type-within.Post type-within-Inv-loop type-within-μ-loop
+type-within-sub-left t c = omega arith
+
+-- src/types.rt:110:5
+type-within-loop-less : (t : ℕ) → type-within-lts.Need-loop-less (
+  attributes-within-below t,
+  attributes-within.Post,
+  entity-within-reads.Asked,
+  entity-within-reads.Learnt,
+) (type-within-at t) type-within.Post type-within-Inv-loop type-within-μ-loop
+type-within-loop-less t c = omega arith
+
+-- src/types.rt:110:5
+type-within-loop-again : (t : ℕ) → type-within-lts.Need-loop-again (
+  attributes-within-below t,
+  attributes-within.Post,
+  entity-within-reads.Asked,
+  entity-within-reads.Learnt,
+) (type-within-at t) type-within.Post type-within-Inv-loop type-within-μ-loop
+type-within-loop-again t c = sets-again ((c .before .before .before .before .before) .loop .inv) ((c .before .before .before .before) .if1 .left) ((c .before .before .before) .if2 .left) ((c .before) .if3 .left)
+
+-- src/types.rt:123:13
+type-within-shared-slice-read-k : (t : ℕ) → type-within-lts.Need-shared-slice-read-k (
+  attributes-within-below t,
+  attributes-within.Post,
+  entity-within-reads.Asked,
+  entity-within-reads.Learnt,
+) (type-within-at t) type-within.Post type-within-Inv-loop type-within-μ-loop
 type-within-shared-slice-read-k t c = omega arith
 
--- src/types.rt:111:34
-type-within-sub-type-within : (t : ℕ) → type-within-lts.Need-sub-type-within (
-  type-within-below t,
-  type-within.Post,
-  attributes-within-below t,
-  attributes-within.Post,
-  entity-within-reads.Asked,
-  entity-within-reads.Learnt,
-) (type-within-at t) type-within.Post
-type-within-sub-type-within t c = omega arith
-
--- src/types.rt:111:34
-type-within-part-type-within-start : (t : ℕ) → type-within-lts.Need-part-type-within-start (
-  type-within-below t,
-  type-within.Post,
-  attributes-within-below t,
-  attributes-within.Post,
-  entity-within-reads.Asked,
-  entity-within-reads.Learnt,
-) (type-within-at t) type-within.Post
-type-within-part-type-within-start t c = omega arith
-
--- src/types.rt:111:34
-type-within-part-type-within-end : (t : ℕ) → type-within-lts.Need-part-type-within-end (
-  type-within-below t,
-  type-within.Post,
-  attributes-within-below t,
-  attributes-within.Post,
-  entity-within-reads.Asked,
-  entity-within-reads.Learnt,
-) (type-within-at t) type-within.Post
-type-within-part-type-within-end t c = omega arith
-
--- src/types.rt:111:43
-type-within-sub-type-within-2 : (t : ℕ) → type-within-lts.Need-sub-type-within-2 (
-  type-within-below t,
-  type-within.Post,
-  attributes-within-below t,
-  attributes-within.Post,
-  entity-within-reads.Asked,
-  entity-within-reads.Learnt,
-) (type-within-at t) type-within.Post
-type-within-sub-type-within-2 t c = omega arith
-
--- src/types.rt:111:22
-type-within-type-within-requires : (t : ℕ) → type-within-lts.Need-type-within-requires (
-  type-within-below t,
-  type-within.Post,
-  attributes-within-below t,
-  attributes-within.Post,
-  entity-within-reads.Asked,
-  entity-within-reads.Learnt,
-) (type-within-at t) type-within.Post
-type-within-type-within-requires t c κs = omega arith
-
--- src/types.rt:114:17
+-- src/types.rt:127:17
 type-within-returns-3 : (t : ℕ) → type-within-lts.Need-returns-3 (
-  type-within-below t,
-  type-within.Post,
   attributes-within-below t,
   attributes-within.Post,
   entity-within-reads.Asked,
   entity-within-reads.Learnt,
-) (type-within-at t) type-within.Post
-type-within-returns-3 t c = record-short ((c .before .before .before .before .before .before) .args .levels) ((c .before .before .before .before .before .before) .args .t .now) ((c .before .before .before .before) .if1 .left) ((c .before .before .before) .if2 .left) ((c .before) .match .keys2) (c .if3 .taken)
+) (type-within-at t) type-within.Post type-within-Inv-loop type-within-μ-loop
+type-within-returns-3 t c = record-short ((c .before .before .before .before .before .before .before) .loop .left) ((c .before .before .before .before .before .before .before) .loop .b .now) ((c .before .before .before .before .before .before) .if1 .left) ((c .before .before .before .before .before) .if2 .left) ((c .before) .match .keys1) (c .if4 .taken) ∙ sym ((c .before .before .before .before .before .before .before) .loop .inv .same)
 
--- src/types.rt:116:33
-type-within-shared-slice-read-if4 : (t : ℕ) → type-within-lts.Need-shared-slice-read-if4 (
-  type-within-below t,
-  type-within.Post,
+-- src/types.rt:129:33
+type-within-shared-slice-read-if5 : (t : ℕ) → type-within-lts.Need-shared-slice-read-if5 (
   attributes-within-below t,
   attributes-within.Post,
   entity-within-reads.Asked,
   entity-within-reads.Learnt,
-) (type-within-at t) type-within.Post
-type-within-shared-slice-read-if4 t c = omega arith
+) (type-within-at t) type-within.Post type-within-Inv-loop type-within-μ-loop
+type-within-shared-slice-read-if5 t c = omega arith
 
--- src/types.rt:117:17
+-- src/types.rt:130:17
 type-within-returns-4 : (t : ℕ) → type-within-lts.Need-returns-4 (
-  type-within-below t,
-  type-within.Post,
   attributes-within-below t,
   attributes-within.Post,
   entity-within-reads.Asked,
   entity-within-reads.Learnt,
-) (type-within-at t) type-within.Post
-type-within-returns-4 t c = record-flag ((c .before .before .before .before .before .before .before .before) .args .levels) ((c .before .before .before .before .before .before .before .before) .args .t .now) ((c .before .before .before .before .before .before) .if1 .left) ((c .before .before .before .before .before) .if2 .left) ((c .before .before .before) .match .keys2) (c .if4 .taken)
+) (type-within-at t) type-within.Post type-within-Inv-loop type-within-μ-loop
+type-within-returns-4 t c = record-flag ((c .before .before .before .before .before .before .before .before .before) .loop .left) ((c .before .before .before .before .before .before .before .before .before) .loop .b .now) ((c .before .before .before .before .before .before .before .before) .if1 .left) ((c .before .before .before .before .before .before .before) .if2 .left) ((c .before .before .before) .match .keys1) (c .if5 .taken) ∙ sym ((c .before .before .before .before .before .before .before .before .before) .loop .inv .same)
 
--- src/types.rt:119:37
+-- src/types.rt:132:56
 type-within-sub-attributes-within : (t : ℕ) → type-within-lts.Need-sub-attributes-within (
-  type-within-below t,
-  type-within.Post,
   attributes-within-below t,
   attributes-within.Post,
   entity-within-reads.Asked,
   entity-within-reads.Learnt,
-) (type-within-at t) type-within.Post
+) (type-within-at t) type-within.Post type-within-Inv-loop type-within-μ-loop
 type-within-sub-attributes-within t c = omega arith
 
--- src/types.rt:119:13
+-- src/types.rt:132:13
 type-within-attributes-within-requires : (t : ℕ) → type-within-lts.Need-attributes-within-requires (
-  type-within-below t,
-  type-within.Post,
   attributes-within-below t,
   attributes-within.Post,
   entity-within-reads.Asked,
   entity-within-reads.Learnt,
-) (type-within-at t) type-within.Post
-type-within-attributes-within-requires t c κs = omega arith
+) (type-within-at t) type-within.Post type-within-Inv-loop type-within-μ-loop
+type-within-attributes-within-requires t c κs = omega (arith, (c .before .before .before .before .before .before .before .before .before) .loop .inv .few)
 
--- src/types.rt:121:25
+-- src/types.rt:134:25
 type-within-entity-within-requires : (t : ℕ) → type-within-lts.Need-entity-within-requires (
-  type-within-below t,
-  type-within.Post,
   attributes-within-below t,
   attributes-within.Post,
   entity-within-reads.Asked,
   entity-within-reads.Learnt,
-) (type-within-at t) type-within.Post
+) (type-within-at t) type-within.Post type-within-Inv-loop type-within-μ-loop
 type-within-entity-within-requires t c κs = omega arith
 
--- src/types.rt:122:49
+-- src/types.rt:135:68
 type-within-sub-attributes-within-2 : (t : ℕ) → type-within-lts.Need-sub-attributes-within-2 (
-  type-within-below t,
-  type-within.Post,
   attributes-within-below t,
   attributes-within.Post,
   entity-within-reads.Asked,
   entity-within-reads.Learnt,
-) (type-within-at t) type-within.Post
+) (type-within-at t) type-within.Post type-within-Inv-loop type-within-μ-loop
 type-within-sub-attributes-within-2 t c = omega arith
 
--- src/types.rt:122:25
+-- src/types.rt:135:25
 type-within-attributes-within-requires-2 :
     (t : ℕ) → type-within-lts.Need-attributes-within-requires-2 (
-      type-within-below t,
-      type-within.Post,
       attributes-within-below t,
       attributes-within.Post,
       entity-within-reads.Asked,
       entity-within-reads.Learnt,
-    ) (type-within-at t) type-within.Post
-type-within-attributes-within-requires-2 t c κs = omega arith
+    ) (type-within-at t) type-within.Post type-within-Inv-loop type-within-μ-loop
+type-within-attributes-within-requires-2 t c κs = omega (arith, (c .before .before .before .before .before .before) .loop .inv .few)
 
--- src/types.rt:126:17
+-- src/types.rt:139:17
 type-within-returns-5 : (t : ℕ) → type-within-lts.Need-returns-5 (
-  type-within-below t,
-  type-within.Post,
   attributes-within-below t,
   attributes-within.Post,
   entity-within-reads.Asked,
   entity-within-reads.Learnt,
-) (type-within-at t) type-within.Post
-type-within-returns-5 t c = unknown-not ((c .before .before .before .before .before .before) .args .levels) ((c .before .before .before .before .before .before) .args .t .now) ((c .before .before .before .before) .if1 .left) ((c .before .before .before) .if2 .left) (c .if5 .taken)
+) (type-within-at t) type-within.Post type-within-Inv-loop type-within-μ-loop
+type-within-returns-5 t c = unknown-not ((c .before .before .before .before .before .before .before) .loop .left) ((c .before .before .before .before .before .before .before) .loop .b .now) ((c .before .before .before .before .before .before) .if1 .left) ((c .before .before .before .before .before) .if2 .left) (c .if6 .taken) ∙ sym ((c .before .before .before .before .before .before .before) .loop .inv .same)
 
--- src/types.rt:100:1
+-- src/types.rt:104:1
 type-within-returns-6 : (t : ℕ) → type-within-lts.Need-returns-6 (
-  type-within-below t,
-  type-within.Post,
   attributes-within-below t,
   attributes-within.Post,
   entity-within-reads.Asked,
   entity-within-reads.Learnt,
-) (type-within-at t) type-within.Post
-type-within-returns-6 t c = c .type-within .ensures ∙ sym (whole-by ((c .before .before .before .before .before .before .before) .args .levels) ((c .before .before .before .before .before .before .before) .args .t .now) ((c .before .before .before .before .before) .if1 .left) ((c .before .before .before .before) .if2 .left) 7 ((c .before .before) .match .keys1))
+) (type-within-at t) type-within.Post type-within-Inv-loop type-within-μ-loop
+type-within-returns-6 t c = c .attributes-within .ensures ∙ sym ((c .before .before .before .before .before .before .before .before .before .before) .loop .inv .same ∙ record-open ((c .before .before .before .before .before .before .before .before .before .before) .loop .left) ((c .before .before .before .before .before .before .before .before .before .before) .loop .b .now) ((c .before .before .before .before .before .before .before .before .before) .if1 .left) ((c .before .before .before .before .before .before .before .before) .if2 .left) ((c .before .before .before .before) .match .keys1) ((c .before .before .before) .if4 .left) ((c .before) .if5 .left))
 
--- src/types.rt:100:1
+-- src/types.rt:104:1
 type-within-returns-7 : (t : ℕ) → type-within-lts.Need-returns-7 (
-  type-within-below t,
-  type-within.Post,
   attributes-within-below t,
   attributes-within.Post,
   entity-within-reads.Asked,
   entity-within-reads.Learnt,
-) (type-within-at t) type-within.Post
-type-within-returns-7 t c = c .attributes-within .ensures ∙ sym (record-open ((c .before .before .before .before .before .before .before .before .before) .args .levels) ((c .before .before .before .before .before .before .before .before .before) .args .t .now) ((c .before .before .before .before .before .before .before) .if1 .left) ((c .before .before .before .before .before .before) .if2 .left) ((c .before .before .before .before) .match .keys2) ((c .before .before .before) .if3 .left) ((c .before) .if4 .left))
+) (type-within-at t) type-within.Post type-within-Inv-loop type-within-μ-loop
+type-within-returns-7 t c = c .entity-within .ensures ∙ sym ((c .before .before .before .before .before .before .before) .loop .inv .same ∙ whole-by ((c .before .before .before .before .before .before .before) .loop .left) ((c .before .before .before .before .before .before .before) .loop .b .now) ((c .before .before .before .before .before .before) .if1 .left) ((c .before .before .before .before .before) .if2 .left) 10 ((c .before) .match .keys2))
 
--- src/types.rt:100:1
+-- src/types.rt:104:1
 type-within-returns-8 : (t : ℕ) → type-within-lts.Need-returns-8 (
-  type-within-below t,
-  type-within.Post,
   attributes-within-below t,
   attributes-within.Post,
   entity-within-reads.Asked,
   entity-within-reads.Learnt,
-) (type-within-at t) type-within.Post
-type-within-returns-8 t c = c .entity-within .ensures ∙ sym (whole-by ((c .before .before .before .before .before .before) .args .levels) ((c .before .before .before .before .before .before) .args .t .now) ((c .before .before .before .before) .if1 .left) ((c .before .before .before) .if2 .left) 10 ((c .before) .match .keys3))
+) (type-within-at t) type-within.Post type-within-Inv-loop type-within-μ-loop
+type-within-returns-8 t c = c .attributes-within2 .ensures ∙ sym ((c .before .before .before .before .before .before .before) .loop .inv .same ∙ whole-by ((c .before .before .before .before .before .before .before) .loop .left) ((c .before .before .before .before .before .before .before) .loop .b .now) ((c .before .before .before .before .before .before) .if1 .left) ((c .before .before .before .before .before) .if2 .left) 11 ((c .before) .match .keys3))
 
--- src/types.rt:100:1
+-- src/types.rt:104:1
 type-within-returns-9 : (t : ℕ) → type-within-lts.Need-returns-9 (
-  type-within-below t,
-  type-within.Post,
   attributes-within-below t,
   attributes-within.Post,
   entity-within-reads.Asked,
   entity-within-reads.Learnt,
-) (type-within-at t) type-within.Post
-type-within-returns-9 t c = c .attributes-within2 .ensures ∙ sym (whole-by ((c .before .before .before .before .before .before) .args .levels) ((c .before .before .before .before .before .before) .args .t .now) ((c .before .before .before .before) .if1 .left) ((c .before .before .before) .if2 .left) 11 ((c .before) .match .keys4))
+) (type-within-at t) type-within.Post type-within-Inv-loop type-within-μ-loop
+type-within-returns-9 t c = sym ((c .before .before .before .before .before .before) .loop .inv .same ∙ whole-by ((c .before .before .before .before .before .before) .loop .left) ((c .before .before .before .before .before .before) .loop .b .now) ((c .before .before .before .before .before) .if1 .left) ((c .before .before .before .before) .if2 .left) 12 (c .match .keys4))
 
--- src/types.rt:100:1
+-- src/types.rt:104:1
 type-within-returns-10 : (t : ℕ) → type-within-lts.Need-returns-10 (
-  type-within-below t,
-  type-within.Post,
   attributes-within-below t,
   attributes-within.Post,
   entity-within-reads.Asked,
   entity-within-reads.Learnt,
-) (type-within-at t) type-within.Post
-type-within-returns-10 t c = sym (whole-by ((c .before .before .before .before .before) .args .levels) ((c .before .before .before .before .before) .args .t .now) ((c .before .before .before) .if1 .left) ((c .before .before) .if2 .left) 12 (c .match .keys5))
-
--- src/types.rt:100:1
-type-within-returns-11 : (t : ℕ) → type-within-lts.Need-returns-11 (
-  type-within-below t,
-  type-within.Post,
-  attributes-within-below t,
-  attributes-within.Post,
-  entity-within-reads.Asked,
-  entity-within-reads.Learnt,
-) (type-within-at t) type-within.Post
-type-within-returns-11 t c = let m = (c .before) .match .rest in atom-open ((c .before .before .before .before .before .before) .args .levels) ((c .before .before .before .before .before .before) .args .t .now) ((c .before .before .before .before) .if1 .left) ((c .before .before .before) .if2 .left) (m .0 .0 .0 .0 .1) (m .0 .0 .0 .1) (m .0 .0 .1) (m .0 .1) (m .1) (c .if5 .left)
+) (type-within-at t) type-within.Post type-within-Inv-loop type-within-μ-loop
+type-within-returns-10 t c = let m = (c .before) .match .rest in atom-open ((c .before .before .before .before .before .before .before) .loop .left) ((c .before .before .before .before .before .before .before) .loop .b .now) ((c .before .before .before .before .before .before) .if1 .left) ((c .before .before .before .before .before) .if2 .left) ((c .before .before .before) .if3 .taken) (m .0 .0 .0 .1) (m .0 .0 .1) (m .0 .1) (m .1) (c .if6 .left) ∙ sym ((c .before .before .before .before .before .before .before) .loop .inv .same)
 
 pub +attributes-within+type-within-spec : {M : Type 1} → statement M
 +attributes-within+type-within-spec =
@@ -872,8 +877,6 @@ pub +attributes-within+type-within-spec : {M : Type 1} → statement M
     (attributes-within-loop-again t)
     (attributes-within-returns-6 t))
     λ t. type-within-lts.spec (
-      type-within-below t,
-      type-within.Post,
       attributes-within-below t,
       attributes-within.Post,
       entity-within-reads.Asked,
@@ -881,16 +884,24 @@ pub +attributes-within+type-within-spec : {M : Type 1} → statement M
     )
     (type-within-at t)
     type-within.Post
+    type-within-Inv-loop
+    type-within-μ-loop
+    (type-within-sub-b t)
+    (type-within-part-b-start t)
+    (type-within-part-b-end t)
+    (type-within-loop-holds t)
     (type-within-returns t)
     (type-within-returns-2 t)
+    (type-within-shared-slice-read-if3 t)
+    (type-within-sub-b-2 t)
+    (type-within-part-b-start-2 t)
+    (type-within-part-b-end-2 t)
+    (type-within-sub-left t)
+    (type-within-loop-less t)
+    (type-within-loop-again t)
     (type-within-shared-slice-read-k t)
-    (type-within-sub-type-within t)
-    (type-within-part-type-within-start t)
-    (type-within-part-type-within-end t)
-    (type-within-sub-type-within-2 t)
-    (type-within-type-within-requires t)
     (type-within-returns-3 t)
-    (type-within-shared-slice-read-if4 t)
+    (type-within-shared-slice-read-if5 t)
     (type-within-returns-4 t)
     (type-within-sub-attributes-within t)
     (type-within-attributes-within-requires t)
@@ -903,4 +914,3 @@ pub +attributes-within+type-within-spec : {M : Type 1} → statement M
     (type-within-returns-8 t)
     (type-within-returns-9 t)
     (type-within-returns-10 t)
-    (type-within-returns-11 t)

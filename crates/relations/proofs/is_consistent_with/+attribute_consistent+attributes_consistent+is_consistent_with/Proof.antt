@@ -8,7 +8,7 @@ use Rattle.forms.specs.TypeBytes.{dec, decA}
 use Rattle.forms.specs.Laws.Views.{not-empty, is-set, is-record, is-entity}
 use Rattle.forms.specs.Laws.Attributes.{laid}
 use Rattle.relations.specs.Laws.Names.{entity-form}
-use Rattle.relations.specs.Laws.SameForm.{all-bytes}
+use Rattle.forms.specs.Laws.Bytes.{Bytes-index}
 use Rattle.relations.specs.Laws.Meeting.{met-open, met-closed, met-here, met-entry, met-with, Meeting, meeting-start, meeting-end, meeting-core, meeting-past, meeting-list, meeting-not, meeting-again}
 use Rattle.relations.specs.Laws.Consistent.{entries-up, core-list, with-entity, unlike-kinds, with-set, with-extension, with-kind, record-not, with-record}
 use borrow.Author.Needs.{needs}
@@ -640,7 +640,7 @@ is-consistent-with-returns-6 t c =
     let start = c .before .before .before .before .before .before .before .before in
     let after-shared-slice-known = c .before .before .before .before .before .before .before in
     let after-shared-slice-known2 = c .before .before .before .before .before .before in
-    c .same-bytes .ensures ∙ with-extension (start .args .levels) (start .args .t0 .now) (start .args .t1 .now) (start .pre .1 .0) (start .pre .1 .1) (c .before .before .if2 .left) (all-bytes (start .args .t0 .now) (λ i. after-shared-slice-known .shared-slice-known .given i .fits)) (all-bytes (start .args .t1 .now) (λ i. after-shared-slice-known2 .shared-slice-known2 .given i .fits)) (c .before .match .keys3)
+    c .same-bytes .ensures ∙ with-extension (start .args .levels) (start .args .t0 .now) (start .args .t1 .now) (start .pre .1 .0) (start .pre .1 .1) (c .before .before .if2 .left) (Bytes-index (start .args .t0 .now) (λ i. after-shared-slice-known .shared-slice-known .given i .fits)) (Bytes-index (start .args .t1 .now) (λ i. after-shared-slice-known2 .shared-slice-known2 .given i .fits)) (c .before .match .keys3)
 
 is-consistent-with-returns-7 : (t : ℕ) → is-consistent-with-lts.Need-returns-7 (is-consistent-with-claims t) (is-consistent-with-at t) is-consistent-with.Post
 is-consistent-with-returns-7 t c =

@@ -8,7 +8,7 @@ use Rattle.forms.specs.Laws.Views.{not-empty, is-set, is-record, is-entity}
 use Rattle.forms.specs.Laws.Attributes.{laid}
 use Rattle.relations.specs.Modes.{modeAs}
 use Rattle.relations.specs.Laws.Names.{entity-form}
-use Rattle.relations.specs.Laws.SameForm.{all-bytes}
+use Rattle.forms.specs.Laws.Bytes.{Bytes-index}
 use Rattle.relations.specs.Laws.Walks.{Under, under-start, under-end, under-missing, under-here, under-next, under-upper, under-flag, under-type, under-again}
 use Rattle.relations.specs.Laws.Subtype.{unlike-kinds, set-under, entity-under, action-under, extension-under, atoms-under, record-not, record-under}
 use borrow.Author.Needs.{needs}
@@ -597,14 +597,14 @@ is-subtype-returns-6 t c =
     let start = c .before .before .before .before .before .before .before in
     let after-shared-slice-known = c .before .before .before .before .before .before in
     let after-shared-slice-known2 = c .before .before .before .before .before in
-    c .same-bytes .ensures ∙ action-under (modeAs (start .args .mode)) (start .args .levels) (start .args .t0 .now) (start .args .t1 .now) (start .pre .1 .0) (start .pre .1 .1) (c .before .before .if1 .left) (all-bytes (start .args .t0 .now) (λ i. after-shared-slice-known .shared-slice-known .given i .fits)) (all-bytes (start .args .t1 .now) (λ i. after-shared-slice-known2 .shared-slice-known2 .given i .fits)) (c .before .match .keys4)
+    c .same-bytes .ensures ∙ action-under (modeAs (start .args .mode)) (start .args .levels) (start .args .t0 .now) (start .args .t1 .now) (start .pre .1 .0) (start .pre .1 .1) (c .before .before .if1 .left) (Bytes-index (start .args .t0 .now) (λ i. after-shared-slice-known .shared-slice-known .given i .fits)) (Bytes-index (start .args .t1 .now) (λ i. after-shared-slice-known2 .shared-slice-known2 .given i .fits)) (c .before .match .keys4)
 
 is-subtype-returns-7 : (t : ℕ) → is-subtype-lts.Need-returns-7 (is-subtype-claims t) (is-subtype-at t) is-subtype.Post
 is-subtype-returns-7 t c =
     let start = c .before .before .before .before .before .before .before in
     let after-shared-slice-known = c .before .before .before .before .before .before in
     let after-shared-slice-known2 = c .before .before .before .before .before in
-    c .same-bytes2 .ensures ∙ extension-under (modeAs (start .args .mode)) (start .args .levels) (start .args .t0 .now) (start .args .t1 .now) (start .pre .1 .0) (start .pre .1 .1) (c .before .before .if1 .left) (all-bytes (start .args .t0 .now) (λ i. after-shared-slice-known .shared-slice-known .given i .fits)) (all-bytes (start .args .t1 .now) (λ i. after-shared-slice-known2 .shared-slice-known2 .given i .fits)) (c .before .match .keys5)
+    c .same-bytes2 .ensures ∙ extension-under (modeAs (start .args .mode)) (start .args .levels) (start .args .t0 .now) (start .args .t1 .now) (start .pre .1 .0) (start .pre .1 .1) (c .before .before .if1 .left) (Bytes-index (start .args .t0 .now) (λ i. after-shared-slice-known .shared-slice-known .given i .fits)) (Bytes-index (start .args .t1 .now) (λ i. after-shared-slice-known2 .shared-slice-known2 .given i .fits)) (c .before .match .keys5)
 
 is-subtype-returns-8 : (t : ℕ) → is-subtype-lts.Need-returns-8 (is-subtype-claims t) (is-subtype-at t) is-subtype.Post
 is-subtype-returns-8 t c =

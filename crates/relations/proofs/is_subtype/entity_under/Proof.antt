@@ -2,7 +2,8 @@
 use mathlib.Core.Path.{sym, _∙_}
 use Rattle.relations.specs.Modes.{modeAs}
 use Rattle.relations.specs.Laws.Names.{entity-names}
-use Rattle.relations.specs.Laws.SameForm.{all-bytes, names-permissive, names-strict}
+use Rattle.relations.specs.Laws.SameForm.{names-permissive, names-strict}
+use Rattle.forms.specs.Laws.Bytes.{Bytes-index}
 use borrow.Author.Needs.{needs}
 use Rattle.relations.proofs.is_subtype.entity_under.Statement.{statement}
 use Rattle.relations.proofs.is_subtype.entity_under.Tie as tie
@@ -55,7 +56,7 @@ returns-2 c =
     let start = c .before .before .before .before .before .before .before in
     let after-shared-slice-known = c .before .before .before .before .before .before in
     let after-shared-slice-known2 = c .before .before .before .before .before in
-    names-strict (modeAs (start .args .mode)) (start .args .t0 .now) (start .args .t1 .now) (c .same-bytes .result) (all-bytes (start .args .t0 .now) (λ i. after-shared-slice-known .shared-slice-known .given i .fits)) (all-bytes (start .args .t1 .now) (λ i. after-shared-slice-known2 .shared-slice-known2 .given i .fits)) (start .pre .0) (start .pre .1) (sym (c .before .before .is-permissive .ensures) ∙ c .before .if1 .left) (c .same-bytes .ensures)
+    names-strict (modeAs (start .args .mode)) (start .args .t0 .now) (start .args .t1 .now) (c .same-bytes .result) (Bytes-index (start .args .t0 .now) (λ i. after-shared-slice-known .shared-slice-known .given i .fits)) (Bytes-index (start .args .t1 .now) (λ i. after-shared-slice-known2 .shared-slice-known2 .given i .fits)) (start .pre .0) (start .pre .1) (sym (c .before .before .is-permissive .ensures) ∙ c .before .if1 .left) (c .same-bytes .ensures)
 
 pub entity-under-spec : {M : Type 1} → statement M
 entity-under-spec =

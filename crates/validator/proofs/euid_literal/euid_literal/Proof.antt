@@ -1,6 +1,6 @@
 use native.Mathlib.Omega.{arith}
 use Rattle.schemas.specs.Laws.Finders.{kept}
-use Rattle.attributes.specs.Laws.Bytes.{Bytes-index}
+use Rattle.forms.specs.Laws.Bytes.{Bytes-index}
 use Rattle.validator.specs.Laws.Schemas.{checked-missing, checked-there}
 use Rattle.validator.specs.Laws.Uids.{uid-missing, uid-there, uid-read}
 use Rattle.validator.specs.Laws.Literal.{literal-no-schema, literal-no-uid, literal-nothing, literal-over, literal-room, literal-writes}

@@ -1,0 +1,78 @@
+// The fold of a list of types.
+use crate::steps::Step;
+use crate::steps::join_step;
+use forms::kinds::Kind;
+use forms::limits::Limits;
+use forms::numbers::u16_at;
+use forms::offsets::Offset;
+use forms::refusals::Refusal;
+use forms::widths::Width;
+ghost use lib.ListN.{length};
+ghost use Rattle.cedar.specs.Limits.{standard};
+ghost use Rattle.cedar.specs.Fold.{foldFrom, foldTypes};
+ghost use Rattle.cedar.specs.Calls.{stepFits};
+ghost use Rattle.forms.specs.Parts.{part};
+ghost use Rattle.forms.specs.TypeBytes.{dec};
+ghost use Rattle.forms.specs.ListBytes.{SoundTs, decTs, listOf};
+ghost use Rattle.bounds.specs.Kinds.{asMode};
+ghost use Rattle.folds.specs.Steps.{Held};
+ghost use Rattle.folds.specs.Lists.{Opened, FoldsTo};
+
+// How a fold ends: with a bound of so many bytes, or with the number of its refusal.
+pub enum Folded {
+    To(usize),
+    Not(u8),
+}
+
+// Folds n types, given by their lengths and their bytes, onto the type in the first bytes of `last`.
+fn fold_onto(
+    mode: u8,
+    last: &mut [u8],
+    len: usize,
+    lengths: &[u8],
+    bytes: &[u8],
+    n: usize,
+    work: &mut [u8],
+) -> Folded
+    requires { ⌜ Held 16 len (now last) ⌝ }
+    requires { ⌜ SoundTs standard n (now lengths) (now bytes) ⌝ }
+    ensures { λ r. ⌜ FoldsTo (foldFrom (stepFits standard (length (now (work .entry)))) (asMode mode) (dec 16 (part 0 len (now (last .entry)))) (decTs 16 n (now (lengths .entry)) (now (bytes .entry)))) (now (last .exit)) r ⌝ }
+{
+    let mut to = len;
+    let mut second = true;
+    let mut e = lengths;
+    let mut b = bytes;
+    let mut left = n;
+    while 0 < left {
+        let size = u16_at(e, 0);
+        match join_step(mode, last, to, &b[0..size], Limits::LEVELS, second, work) {
+            Step::To(m) => to = m,
+            Step::Not(reason) => return Folded::Not(reason),
+            Step::TooLong => return Folded::Not(Refusal::WORKSPACE),
+        }
+        second = !second;
+        e = &e[Width::MEMBER..];
+        b = &b[size..];
+        left -= 1;
+    }
+    Folded::To(to)
+}
+
+// The fold of a list, from Never; its form is left in the first bytes of `last`.
+pub fn fold_types(mode: u8, list: &[u8], last: &mut [u8], work: &mut [u8]) -> Folded
+    requires { ⌜ Opened (now list) (now last) ⌝ }
+    ensures { λ r. ⌜ FoldsTo (foldTypes (stepFits standard (length (now (work .entry)))) (asMode mode) (listOf 16 (now (list .entry)))) (now (last .exit)) r ⌝ }
+{
+    let n = u16_at(list, 0);
+    let end = Offset::LIST_ENTRIES + Width::MEMBER * n;
+    last[0] = Kind::NEVER;
+    fold_onto(
+        mode,
+        last,
+        1,
+        &list[Offset::LIST_ENTRIES..end],
+        &list[end..],
+        n,
+        work,
+    )
+}

@@ -1,0 +1,57 @@
+// One step of a fold: a bound written into a half of the workspace.
+use bounds::bound_extents::bound_extent;
+use bounds::bound_writes::write_bound;
+use bounds::extents::Extent;
+use bounds::writers::copy;
+use forms::limits::Limits;
+ghost use mathlib.Core.Path.{_≡_};
+ghost use mathlib.Core.Bool.{true};
+ghost use lib.ListN.{length};
+ghost use Rattle.cedar.specs.Bound.{bound};
+ghost use Rattle.forms.specs.Parts.{part};
+ghost use Rattle.forms.specs.TypeBytes.{whole, dec};
+ghost use Rattle.bounds.specs.Kinds.{asMode};
+ghost use Rattle.folds.specs.Steps.{Held, Stepped};
+
+// Where a step leads: to a bound of so many bytes, to none, by the number of its reason, or to one that is too long.
+pub enum Step {
+    To(usize),
+    Not(u8),
+    TooLong,
+}
+
+// The bound of the type in the first bytes of `last` and another: written into a half of the workspace, then copied to `last`. The
+// halves cannot be lent at once, so each step reads a copy.
+pub fn join_step(
+    mode: u8,
+    last: &mut [u8],
+    len: usize,
+    t: &[u8],
+    levels: usize,
+    second: bool,
+    work: &mut [u8],
+) -> Step
+    requires { ⌜ Held levels len (now last) ⌝ }
+    requires { ⌜ whole levels (now t) ≡ true ⌝ }
+    ensures { λ r. ⌜ Stepped levels (bound (asMode mode) (dec levels (part 0 len (now (last .entry)))) (dec levels (now (t .entry)))) (length (now (work .entry))) (now (last .exit)) r ⌝ }
+{
+    let half = work.len() / 2;
+    let n = match bound_extent(mode, &last[0..len], t, levels) {
+        Extent::Of(n) => n,
+        Extent::Not(e) => return Step::Not(e),
+    };
+    if half < n {
+        return Step::TooLong;
+    }
+    if Limits::BYTES < n {
+        return Step::TooLong;
+    }
+    if second {
+        write_bound(mode, &last[0..len], t, levels, &mut work[half..]);
+        copy(&work[half..half + n], last);
+        return Step::To(n);
+    }
+    write_bound(mode, &last[0..len], t, levels, &mut work[..half]);
+    copy(&work[0..n], last);
+    Step::To(n)
+}

@@ -1,0 +1,97 @@
+-- The fold call, question by question. Assumes nothing.
+use Prim.Native.Nat.{ℕ, _≤_, min}
+use native.Mathlib.Omega.{arith}
+use mathlib.Core.List.{List}
+use mathlib.Core.Bool.{Bool, true, false, not, _&&_}
+use mathlib.Core.Option.{none, some}
+use mathlib.Core.Path.{_≡_, refl, ap, sym, subst, _∙_}
+use lib.Dec.{leb}
+use lib.ListN.{length}
+use borrow.Author.Tests.{leb-true, not-true, not-false}
+use Rattle.cedar.specs.Types.{Ty, Schema, present}
+use Rattle.cedar.specs.TypeForm.{enc}
+use Rattle.cedar.specs.Limits.{standard, blockBytes}
+use Rattle.cedar.specs.Result.{Result, ok, err}
+use Rattle.cedar.specs.Whole.{wholeSchema, wholeList}
+use Rattle.cedar.specs.Outcome.{Outcome, typed, over}
+use Rattle.cedar.specs.Fold.{foldTypes}
+use Rattle.cedar.specs.Calls.{modeOf, stepFits, writeType, foldCall}
+use Rattle.forms.specs.Parts.{part}
+use Rattle.forms.specs.TypeBytes.{dec}
+use Rattle.forms.specs.ListBytes.{listFits, listOf}
+use Rattle.forms.specs.Laws.Parts.{and-r, length-part}
+use Rattle.forms.specs.Laws.Sure.{sure-present, sure-yes}
+use Rattle.forms.specs.Laws.Lists.{whole-list-twin}
+use Rattle.bounds.specs.Kinds.{asMode}
+use Rattle.folds.specs.declared.lists.Folded.{Folded}
+use Rattle.folds.specs.declared.lists.Folded.the-variants.{To, Not}
+use Rattle.folds.specs.Lists.{Opened, FoldsTo}
+use Rattle.validator.specs.declared.answers.Answer.the-variants.{Refused, Wrote}
+use Rattle.validator.specs.Answers.{Answered}
+use Rattle.validator.specs.Laws.Writing.{refuses}
+
+-- The answer of `whole_list`.
+module _ (b : List ℕ) (r : Bool) (q : r ≡ present (wholeList standard b)) (h : not r ≡ false) where
+  fits : (leb (length b) blockBytes) && listFits standard b ≡ true
+  fits = sym (sure-present (whole-list-twin standard b)) ∙ sym q ∙ not-false r h
+
+  pub list-there : wholeList standard b ≡ some (listOf 16 b)
+  list-there = sure-yes (whole-list-twin standard b) fits
+
+  pub list-opened : (last : List ℕ) → length last ≡ 4096 → Opened b last
+  list-opened last e = record { good = and-r (leb (length b) blockBytes) (listFits standard b) fits; room = e }
+
+module _ (mode : ℕ) (s list o : List ℕ) (work : ℕ) where
+  abbrev outcome : Outcome
+  outcome = foldCall standard mode s list (length o) work
+
+  pub fold-mode : modeOf mode ≡ none → Answered outcome o o (Refused 1)
+  fold-mode e = refuses 1 (rw e refl)
+
+  module _ (em : modeOf mode ≡ some (asMode mode)) where
+    pub fold-schema : wholeSchema standard s ≡ none → Answered outcome o o (Refused 2)
+    fold-schema e = refuses 2 (rw (em, e) refl)
+
+    module _ (x : Schema) (es : wholeSchema standard s ≡ some x) where
+      pub fold-list : wholeList standard list ≡ none → Answered outcome o o (Refused 3)
+      fold-list e = refuses 3 (rw (em, es, e) refl)
+
+      module _ (el : wholeList standard list ≡ some (listOf 16 list)) (last : List ℕ) (r : Folded) (h : FoldsTo (foldTypes (stepFits standard work) (asMode mode) (listOf 16 list)) last r) where
+        ends : (y : Folded) → r ≡ y → FoldsTo (foldTypes (stepFits standard work) (asMode mode) (listOf 16 list)) last y
+        ends y e = subst (λ (z : Folded). FoldsTo (foldTypes (stepFits standard work) (asMode mode) (listOf 16 list)) last z) e h
+
+        goes-on : outcome ≡ writeType standard (length o) (foldTypes (stepFits standard work) (asMode mode) (listOf 16 list))
+        goes-on = rw (em, es, el) refl
+
+        comes-to : (y : Result Ty) → foldTypes (stepFits standard work) (asMode mode) (listOf 16 list) ≡ y → outcome ≡ writeType standard (length o) y
+        comes-to y e = goes-on ∙ ap (writeType standard (length o)) e
+
+        pub fold-not : (e : ℕ) → r ≡ Not e → Answered outcome o o (Refused e)
+        fold-not e q = refuses e (comes-to (err e) (ends (Not e) q))
+
+        module _ (n : ℕ) (e : r ≡ To n) where
+          pub fold-small : n ≤ length last
+          fold-small = omega (arith, ends (To n) e .1 .fits, ends (To n) e .1 .room)
+
+          exact : enc (dec 16 (part 0 n last)) ≡ part 0 n last
+          exact = ends (To n) e .1 .exact
+
+          sized : length (part 0 n last) ≡ n
+          sized = length-part 0 n last fold-small ∙ omega arith
+
+          fits-as : (y : Bool) → y ≡ leb n (min (length o) 4096) → leb (length (enc (dec 16 (part 0 n last)))) (min (length o) 4096) ≡ y
+          fits-as y f = ap (λ (k : ℕ). leb k (min (length o) 4096)) (ap length exact ∙ sized) ∙ sym f
+
+          module _ (y : Bool) (f : y ≡ leb n (min (length o) 4096)) where
+            pub fold-over : not y ≡ true → Answered outcome o o (Refused 10)
+            fold-over k = refuses 10 (comes-to (ok (dec 16 (part 0 n last))) (ends (To n) e .0) ∙ rw (fits-as y f, not-true y k) refl)
+
+            module _ (k : not y ≡ false) where
+              pub fold-room : length (part 0 n last) ≤ length o
+              fold-room = omega (arith, sized, leb-true n (min (length o) 4096) (sym f ∙ not-false y k))
+
+              pub fold-writes : (xs : List ℕ) → xs ≡ over (part 0 n last) o → Answered outcome o xs (Wrote n)
+              fold-writes xs w =
+                  let c : outcome ≡ typed (dec 16 (part 0 n last)) = comes-to (ok (dec 16 (part 0 n last))) (ends (To n) e .0) ∙ rw (fits-as y f, not-false y k) refl in
+                  subst (λ (z : Outcome). Answered z o xs (Wrote n)) (sym c)
+                  record { answer = ap Wrote (sym (ap length exact ∙ sized)); result = w ∙ ap (λ (z : List ℕ). over z o) (sym exact) }

@@ -1,0 +1,56 @@
+// The least upper bound of a list of types.
+use crate::answers::Answer;
+use crate::rooms::answer_fits;
+use crate::workspaces::clear;
+use bounds::writers::copy;
+use folds::lists::Folded;
+use folds::lists::fold_types;
+use forms::limits::Limits;
+use forms::lists::whole_list;
+use forms::refusals::Refusal;
+use relations::modes::is_mode;
+use schemas::whole::whole_schema;
+ghost use lib.ListN.{length};
+ghost use Rattle.cedar.specs.Limits.{standard};
+ghost use Rattle.cedar.specs.Calls.{foldCall};
+ghost use Rattle.validator.specs.Answers.{Answered, AnsweredIn};
+
+// The answer, with the workspace as the steps left it.
+fn reduced(mode: u8, schema: &[u8], list: &[u8], out: &mut [u8], work: &mut [u8]) -> Answer
+    ensures { λ r. ⌜ Answered (foldCall standard mode (now (schema .entry)) (now (list .entry)) (length (now (out .entry))) (length (now (work .entry)))) (now (out .entry)) (now (out .exit)) r ⌝ }
+{
+    if !is_mode(mode) {
+        return Answer::Refused(Refusal::MODE);
+    }
+    if !whole_schema(schema) {
+        return Answer::Refused(Refusal::SCHEMA);
+    }
+    if !whole_list(list) {
+        return Answer::Refused(Refusal::FIRST);
+    }
+    let mut last = [0u8; Limits::BYTES];
+    match fold_types(mode, list, &mut last, work) {
+        Folded::To(n) => {
+            if !answer_fits(n, out.len()) {
+                return Answer::Refused(Refusal::RESULT);
+            }
+            copy(&last[0..n], out);
+            Answer::Wrote(n)
+        }
+        Folded::Not(e) => Answer::Refused(e),
+    }
+}
+
+pub fn reduce_to_least_upper_bound(
+    mode: u8,
+    schema: &[u8],
+    list: &[u8],
+    out: &mut [u8],
+    work: &mut [u8],
+) -> Answer
+    ensures { λ r. ⌜ AnsweredIn (foldCall standard mode (now (schema .entry)) (now (list .entry)) (length (now (out .entry))) (length (now (work .entry)))) (now (out .entry)) (now (out .exit)) (now (work .entry)) (now (work .exit)) r ⌝ }
+{
+    let answer = reduced(mode, schema, list, out, work);
+    clear(work);
+    answer
+}
