@@ -5,6 +5,7 @@ pub mod Values
 pub mod Uids
 pub mod Writing
 pub mod Workspaces
+pub mod Subtype
 pub mod MayHave
 pub mod Handed
 pub mod Literal

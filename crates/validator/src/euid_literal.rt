@@ -16,6 +16,7 @@ ghost use lib.ListN.{length};
 ghost use Rattle.cedar.specs.Types.{present};
 ghost use Rattle.cedar.specs.Limits.{standard};
 ghost use Rattle.cedar.specs.Calls.{literalCall};
+ghost use Rattle.schemas.specs.SchemaBytes.{checked};
 ghost use Rattle.validator.specs.Answers.{Answered};
 ghost use Rattle.validator.specs.Uids.{uidOf};
 
@@ -29,10 +30,12 @@ fn whole_uid(v: &[u8]) -> bool
     v[0] == ValueKind::UID
 }
 
-pub fn euid_literal(schema: &[u8], v: &[u8], out: &mut [u8]) -> Answer
+// The answer under a schema that was checked before.
+pub fn euid_literal_checked(schema: &[u8], check: Checked, v: &[u8], out: &mut [u8]) -> Answer
+    requires { ⌜ check ≡ checked (now schema) ⌝ }
     ensures { λ r. ⌜ Answered (literalCall standard (now (schema .entry)) (now (v .entry)) (length (now (out .entry)))) (now (out .entry)) (now (out .exit)) r ⌝ }
 {
-    let Checked::Whole(at) = check_schema(schema) else {
+    let Checked::Whole(at) = check else {
         return Answer::Refused(Refusal::SCHEMA);
     };
     if !whole_uid(v) {
@@ -49,4 +52,10 @@ pub fn euid_literal(schema: &[u8], v: &[u8], out: &mut [u8]) -> Answer
     }
     write_literal(schema, found, entity, out);
     Answer::Wrote(n)
+}
+
+pub fn euid_literal(schema: &[u8], v: &[u8], out: &mut [u8]) -> Answer
+    ensures { λ r. ⌜ Answered (literalCall standard (now (schema .entry)) (now (v .entry)) (length (now (out .entry)))) (now (out .entry)) (now (out .exit)) r ⌝ }
+{
+    euid_literal_checked(schema, check_schema(schema), v, out)
 }

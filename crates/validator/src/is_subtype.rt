@@ -5,21 +5,26 @@ use forms::limits::Limits;
 use forms::refusals::Refusal;
 use forms::types::whole_type;
 use relations::modes::is_mode;
-use schemas::whole::whole_schema;
+use schemas::whole::Checked;
+use schemas::whole::check_schema;
+ghost use mathlib.Core.List.{List};
 ghost use mathlib.Core.Path.{_≡_};
+ghost use Prim.Native.Nat.{ℕ};
 ghost use Rattle.cedar.specs.Limits.{standard};
 ghost use Rattle.cedar.specs.Calls.{subtypeCall};
+ghost use Rattle.schemas.specs.SchemaBytes.{checked};
 ghost use Rattle.validator.specs.Answers.{answerOf};
 
-pub fn is_subtype(mode: u8, schema: &[u8], t0: &[u8], t1: &[u8]) -> Answer
-    ensures { λ r. ⌜ r ≡ answerOf (subtypeCall standard mode (now (schema .entry)) (now (t0 .entry)) (now (t1 .entry))) ⌝ }
+// The answer under any schema that was checked before, with this outcome.
+pub fn is_subtype_checked(check: Checked, mode: u8, t0: &[u8], t1: &[u8]) -> Answer
+    ensures { λ r. ⌜ ((schema : List ℕ) → check ≡ checked schema → r ≡ answerOf (subtypeCall standard mode schema (now (t0 .entry)) (now (t1 .entry)))) ⌝ }
 {
     if !is_mode(mode) {
         return Answer::Refused(Refusal::MODE);
     }
-    if !whole_schema(schema) {
+    let Checked::Whole(_) = check else {
         return Answer::Refused(Refusal::SCHEMA);
-    }
+    };
     if !whole_type(t0) {
         return Answer::Refused(Refusal::FIRST);
     }
@@ -27,4 +32,10 @@ pub fn is_subtype(mode: u8, schema: &[u8], t0: &[u8], t1: &[u8]) -> Answer
         return Answer::Refused(Refusal::SECOND);
     }
     yes_or_no(relations::is_subtype::is_subtype(mode, t0, t1, Limits::LEVELS))
+}
+
+pub fn is_subtype(mode: u8, schema: &[u8], t0: &[u8], t1: &[u8]) -> Answer
+    ensures { λ r. ⌜ r ≡ answerOf (subtypeCall standard mode (now (schema .entry)) (now (t0 .entry)) (now (t1 .entry))) ⌝ }
+{
+    is_subtype_checked(check_schema(schema), mode, t0, t1)
 }

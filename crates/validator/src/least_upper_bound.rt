@@ -8,21 +8,33 @@ use forms::limits::Limits;
 use forms::refusals::Refusal;
 use forms::types::whole_type;
 use relations::modes::is_mode;
-use schemas::whole::whole_schema;
+use schemas::whole::Checked;
+use schemas::whole::check_schema;
+ghost use mathlib.Core.List.{List};
+ghost use mathlib.Core.Path.{_≡_};
+ghost use Prim.Native.Nat.{ℕ};
 ghost use lib.ListN.{length};
 ghost use Rattle.cedar.specs.Limits.{standard};
 ghost use Rattle.cedar.specs.Calls.{boundCall};
+ghost use Rattle.schemas.specs.SchemaBytes.{checked};
 ghost use Rattle.validator.specs.Answers.{Answered};
 
-pub fn least_upper_bound(mode: u8, schema: &[u8], t0: &[u8], t1: &[u8], out: &mut [u8]) -> Answer
-    ensures { λ r. ⌜ Answered (boundCall standard mode (now (schema .entry)) (now (t0 .entry)) (now (t1 .entry)) (length (now (out .entry)))) (now (out .entry)) (now (out .exit)) r ⌝ }
+// The answer under any schema that was checked before, with this outcome.
+pub fn least_upper_bound_checked(
+    check: Checked,
+    mode: u8,
+    t0: &[u8],
+    t1: &[u8],
+    out: &mut [u8],
+) -> Answer
+    ensures { λ r. ⌜ ((schema : List ℕ) → check ≡ checked schema → Answered (boundCall standard mode schema (now (t0 .entry)) (now (t1 .entry)) (length (now (out .entry)))) (now (out .entry)) (now (out .exit)) r) ⌝ }
 {
     if !is_mode(mode) {
         return Answer::Refused(Refusal::MODE);
     }
-    if !whole_schema(schema) {
+    let Checked::Whole(_) = check else {
         return Answer::Refused(Refusal::SCHEMA);
-    }
+    };
     if !whole_type(t0) {
         return Answer::Refused(Refusal::FIRST);
     }
@@ -39,4 +51,10 @@ pub fn least_upper_bound(mode: u8, schema: &[u8], t0: &[u8], t1: &[u8], out: &mu
         }
         Extent::Not(e) => Answer::Refused(e),
     }
+}
+
+pub fn least_upper_bound(mode: u8, schema: &[u8], t0: &[u8], t1: &[u8], out: &mut [u8]) -> Answer
+    ensures { λ r. ⌜ Answered (boundCall standard mode (now (schema .entry)) (now (t0 .entry)) (now (t1 .entry)) (length (now (out .entry)))) (now (out .entry)) (now (out .exit)) r ⌝ }
+{
+    least_upper_bound_checked(check_schema(schema), mode, t0, t1, out)
 }

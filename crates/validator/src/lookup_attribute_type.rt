@@ -10,16 +10,26 @@ use forms::refusals::Refusal;
 use forms::types::whole_type;
 use schemas::whole::Checked;
 use schemas::whole::check_schema;
+ghost use mathlib.Core.Path.{_≡_};
 ghost use lib.ListN.{length};
 ghost use Rattle.cedar.specs.Limits.{standard};
 ghost use Rattle.cedar.specs.Calls.{lookupCall};
+ghost use Rattle.schemas.specs.SchemaBytes.{checked};
 ghost use Rattle.validator.specs.Answers.{Answered, AnsweredIn};
 
 // The answer, with the workspace as the steps left it.
-fn looked_up(schema: &[u8], attr: u16, t: &[u8], out: &mut [u8], work: &mut [u8]) -> Answer
+fn looked_up(
+    schema: &[u8],
+    check: Checked,
+    attr: u16,
+    t: &[u8],
+    out: &mut [u8],
+    work: &mut [u8],
+) -> Answer
+    requires { ⌜ check ≡ checked (now schema) ⌝ }
     ensures { λ r. ⌜ Answered (lookupCall standard (now (schema .entry)) attr (now (t .entry)) (length (now (out .entry))) (length (now (work .entry)))) (now (out .entry)) (now (out .exit)) r ⌝ }
 {
-    let Checked::Whole(at) = check_schema(schema) else {
+    let Checked::Whole(at) = check else {
         return Answer::Refused(Refusal::SCHEMA);
     };
     if !whole_type(t) {
@@ -39,6 +49,23 @@ fn looked_up(schema: &[u8], attr: u16, t: &[u8], out: &mut [u8], work: &mut [u8]
     }
 }
 
+// The answer under a schema that was checked before.
+pub fn lookup_attribute_type_checked(
+    schema: &[u8],
+    check: Checked,
+    attr: u16,
+    t: &[u8],
+    out: &mut [u8],
+    work: &mut [u8],
+) -> Answer
+    requires { ⌜ check ≡ checked (now schema) ⌝ }
+    ensures { λ r. ⌜ AnsweredIn (lookupCall standard (now (schema .entry)) attr (now (t .entry)) (length (now (out .entry))) (length (now (work .entry)))) (now (out .entry)) (now (out .exit)) (now (work .entry)) (now (work .exit)) r ⌝ }
+{
+    let answer = looked_up(schema, check, attr, t, out, work);
+    clear(work);
+    answer
+}
+
 pub fn lookup_attribute_type(
     schema: &[u8],
     attr: u16,
@@ -48,7 +75,5 @@ pub fn lookup_attribute_type(
 ) -> Answer
     ensures { λ r. ⌜ AnsweredIn (lookupCall standard (now (schema .entry)) attr (now (t .entry)) (length (now (out .entry))) (length (now (work .entry)))) (now (out .entry)) (now (out .exit)) (now (work .entry)) (now (work .exit)) r ⌝ }
 {
-    let answer = looked_up(schema, attr, t, out, work);
-    clear(work);
-    answer
+    lookup_attribute_type_checked(schema, check_schema(schema), attr, t, out, work)
 }

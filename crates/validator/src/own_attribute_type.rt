@@ -4,9 +4,14 @@ use attributes::own_attribute::own_attribute;
 use forms::limits::Limits;
 use forms::refusals::Refusal;
 use forms::types::whole_type;
-use schemas::whole::whole_schema;
+use schemas::whole::Checked;
+use schemas::whole::check_schema;
+ghost use mathlib.Core.List.{List};
+ghost use mathlib.Core.Path.{_≡_};
+ghost use Prim.Native.Nat.{ℕ};
 ghost use Rattle.cedar.specs.Limits.{standard};
 ghost use Rattle.cedar.specs.Calls.{ownAttributeCall};
+ghost use Rattle.schemas.specs.SchemaBytes.{checked};
 ghost use Rattle.validator.specs.Handed.{Handed};
 
 // What the entry says beside the part, where it is no refusal's number.
@@ -20,14 +25,19 @@ impl Told {
     pub const REQUIRED: u8 = b'r';
 }
 
-// The attribute's type, as a part of t: empty for none or a refusal. `told` is the refusal's number, none, optional or required.
-pub fn own_attribute_type<'a>(schema: &[u8], attr: u16, t: &'a [u8], told: &mut u8) -> &'a [u8]
-    ensures { λ r. ⌜ Handed (ownAttributeCall standard (now (schema .entry)) attr (now (t .entry))) (now r) (now (told .exit)) ⌝ }
+// The answer under any schema that was checked before, with this outcome.
+pub fn own_attribute_type_checked<'a>(
+    check: Checked,
+    attr: u16,
+    t: &'a [u8],
+    told: &mut u8,
+) -> &'a [u8]
+    ensures { λ r. ⌜ ((schema : List ℕ) → check ≡ checked schema → Handed (ownAttributeCall standard schema attr (now (t .entry))) (now r) (now (told .exit))) ⌝ }
 {
-    if !whole_schema(schema) {
+    let Checked::Whole(_) = check else {
         *told = Refusal::SCHEMA;
         return &t[..0];
-    }
+    };
     if !whole_type(t) {
         *told = Refusal::FIRST;
         return &t[..0];
@@ -42,4 +52,11 @@ pub fn own_attribute_type<'a>(schema: &[u8], attr: u16, t: &'a [u8], told: &mut 
     }
     *told = Told::OPTIONAL;
     &t[start..end]
+}
+
+// The attribute's type, as a part of t: empty for none or a refusal. `told` is the refusal's number, none, optional or required.
+pub fn own_attribute_type<'a>(schema: &[u8], attr: u16, t: &'a [u8], told: &mut u8) -> &'a [u8]
+    ensures { λ r. ⌜ Handed (ownAttributeCall standard (now (schema .entry)) attr (now (t .entry))) (now r) (now (told .exit)) ⌝ }
+{
+    own_attribute_type_checked(check_schema(schema), attr, t, told)
 }

@@ -9,22 +9,27 @@ use forms::limits::Limits;
 use forms::lists::whole_list;
 use forms::refusals::Refusal;
 use relations::modes::is_mode;
-use schemas::whole::whole_schema;
+use schemas::whole::Checked;
+use schemas::whole::check_schema;
+ghost use mathlib.Core.List.{List};
+ghost use mathlib.Core.Path.{_≡_};
+ghost use Prim.Native.Nat.{ℕ};
 ghost use lib.ListN.{length};
 ghost use Rattle.cedar.specs.Limits.{standard};
 ghost use Rattle.cedar.specs.Calls.{foldCall};
+ghost use Rattle.schemas.specs.SchemaBytes.{checked};
 ghost use Rattle.validator.specs.Answers.{Answered, AnsweredIn};
 
-// The answer, with the workspace as the steps left it.
-fn reduced(mode: u8, schema: &[u8], list: &[u8], out: &mut [u8], work: &mut [u8]) -> Answer
-    ensures { λ r. ⌜ Answered (foldCall standard mode (now (schema .entry)) (now (list .entry)) (length (now (out .entry))) (length (now (work .entry)))) (now (out .entry)) (now (out .exit)) r ⌝ }
+// The answer under any schema that was checked before, with this outcome; the workspace as the steps left it.
+fn reduced(check: Checked, mode: u8, list: &[u8], out: &mut [u8], work: &mut [u8]) -> Answer
+    ensures { λ r. ⌜ ((schema : List ℕ) → check ≡ checked schema → Answered (foldCall standard mode schema (now (list .entry)) (length (now (out .entry))) (length (now (work .entry)))) (now (out .entry)) (now (out .exit)) r) ⌝ }
 {
     if !is_mode(mode) {
         return Answer::Refused(Refusal::MODE);
     }
-    if !whole_schema(schema) {
+    let Checked::Whole(_) = check else {
         return Answer::Refused(Refusal::SCHEMA);
-    }
+    };
     if !whole_list(list) {
         return Answer::Refused(Refusal::FIRST);
     }
@@ -41,6 +46,21 @@ fn reduced(mode: u8, schema: &[u8], list: &[u8], out: &mut [u8], work: &mut [u8]
     }
 }
 
+// The answer under any schema that was checked before, with this outcome.
+pub fn reduce_to_least_upper_bound_checked(
+    check: Checked,
+    mode: u8,
+    list: &[u8],
+    out: &mut [u8],
+    work: &mut [u8],
+) -> Answer
+    ensures { λ r. ⌜ ((schema : List ℕ) → check ≡ checked schema → AnsweredIn (foldCall standard mode schema (now (list .entry)) (length (now (out .entry))) (length (now (work .entry)))) (now (out .entry)) (now (out .exit)) (now (work .entry)) (now (work .exit)) r) ⌝ }
+{
+    let answer = reduced(check, mode, list, out, work);
+    clear(work);
+    answer
+}
+
 pub fn reduce_to_least_upper_bound(
     mode: u8,
     schema: &[u8],
@@ -50,7 +70,5 @@ pub fn reduce_to_least_upper_bound(
 ) -> Answer
     ensures { λ r. ⌜ AnsweredIn (foldCall standard mode (now (schema .entry)) (now (list .entry)) (length (now (out .entry))) (length (now (work .entry)))) (now (out .entry)) (now (out .exit)) (now (work .entry)) (now (work .exit)) r ⌝ }
 {
-    let answer = reduced(mode, schema, list, out, work);
-    clear(work);
-    answer
+    reduce_to_least_upper_bound_checked(check_schema(schema), mode, list, out, work)
 }

@@ -11,13 +11,20 @@ use schemas::whole::check_schema;
 ghost use mathlib.Core.Path.{_≡_};
 ghost use Rattle.cedar.specs.Limits.{standard};
 ghost use Rattle.cedar.specs.Calls.{conformsCall};
+ghost use Rattle.schemas.specs.SchemaBytes.{checked};
 ghost use Rattle.validator.specs.Answers.{answerOf};
 
-// Yes, no, or the number of the first question that has a no.
-pub fn typecheck_restricted_expr(schema: &[u8], t: &[u8], v: &[u8]) -> Answer
+// The answer under a schema that was checked before.
+pub fn typecheck_restricted_expr_checked(
+    schema: &[u8],
+    check: Checked,
+    t: &[u8],
+    v: &[u8],
+) -> Answer
+    requires { ⌜ check ≡ checked (now schema) ⌝ }
     ensures { λ r. ⌜ r ≡ answerOf (conformsCall standard (now (schema .entry)) (now (t .entry)) (now (v .entry))) ⌝ }
 {
-    let Checked::Whole(sections) = check_schema(schema) else {
+    let Checked::Whole(sections) = check else {
         return Answer::Refused(Refusal::SCHEMA);
     };
     if !whole_type(t) {
@@ -33,4 +40,11 @@ pub fn typecheck_restricted_expr(schema: &[u8], t: &[u8], v: &[u8]) -> Answer
         Verdict::FailsInside => Answer::No,
         Verdict::Unknown => Answer::Refused(Refusal::FUNCTION),
     }
+}
+
+// Yes, no, or the number of the first question that has a no.
+pub fn typecheck_restricted_expr(schema: &[u8], t: &[u8], v: &[u8]) -> Answer
+    ensures { λ r. ⌜ r ≡ answerOf (conformsCall standard (now (schema .entry)) (now (t .entry)) (now (v .entry))) ⌝ }
+{
+    typecheck_restricted_expr_checked(schema, check_schema(schema), t, v)
 }

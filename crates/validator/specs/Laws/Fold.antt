@@ -11,9 +11,9 @@ use borrow.Author.Tests.{leb-true, not-true, not-false}
 use Rattle.cedar.specs.Types.{Ty, Schema, present}
 use Rattle.cedar.specs.TypeForm.{enc}
 use Rattle.cedar.specs.Limits.{standard, blockBytes}
-use Rattle.cedar.specs.Result.{Result, ok, err}
+use Rattle.cedar.specs.Result.{Result}
 use Rattle.cedar.specs.Whole.{wholeSchema, wholeList}
-use Rattle.cedar.specs.Outcome.{Outcome, typed, over}
+use Rattle.cedar.specs.Outcome.{Outcome, refused, typed, over}
 use Rattle.cedar.specs.Fold.{foldTypes}
 use Rattle.cedar.specs.Calls.{modeOf, stepFits, writeType, foldCall}
 use Rattle.forms.specs.Parts.{part}
@@ -41,6 +41,42 @@ module _ (b : List ℕ) (r : Bool) (q : r ≡ present (wholeList standard b)) (h
   pub list-opened : (last : List ℕ) → length last ≡ 4096 → Opened b last
   list-opened last e = record { good = and-r (leb (length b) blockBytes) (listFits standard b) fits; room = e }
 
+-- What the fold f came to, its form left in the first bytes of `last`.
+module _ (f : Result Ty) (o last : List ℕ) (r : Folded) (h : FoldsTo f last r) where
+  ends : (y : Folded) → r ≡ y → FoldsTo f last y
+  ends y e = subst (λ (z : Folded). FoldsTo f last z) e h
+
+  pub folds-not : (e : ℕ) → r ≡ Not e → writeType standard (length o) f ≡ refused e
+  folds-not e q = ap (writeType standard (length o)) (ends (Not e) q)
+
+  module _ (n : ℕ) (e : r ≡ To n) where
+    pub folds-small : n ≤ length last
+    folds-small = omega (arith, ends (To n) e .1 .fits, ends (To n) e .1 .room)
+
+    sized : length (part 0 n last) ≡ n
+    sized = length-part 0 n last folds-small ∙ omega arith
+
+    pub folds-exact : enc (dec 16 (part 0 n last)) ≡ part 0 n last
+    folds-exact = ends (To n) e .1 .exact
+
+    pub folds-length : length (enc (dec 16 (part 0 n last))) ≡ n
+    folds-length = ap length folds-exact ∙ sized
+
+    module _ (y : Bool) (fit : y ≡ leb n (min (length o) 4096)) where
+      fits-as : leb (length (enc (dec 16 (part 0 n last)))) (min (length o) 4096) ≡ y
+      fits-as = ap (λ (k : ℕ). leb k (min (length o) 4096)) folds-length ∙ sym fit
+
+      pub folds-over : not y ≡ true → writeType standard (length o) f ≡ refused 10
+      folds-over k = ap (writeType standard (length o)) (ends (To n) e .0) ∙ rw (fits-as, not-true y k) refl
+
+      module _ (k : not y ≡ false) where
+        pub folds-room : length (part 0 n last) ≤ length o
+        folds-room = omega (arith, sized, leb-true n (min (length o) 4096) (sym fit ∙ not-false y k))
+
+        pub folds-typed : writeType standard (length o) f ≡ typed (dec 16 (part 0 n last))
+        folds-typed = ap (writeType standard (length o)) (ends (To n) e .0) ∙ rw (fits-as, not-false y k) refl
+
+-- The questions in their order.
 module _ (mode : ℕ) (s list o : List ℕ) (work : ℕ) where
   abbrev outcome : Outcome
   outcome = foldCall standard mode s list (length o) work
@@ -56,42 +92,18 @@ module _ (mode : ℕ) (s list o : List ℕ) (work : ℕ) where
       pub fold-list : wholeList standard list ≡ none → Answered outcome o o (Refused 3)
       fold-list e = refuses 3 (rw (em, es, e) refl)
 
-      module _ (el : wholeList standard list ≡ some (listOf 16 list)) (last : List ℕ) (r : Folded) (h : FoldsTo (foldTypes (stepFits standard work) (asMode mode) (listOf 16 list)) last r) where
-        ends : (y : Folded) → r ≡ y → FoldsTo (foldTypes (stepFits standard work) (asMode mode) (listOf 16 list)) last y
-        ends y e = subst (λ (z : Folded). FoldsTo (foldTypes (stepFits standard work) (asMode mode) (listOf 16 list)) last z) e h
+      module _ (el : wholeList standard list ≡ some (listOf 16 list)) where
+        abbrev folded : Result Ty
+        folded = foldTypes (stepFits standard work) (asMode mode) (listOf 16 list)
 
-        goes-on : outcome ≡ writeType standard (length o) (foldTypes (stepFits standard work) (asMode mode) (listOf 16 list))
+        goes-on : outcome ≡ writeType standard (length o) folded
         goes-on = rw (em, es, el) refl
 
-        comes-to : (y : Result Ty) → foldTypes (stepFits standard work) (asMode mode) (listOf 16 list) ≡ y → outcome ≡ writeType standard (length o) y
-        comes-to y e = goes-on ∙ ap (writeType standard (length o)) e
+        pub fold-refused : (e : ℕ) → writeType standard (length o) folded ≡ refused e → Answered outcome o o (Refused e)
+        fold-refused e q = refuses e (goes-on ∙ q)
 
-        pub fold-not : (e : ℕ) → r ≡ Not e → Answered outcome o o (Refused e)
-        fold-not e q = refuses e (comes-to (err e) (ends (Not e) q))
-
-        module _ (n : ℕ) (e : r ≡ To n) where
-          pub fold-small : n ≤ length last
-          fold-small = omega (arith, ends (To n) e .1 .fits, ends (To n) e .1 .room)
-
-          exact : enc (dec 16 (part 0 n last)) ≡ part 0 n last
-          exact = ends (To n) e .1 .exact
-
-          sized : length (part 0 n last) ≡ n
-          sized = length-part 0 n last fold-small ∙ omega arith
-
-          fits-as : (y : Bool) → y ≡ leb n (min (length o) 4096) → leb (length (enc (dec 16 (part 0 n last)))) (min (length o) 4096) ≡ y
-          fits-as y f = ap (λ (k : ℕ). leb k (min (length o) 4096)) (ap length exact ∙ sized) ∙ sym f
-
-          module _ (y : Bool) (f : y ≡ leb n (min (length o) 4096)) where
-            pub fold-over : not y ≡ true → Answered outcome o o (Refused 10)
-            fold-over k = refuses 10 (comes-to (ok (dec 16 (part 0 n last))) (ends (To n) e .0) ∙ rw (fits-as y f, not-true y k) refl)
-
-            module _ (k : not y ≡ false) where
-              pub fold-room : length (part 0 n last) ≤ length o
-              fold-room = omega (arith, sized, leb-true n (min (length o) 4096) (sym f ∙ not-false y k))
-
-              pub fold-writes : (xs : List ℕ) → xs ≡ over (part 0 n last) o → Answered outcome o xs (Wrote n)
-              fold-writes xs w =
-                  let c : outcome ≡ typed (dec 16 (part 0 n last)) = comes-to (ok (dec 16 (part 0 n last))) (ends (To n) e .0) ∙ rw (fits-as y f, not-false y k) refl in
-                  subst (λ (z : Outcome). Answered z o xs (Wrote n)) (sym c)
-                  record { answer = ap Wrote (sym (ap length exact ∙ sized)); result = w ∙ ap (λ (z : List ℕ). over z o) (sym exact) }
+        pub fold-writes : (n : ℕ) (last : List ℕ) → writeType standard (length o) folded ≡ typed (dec 16 (part 0 n last)) → enc (dec 16 (part 0 n last)) ≡ part 0 n last → length (enc (dec 16 (part 0 n last))) ≡ n →
+            (xs : List ℕ) → xs ≡ over (part 0 n last) o → Answered outcome o xs (Wrote n)
+        fold-writes n last q exact l xs w =
+            subst (λ (z : Outcome). Answered z o xs (Wrote n)) (sym (goes-on ∙ q))
+            record { answer = ap Wrote (sym l); result = w ∙ ap (λ (z : List ℕ). over z o) (sym exact) }

@@ -1,29 +1,18 @@
 -- The schema's question. Assumes nothing.
-use mathlib.Core.Path.{_≡_, sym, _∙_}
+use mathlib.Core.Path.{_≡_, sym}
 use Prim.Native.Nat.{ℕ}
 use mathlib.Core.List.{List}
-use mathlib.Core.Bool.{Bool, true, false, not}
 use mathlib.Core.Option.{none, some}
-use borrow.Author.Tests.{not-true, not-false}
-use Rattle.cedar.specs.Types.{present}
 use Rattle.cedar.specs.Limits.{standard}
 use Rattle.cedar.specs.Whole.{wholeSchema}
 use Rattle.cedar.specs.Laws.Tests.{none-of}
-use Rattle.forms.specs.Laws.Sure.{sure-present, sure-yes}
+use Rattle.forms.specs.Laws.Sure.{sure-yes}
 use Rattle.schemas.specs.SchemaBytes.{decS, checked}
 use Rattle.schemas.specs.Laws.SchemaTwin.{whole-schema-twin}
 use Rattle.schemas.specs.Laws.Checks.{checked-broken, checked-whole}
 use Rattle.schemas.specs.declared.sections.Sections.{Sections}
 use Rattle.schemas.specs.declared.whole.Checked.{Checked}
 use Rattle.schemas.specs.declared.whole.Checked.the-variants.{Whole, Broken}
-
--- The answer of `whole_schema`.
-module _ (b : List ℕ) (r : Bool) (q : r ≡ present (wholeSchema standard b)) where
-  pub schema-missing : not r ≡ true → wholeSchema standard b ≡ none
-  schema-missing h = none-of (wholeSchema standard b) (sym q ∙ not-true r h)
-
-  pub schema-there : not r ≡ false → wholeSchema standard b ≡ some (decS standard b)
-  schema-there h = sure-yes (whole-schema-twin standard b) (sym (sure-present (whole-schema-twin standard b)) ∙ sym q ∙ not-false r h)
 
 -- The answer of `check_schema`.
 module _ (b : List ℕ) (y : Checked) (q : y ≡ checked b) where

@@ -1,3 +1,4 @@
+-- `validator::all_attributes::named` meets its contract. Assumes nothing.
 use mathlib.Core.Path.{refl}
 use native.Mathlib.Omega.{arith}
 use lib.ListN.{length}
@@ -9,23 +10,26 @@ use borrow.Author.Needs.{needs}
 use Rattle.validator.proofs.all_attributes.named.Statement.{statement}
 use Rattle.validator.proofs.all_attributes.named.Tie as tie
 
-check-schema-requires : tie.Need-check-schema-requires
-check-schema-requires c κs = search needs
-
-enum-known-at : tie.Need-enum-known-at
-enum-known-at c = search needs
+enum-known-check : tie.Need-enum-known-check
+enum-known-check c = search needs
 
 enum-told : tie.Need-enum-told
 enum-told c = search needs
 
 returns : tie.Need-returns
-returns c = names-no-schema ((c .before .before .before .before .before .before .before) .args .schema .now) ((c .before .before .before .before .before .before .before) .args .t .now) ((c .before .before .before .before .before .before .before) .args .out .now) (length ((c .before .before .before .before .before .before .before) .args .work .now)) (checked-missing ((c .before .before .before .before .before .before .before) .args .schema .now) ((c .before .before) .check-schema .result) ((c .before .before) .check-schema .ensures) (c .enum-told .given .1))
+returns c =
+    let start = c .before .before .before .before .before .before in
+    names-no-schema (start .args .schema .now) (start .args .t .now) (start .args .out .now) (length (start .args .work .now)) (checked-missing (start .args .schema .now) (start .args .check) (start .pre) (c .enum-told .given .1))
 
 whole-type-requires : tie.Need-whole-type-requires
 whole-type-requires c κs = search needs
 
 returns-2 : tie.Need-returns-2
-returns-2 c = names-no-type ((c .before .before .before .before .before .before .before .before .before .before) .args .schema .now) ((c .before .before .before .before .before .before .before .before .before .before) .args .t .now) ((c .before .before .before .before .before .before .before .before .before .before) .args .out .now) (length ((c .before .before .before .before .before .before .before .before .before .before) .args .work .now)) _ (checked-there ((c .before .before .before .before .before .before .before .before .before .before) .args .schema .now) ((c .before .before .before .before .before) .check-schema .result) ((c .before .before .before .before .before) .check-schema .ensures) ((c .before .before .before) .at .given .0 .0) ((c .before .before .before) .at .given .1)) (type-missing ((c .before .before .before .before .before .before .before .before .before .before) .args .t .now) ((c .before) .whole-type .result) ((c .before) .whole-type .ensures) (c .if1 .taken))
+returns-2 c =
+    let start = c .before .before .before .before .before .before .before .before .before in
+    let check = c .before .before .before in
+    let at-whole-type = c .before in
+    names-no-type (start .args .schema .now) (start .args .t .now) (start .args .out .now) (length (start .args .work .now)) _ (checked-there (start .args .schema .now) (start .args .check) (start .pre) (check .check .given .0 .0) (check .check .given .1)) (type-missing (start .args .t .now) (at-whole-type .whole-type .result) (at-whole-type .whole-type .ensures) (c .if1 .taken))
 
 slice-aggregate-all-names : tie.Need-slice-aggregate-all-names
 slice-aggregate-all-names c = search needs
@@ -34,7 +38,12 @@ slice-aggregate-all-names-2 : tie.Need-slice-aggregate-all-names-2
 slice-aggregate-all-names-2 c = search needs
 
 all-names-requires : tie.Need-all-names-requires
-all-names-requires c κs = (kept ((c .before .before .before .before .before .before .before .before .before .before .before .before .before) .args .schema .now) ((c .before .before .before .before .before .before .before .before) .check-schema .result) ((c .before .before .before .before .before .before .before .before) .check-schema .ensures) ((c .before .before .before .before .before .before) .at .given .0 .0) ((c .before .before .before .before .before .before) .at .given .1), (record { good = type-whole ((c .before .before .before .before .before .before .before .before .before .before .before .before .before) .args .t .now) ((c .before .before .before .before) .whole-type .result) ((c .before .before .before .before) .whole-type .ensures) ((c .before .before .before) .if1 .left); few = type-few ((c .before .before .before .before .before .before .before .before .before .before .before .before .before) .args .t .now) ((c .before .before .before .before) .whole-type .result) ((c .before .before .before .before) .whole-type .ensures) ((c .before .before .before) .if1 .left); room = refl }, refl))
+all-names-requires c κs =
+    let start = c .before .before .before .before .before .before .before .before .before .before .before .before in
+    let check = c .before .before .before .before .before .before in
+    let at-whole-type = c .before .before .before .before in
+    let else1 = c .before .before .before in
+    (kept (start .args .schema .now) (start .args .check) (start .pre) (check .check .given .0 .0) (check .check .given .1), (record { good = type-whole (start .args .t .now) (at-whole-type .whole-type .result) (at-whole-type .whole-type .ensures) (else1 .if1 .left); few = type-few (start .args .t .now) (at-whole-type .whole-type .result) (at-whole-type .whole-type .ensures) (else1 .if1 .left); room = refl }, refl))
 
 enum-known-n : tie.Need-enum-known-n
 enum-known-n c = search needs
@@ -46,7 +55,13 @@ same-length : tie.Need-same-length
 same-length c = search needs
 
 returns-3 : tie.Need-returns-3
-returns-3 c = names-too-long ((c .before .before .before .before .before .before .before .before .before .before .before .before .before .before .before .before .before .before .before .before) .args .schema .now) ((c .before .before .before .before .before .before .before .before .before .before .before .before .before .before .before .before .before .before .before .before) .args .t .now) ((c .before .before .before .before .before .before .before .before .before .before .before .before .before .before .before .before .before .before .before .before) .args .out .now) (length ((c .before .before .before .before .before .before .before .before .before .before .before .before .before .before .before .before .before .before .before .before) .args .work .now)) _ (checked-there ((c .before .before .before .before .before .before .before .before .before .before .before .before .before .before .before .before .before .before .before .before) .args .schema .now) ((c .before .before .before .before .before .before .before .before .before .before .before .before .before .before .before) .check-schema .result) ((c .before .before .before .before .before .before .before .before .before .before .before .before .before .before .before) .check-schema .ensures) ((c .before .before .before .before .before .before .before .before .before .before .before .before .before) .at .given .0 .0) ((c .before .before .before .before .before .before .before .before .before .before .before .before .before) .at .given .1)) _ (type-there ((c .before .before .before .before .before .before .before .before .before .before .before .before .before .before .before .before .before .before .before .before) .args .t .now) ((c .before .before .before .before .before .before .before .before .before .before .before) .whole-type .result) ((c .before .before .before .before .before .before .before .before .before .before .before) .whole-type .ensures) ((c .before .before .before .before .before .before .before .before .before .before) .if1 .left)) _ ((c .before .before .before .before .before .before) .all-names .last .1 .1 .1 .1 .1 .0) ((c .before .before .before .before .before .before) .all-names .result) ((c .before .before .before .before .before .before) .all-names .ensures) (c .enum-told2 .given .1)
+returns-3 c =
+    let start = c .before .before .before .before .before .before .before .before .before .before .before .before .before .before .before .before .before .before .before in
+    let check = c .before .before .before .before .before .before .before .before .before .before .before .before .before in
+    let at-whole-type = c .before .before .before .before .before .before .before .before .before .before .before in
+    let else1 = c .before .before .before .before .before .before .before .before .before .before in
+    let all-names = c .before .before .before .before .before .before in
+    names-too-long (start .args .schema .now) (start .args .t .now) (start .args .out .now) (length (start .args .work .now)) _ (checked-there (start .args .schema .now) (start .args .check) (start .pre) (check .check .given .0 .0) (check .check .given .1)) _ (type-there (start .args .t .now) (at-whole-type .whole-type .result) (at-whole-type .whole-type .ensures) (else1 .if1 .left)) _ (all-names .all-names .last .1 .1 .1 .1 .1 .0) (all-names .all-names .result) (all-names .all-names .ensures) (c .enum-told2 .given .1)
 
 answer-fits-requires : tie.Need-answer-fits-requires
 answer-fits-requires c κs = search needs
@@ -55,7 +70,15 @@ same-length-2 : tie.Need-same-length-2
 same-length-2 c = search needs
 
 returns-4 : tie.Need-returns-4
-returns-4 c = names-over ((c .before .before .before .before .before .before .before .before .before .before .before .before .before .before .before .before .before .before .before .before .before .before .before) .args .schema .now) ((c .before .before .before .before .before .before .before .before .before .before .before .before .before .before .before .before .before .before .before .before .before .before .before) .args .t .now) ((c .before .before .before .before .before .before .before .before .before .before .before .before .before .before .before .before .before .before .before .before .before .before .before) .args .out .now) (length ((c .before .before .before .before .before .before .before .before .before .before .before .before .before .before .before .before .before .before .before .before .before .before .before) .args .work .now)) _ (checked-there ((c .before .before .before .before .before .before .before .before .before .before .before .before .before .before .before .before .before .before .before .before .before .before .before) .args .schema .now) ((c .before .before .before .before .before .before .before .before .before .before .before .before .before .before .before .before .before .before) .check-schema .result) ((c .before .before .before .before .before .before .before .before .before .before .before .before .before .before .before .before .before .before) .check-schema .ensures) ((c .before .before .before .before .before .before .before .before .before .before .before .before .before .before .before .before) .at .given .0 .0) ((c .before .before .before .before .before .before .before .before .before .before .before .before .before .before .before .before) .at .given .1)) _ (type-there ((c .before .before .before .before .before .before .before .before .before .before .before .before .before .before .before .before .before .before .before .before .before .before .before) .args .t .now) ((c .before .before .before .before .before .before .before .before .before .before .before .before .before .before) .whole-type .result) ((c .before .before .before .before .before .before .before .before .before .before .before .before .before .before) .whole-type .ensures) ((c .before .before .before .before .before .before .before .before .before .before .before .before .before) .if1 .left)) _ ((c .before .before .before .before .before .before .before .before .before) .all-names .last .1 .1 .1 .1 .1 .0) ((c .before .before .before .before .before .before .before .before .before) .all-names .result) ((c .before .before .before .before .before .before .before .before .before) .all-names .ensures) ((c .before .before .before) .n .given .0 .0) ((c .before .before .before) .n .given .1) ((c .before) .answer-fits .result) ((c .before) .answer-fits .ensures) (c .if2 .taken)
+returns-4 c =
+    let start = c .before .before .before .before .before .before .before .before .before .before .before .before .before .before .before .before .before .before .before .before .before .before in
+    let check = c .before .before .before .before .before .before .before .before .before .before .before .before .before .before .before .before in
+    let at-whole-type = c .before .before .before .before .before .before .before .before .before .before .before .before .before .before in
+    let else1 = c .before .before .before .before .before .before .before .before .before .before .before .before .before in
+    let all-names = c .before .before .before .before .before .before .before .before .before in
+    let n = c .before .before .before in
+    let answer-fits = c .before in
+    names-over (start .args .schema .now) (start .args .t .now) (start .args .out .now) (length (start .args .work .now)) _ (checked-there (start .args .schema .now) (start .args .check) (start .pre) (check .check .given .0 .0) (check .check .given .1)) _ (type-there (start .args .t .now) (at-whole-type .whole-type .result) (at-whole-type .whole-type .ensures) (else1 .if1 .left)) _ (all-names .all-names .last .1 .1 .1 .1 .1 .0) (all-names .all-names .result) (all-names .all-names .ensures) (n .n .given .0 .0) (n .n .given .1) (answer-fits .answer-fits .result) (answer-fits .answer-fits .ensures) (c .if2 .taken)
 
 sub-copy : tie.Need-sub-copy
 sub-copy c = search needs
@@ -64,10 +87,28 @@ part-copy-start : tie.Need-part-copy-start
 part-copy-start c = search needs
 
 part-copy-end : tie.Need-part-copy-end
-part-copy-end c = omega (arith, names-small ((c .before .before .before .before .before .before .before .before .before .before .before .before .before .before .before .before .before .before .before .before .before .before .before .before) .args .schema .now) ((c .before .before .before .before .before .before .before .before .before .before .before .before .before .before .before .before .before .before .before .before .before .before .before .before) .args .t .now) ((c .before .before .before .before .before .before .before .before .before .before .before .before .before .before .before .before .before .before .before .before .before .before .before .before) .args .out .now) (length ((c .before .before .before .before .before .before .before .before .before .before .before .before .before .before .before .before .before .before .before .before .before .before .before .before) .args .work .now)) _ (checked-there ((c .before .before .before .before .before .before .before .before .before .before .before .before .before .before .before .before .before .before .before .before .before .before .before .before) .args .schema .now) ((c .before .before .before .before .before .before .before .before .before .before .before .before .before .before .before .before .before .before .before) .check-schema .result) ((c .before .before .before .before .before .before .before .before .before .before .before .before .before .before .before .before .before .before .before) .check-schema .ensures) ((c .before .before .before .before .before .before .before .before .before .before .before .before .before .before .before .before .before) .at .given .0 .0) ((c .before .before .before .before .before .before .before .before .before .before .before .before .before .before .before .before .before) .at .given .1)) _ (type-there ((c .before .before .before .before .before .before .before .before .before .before .before .before .before .before .before .before .before .before .before .before .before .before .before .before) .args .t .now) ((c .before .before .before .before .before .before .before .before .before .before .before .before .before .before .before) .whole-type .result) ((c .before .before .before .before .before .before .before .before .before .before .before .before .before .before .before) .whole-type .ensures) ((c .before .before .before .before .before .before .before .before .before .before .before .before .before .before) .if1 .left)) _ ((c .before .before .before .before .before .before .before .before .before .before) .all-names .last .1 .1 .1 .1 .1 .0) ((c .before .before .before .before .before .before .before .before .before .before) .all-names .result) ((c .before .before .before .before .before .before .before .before .before .before) .all-names .ensures) ((c .before .before .before .before) .n .given .0 .0) ((c .before .before .before .before) .n .given .1) ((c .before .before) .answer-fits .result) ((c .before .before) .answer-fits .ensures) ((c .before) .if2 .left), (c .before .before .before .before .before .before .before .before .before .before) .all-names .kept .1 .1 .1 .1 .1 .0)
+part-copy-end c =
+    let start = c .before .before .before .before .before .before .before .before .before .before .before .before .before .before .before .before .before .before .before .before .before .before .before in
+    let check = c .before .before .before .before .before .before .before .before .before .before .before .before .before .before .before .before .before in
+    let at-whole-type = c .before .before .before .before .before .before .before .before .before .before .before .before .before .before .before in
+    let else1 = c .before .before .before .before .before .before .before .before .before .before .before .before .before .before in
+    let all-names = c .before .before .before .before .before .before .before .before .before .before in
+    let n = c .before .before .before .before in
+    let answer-fits = c .before .before in
+    let else2 = c .before in
+    omega (arith, names-small (start .args .schema .now) (start .args .t .now) (start .args .out .now) (length (start .args .work .now)) _ (checked-there (start .args .schema .now) (start .args .check) (start .pre) (check .check .given .0 .0) (check .check .given .1)) _ (type-there (start .args .t .now) (at-whole-type .whole-type .result) (at-whole-type .whole-type .ensures) (else1 .if1 .left)) _ (all-names .all-names .last .1 .1 .1 .1 .1 .0) (all-names .all-names .result) (all-names .all-names .ensures) (n .n .given .0 .0) (n .n .given .1) (answer-fits .answer-fits .result) (answer-fits .answer-fits .ensures) (else2 .if2 .left), all-names .all-names .kept .1 .1 .1 .1 .1 .0)
 
 copy-requires : tie.Need-copy-requires
-copy-requires c κs = names-fit ((c .before .before .before .before .before .before .before .before .before .before .before .before .before .before .before .before .before .before .before .before .before .before .before .before .before .before) .args .schema .now) ((c .before .before .before .before .before .before .before .before .before .before .before .before .before .before .before .before .before .before .before .before .before .before .before .before .before .before) .args .t .now) ((c .before .before .before .before .before .before .before .before .before .before .before .before .before .before .before .before .before .before .before .before .before .before .before .before .before .before) .args .out .now) (length ((c .before .before .before .before .before .before .before .before .before .before .before .before .before .before .before .before .before .before .before .before .before .before .before .before .before .before) .args .work .now)) _ (checked-there ((c .before .before .before .before .before .before .before .before .before .before .before .before .before .before .before .before .before .before .before .before .before .before .before .before .before .before) .args .schema .now) ((c .before .before .before .before .before .before .before .before .before .before .before .before .before .before .before .before .before .before .before .before .before) .check-schema .result) ((c .before .before .before .before .before .before .before .before .before .before .before .before .before .before .before .before .before .before .before .before .before) .check-schema .ensures) ((c .before .before .before .before .before .before .before .before .before .before .before .before .before .before .before .before .before .before .before) .at .given .0 .0) ((c .before .before .before .before .before .before .before .before .before .before .before .before .before .before .before .before .before .before .before) .at .given .1)) _ (type-there ((c .before .before .before .before .before .before .before .before .before .before .before .before .before .before .before .before .before .before .before .before .before .before .before .before .before .before) .args .t .now) ((c .before .before .before .before .before .before .before .before .before .before .before .before .before .before .before .before .before) .whole-type .result) ((c .before .before .before .before .before .before .before .before .before .before .before .before .before .before .before .before .before) .whole-type .ensures) ((c .before .before .before .before .before .before .before .before .before .before .before .before .before .before .before .before) .if1 .left)) _ ((c .before .before .before .before .before .before .before .before .before .before .before .before) .all-names .last .1 .1 .1 .1 .1 .0) ((c .before .before .before .before .before .before .before .before .before .before .before .before) .all-names .result) ((c .before .before .before .before .before .before .before .before .before .before .before .before) .all-names .ensures) ((c .before .before .before .before .before .before) .n .given .0 .0) ((c .before .before .before .before .before .before) .n .given .1) ((c .before .before .before .before) .answer-fits .result) ((c .before .before .before .before) .answer-fits .ensures) ((c .before .before .before) .if2 .left)
+copy-requires c κs =
+    let start = c .before .before .before .before .before .before .before .before .before .before .before .before .before .before .before .before .before .before .before .before .before .before .before .before .before in
+    let check = c .before .before .before .before .before .before .before .before .before .before .before .before .before .before .before .before .before .before .before in
+    let at-whole-type = c .before .before .before .before .before .before .before .before .before .before .before .before .before .before .before .before .before in
+    let else1 = c .before .before .before .before .before .before .before .before .before .before .before .before .before .before .before .before in
+    let all-names = c .before .before .before .before .before .before .before .before .before .before .before .before in
+    let n = c .before .before .before .before .before .before in
+    let answer-fits = c .before .before .before .before in
+    let else2 = c .before .before .before in
+    names-fit (start .args .schema .now) (start .args .t .now) (start .args .out .now) (length (start .args .work .now)) _ (checked-there (start .args .schema .now) (start .args .check) (start .pre) (check .check .given .0 .0) (check .check .given .1)) _ (type-there (start .args .t .now) (at-whole-type .whole-type .result) (at-whole-type .whole-type .ensures) (else1 .if1 .left)) _ (all-names .all-names .last .1 .1 .1 .1 .1 .0) (all-names .all-names .result) (all-names .all-names .ensures) (n .n .given .0 .0) (n .n .given .1) (answer-fits .answer-fits .result) (answer-fits .answer-fits .ensures) (else2 .if2 .left)
 
 same-length-3 : tie.Need-same-length-3
 same-length-3 c = search needs
@@ -76,14 +117,23 @@ same-length-4 : tie.Need-same-length-4
 same-length-4 c = search needs
 
 returns-5 : tie.Need-returns-5
-returns-5 c = names-write ((c .before .before .before .before .before .before .before .before .before .before .before .before .before .before .before .before .before .before .before .before .before .before .before .before .before .before .before .before .before) .args .schema .now) ((c .before .before .before .before .before .before .before .before .before .before .before .before .before .before .before .before .before .before .before .before .before .before .before .before .before .before .before .before .before) .args .t .now) ((c .before .before .before .before .before .before .before .before .before .before .before .before .before .before .before .before .before .before .before .before .before .before .before .before .before .before .before .before .before) .args .out .now) (length ((c .before .before .before .before .before .before .before .before .before .before .before .before .before .before .before .before .before .before .before .before .before .before .before .before .before .before .before .before .before) .args .work .now)) _ (checked-there ((c .before .before .before .before .before .before .before .before .before .before .before .before .before .before .before .before .before .before .before .before .before .before .before .before .before .before .before .before .before) .args .schema .now) ((c .before .before .before .before .before .before .before .before .before .before .before .before .before .before .before .before .before .before .before .before .before .before .before .before) .check-schema .result) ((c .before .before .before .before .before .before .before .before .before .before .before .before .before .before .before .before .before .before .before .before .before .before .before .before) .check-schema .ensures) ((c .before .before .before .before .before .before .before .before .before .before .before .before .before .before .before .before .before .before .before .before .before .before) .at .given .0 .0) ((c .before .before .before .before .before .before .before .before .before .before .before .before .before .before .before .before .before .before .before .before .before .before) .at .given .1)) _ (type-there ((c .before .before .before .before .before .before .before .before .before .before .before .before .before .before .before .before .before .before .before .before .before .before .before .before .before .before .before .before .before) .args .t .now) ((c .before .before .before .before .before .before .before .before .before .before .before .before .before .before .before .before .before .before .before .before) .whole-type .result) ((c .before .before .before .before .before .before .before .before .before .before .before .before .before .before .before .before .before .before .before .before) .whole-type .ensures) ((c .before .before .before .before .before .before .before .before .before .before .before .before .before .before .before .before .before .before .before) .if1 .left)) _ ((c .before .before .before .before .before .before .before .before .before .before .before .before .before .before .before) .all-names .last .1 .1 .1 .1 .1 .0) ((c .before .before .before .before .before .before .before .before .before .before .before .before .before .before .before) .all-names .result) ((c .before .before .before .before .before .before .before .before .before .before .before .before .before .before .before) .all-names .ensures) ((c .before .before .before .before .before .before .before .before .before) .n .given .0 .0) ((c .before .before .before .before .before .before .before .before .before) .n .given .1) ((c .before .before .before .before .before .before .before) .answer-fits .result) ((c .before .before .before .before .before .before .before) .answer-fits .ensures) ((c .before .before .before .before .before .before) .if2 .left) ((c .before .before) .copy .last .1 .0) ((c .before .before) .copy .ensures)
+returns-5 c =
+    let start = c .before .before .before .before .before .before .before .before .before .before .before .before .before .before .before .before .before .before .before .before .before .before .before .before .before .before .before .before in
+    let check = c .before .before .before .before .before .before .before .before .before .before .before .before .before .before .before .before .before .before .before .before .before .before in
+    let at-whole-type = c .before .before .before .before .before .before .before .before .before .before .before .before .before .before .before .before .before .before .before .before in
+    let else1 = c .before .before .before .before .before .before .before .before .before .before .before .before .before .before .before .before .before .before .before in
+    let all-names = c .before .before .before .before .before .before .before .before .before .before .before .before .before .before .before in
+    let n = c .before .before .before .before .before .before .before .before .before in
+    let answer-fits = c .before .before .before .before .before .before .before in
+    let else2 = c .before .before .before .before .before .before in
+    let copy = c .before .before in
+    names-write (start .args .schema .now) (start .args .t .now) (start .args .out .now) (length (start .args .work .now)) _ (checked-there (start .args .schema .now) (start .args .check) (start .pre) (check .check .given .0 .0) (check .check .given .1)) _ (type-there (start .args .t .now) (at-whole-type .whole-type .result) (at-whole-type .whole-type .ensures) (else1 .if1 .left)) _ (all-names .all-names .last .1 .1 .1 .1 .1 .0) (all-names .all-names .result) (all-names .all-names .ensures) (n .n .given .0 .0) (n .n .given .1) (answer-fits .answer-fits .result) (answer-fits .answer-fits .ensures) (else2 .if2 .left) (copy .copy .last .1 .0) (copy .copy .ensures)
 
 pub named-spec : {M : Type 1} → statement M
 named-spec =
     tie.close
     (tie.spec
-    check-schema-requires
-    enum-known-at
+    enum-known-check
     enum-told
     returns
     whole-type-requires

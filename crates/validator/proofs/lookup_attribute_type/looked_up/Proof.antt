@@ -1,3 +1,4 @@
+-- `validator::lookup_attribute_type::looked_up` meets its contract. Assumes nothing.
 use mathlib.Core.Path.{refl}
 use Rattle.validator.specs.Laws.Lookup.{small, lookup-no-schema, lookup-no-type, lookup-nothing, lookup-too-long, lookup-over, lookup-room, lookup-writes}
 use native.Mathlib.Omega.{arith}
@@ -10,29 +11,37 @@ use borrow.Author.Needs.{needs}
 use Rattle.validator.proofs.lookup_attribute_type.looked_up.Statement.{statement}
 use Rattle.validator.proofs.lookup_attribute_type.looked_up.Tie as tie
 
-check-schema-requires : tie.Need-check-schema-requires
-check-schema-requires c κs = search needs
-
-enum-known-at : tie.Need-enum-known-at
-enum-known-at c = search needs
+enum-known-check : tie.Need-enum-known-check
+enum-known-check c = search needs
 
 enum-told : tie.Need-enum-told
 enum-told c = search needs
 
 returns : tie.Need-returns
-returns c = lookup-no-schema ((c .before .before .before .before .before .before .before) .args .schema .now) ((c .before .before .before .before .before .before .before) .args .attr) ((c .before .before .before .before .before .before .before) .args .t .now) ((c .before .before .before .before .before .before .before) .args .out .now) (length ((c .before .before .before .before .before .before .before) .args .work .now)) (checked-missing ((c .before .before .before .before .before .before .before) .args .schema .now) ((c .before .before) .check-schema .result) ((c .before .before) .check-schema .ensures) (c .enum-told .given .1))
+returns c =
+    let start = c .before .before .before .before .before .before in
+    lookup-no-schema (start .args .schema .now) (start .args .attr) (start .args .t .now) (start .args .out .now) (length (start .args .work .now)) (checked-missing (start .args .schema .now) (start .args .check) (start .pre) (c .enum-told .given .1))
 
 whole-type-requires : tie.Need-whole-type-requires
 whole-type-requires c κs = search needs
 
 returns-2 : tie.Need-returns-2
-returns-2 c = lookup-no-type ((c .before .before .before .before .before .before .before .before .before .before) .args .schema .now) ((c .before .before .before .before .before .before .before .before .before .before) .args .attr) ((c .before .before .before .before .before .before .before .before .before .before) .args .t .now) ((c .before .before .before .before .before .before .before .before .before .before) .args .out .now) (length ((c .before .before .before .before .before .before .before .before .before .before) .args .work .now)) _ (checked-there ((c .before .before .before .before .before .before .before .before .before .before) .args .schema .now) ((c .before .before .before .before .before) .check-schema .result) ((c .before .before .before .before .before) .check-schema .ensures) ((c .before .before .before) .at .given .0 .0) ((c .before .before .before) .at .given .1)) (type-missing ((c .before .before .before .before .before .before .before .before .before .before) .args .t .now) ((c .before) .whole-type .result) ((c .before) .whole-type .ensures) (c .if1 .taken))
+returns-2 c =
+    let start = c .before .before .before .before .before .before .before .before .before in
+    let check = c .before .before .before in
+    let at-whole-type = c .before in
+    lookup-no-type (start .args .schema .now) (start .args .attr) (start .args .t .now) (start .args .out .now) (length (start .args .work .now)) _ (checked-there (start .args .schema .now) (start .args .check) (start .pre) (check .check .given .0 .0) (check .check .given .1)) (type-missing (start .args .t .now) (at-whole-type .whole-type .result) (at-whole-type .whole-type .ensures) (c .if1 .taken))
 
 slice-aggregate-look-up : tie.Need-slice-aggregate-look-up
 slice-aggregate-look-up c = search needs
 
 look-up-requires : tie.Need-look-up-requires
-look-up-requires c κs = (kept ((c .before .before .before .before .before .before .before .before .before .before .before .before) .args .schema .now) ((c .before .before .before .before .before .before .before) .check-schema .result) ((c .before .before .before .before .before .before .before) .check-schema .ensures) ((c .before .before .before .before .before) .at .given .0 .0) ((c .before .before .before .before .before) .at .given .1), record { good = type-whole ((c .before .before .before .before .before .before .before .before .before .before .before .before) .args .t .now) ((c .before .before .before) .whole-type .result) ((c .before .before .before) .whole-type .ensures) ((c .before .before) .if1 .left); few = type-few ((c .before .before .before .before .before .before .before .before .before .before .before .before) .args .t .now) ((c .before .before .before) .whole-type .result) ((c .before .before .before) .whole-type .ensures) ((c .before .before) .if1 .left); room = refl })
+look-up-requires c κs =
+    let start = c .before .before .before .before .before .before .before .before .before .before .before in
+    let check = c .before .before .before .before .before in
+    let at-whole-type = c .before .before .before in
+    let else1 = c .before .before in
+    (kept (start .args .schema .now) (start .args .check) (start .pre) (check .check .given .0 .0) (check .check .given .1), record { good = type-whole (start .args .t .now) (at-whole-type .whole-type .result) (at-whole-type .whole-type .ensures) (else1 .if1 .left); few = type-few (start .args .t .now) (at-whole-type .whole-type .result) (at-whole-type .whole-type .ensures) (else1 .if1 .left); room = refl })
 
 enum-known-required : tie.Need-enum-known-required
 enum-known-required c = search needs
@@ -44,7 +53,15 @@ same-length : tie.Need-same-length
 same-length c = search needs
 
 returns-3 : tie.Need-returns-3
-returns-3 c = lookup-over ((c .before .before .before .before .before .before .before .before .before .before .before .before .before .before .before .before .before .before .before .before .before) .args .schema .now) ((c .before .before .before .before .before .before .before .before .before .before .before .before .before .before .before .before .before .before .before .before .before) .args .attr) ((c .before .before .before .before .before .before .before .before .before .before .before .before .before .before .before .before .before .before .before .before .before) .args .t .now) ((c .before .before .before .before .before .before .before .before .before .before .before .before .before .before .before .before .before .before .before .before .before) .args .out .now) (length ((c .before .before .before .before .before .before .before .before .before .before .before .before .before .before .before .before .before .before .before .before .before) .args .work .now)) _ (checked-there ((c .before .before .before .before .before .before .before .before .before .before .before .before .before .before .before .before .before .before .before .before .before) .args .schema .now) ((c .before .before .before .before .before .before .before .before .before .before .before .before .before .before .before .before) .check-schema .result) ((c .before .before .before .before .before .before .before .before .before .before .before .before .before .before .before .before) .check-schema .ensures) ((c .before .before .before .before .before .before .before .before .before .before .before .before .before .before) .at .given .0 .0) ((c .before .before .before .before .before .before .before .before .before .before .before .before .before .before) .at .given .1)) _ (type-there ((c .before .before .before .before .before .before .before .before .before .before .before .before .before .before .before .before .before .before .before .before .before) .args .t .now) ((c .before .before .before .before .before .before .before .before .before .before .before .before) .whole-type .result) ((c .before .before .before .before .before .before .before .before .before .before .before .before) .whole-type .ensures) ((c .before .before .before .before .before .before .before .before .before .before .before) .if1 .left)) ((c .before .before .before .before .before .before .before .before) .look-up .last .1 .1 .1 .1 .0) ((c .before .before .before .before .before .before .before .before) .look-up .result) ((c .before .before .before .before .before .before .before .before) .look-up .ensures) ((c .before .before .before) .required .given .0 .0) ((c .before .before .before) .required .given .0 .1 .0) ((c .before .before .before) .required .given .1) ((c .before .before .before .before .before .before .before .before) .look-up .kept .1 .1 .1 .1 .0) ((c .before) .answer-fits .result) ((c .before) .answer-fits .ensures) (c .if2 .taken)
+returns-3 c =
+    let start = c .before .before .before .before .before .before .before .before .before .before .before .before .before .before .before .before .before .before .before .before in
+    let check = c .before .before .before .before .before .before .before .before .before .before .before .before .before .before in
+    let at-whole-type = c .before .before .before .before .before .before .before .before .before .before .before .before in
+    let else1 = c .before .before .before .before .before .before .before .before .before .before .before in
+    let look-up = c .before .before .before .before .before .before .before .before in
+    let required = c .before .before .before in
+    let answer-fits = c .before in
+    lookup-over (start .args .schema .now) (start .args .attr) (start .args .t .now) (start .args .out .now) (length (start .args .work .now)) _ (checked-there (start .args .schema .now) (start .args .check) (start .pre) (check .check .given .0 .0) (check .check .given .1)) _ (type-there (start .args .t .now) (at-whole-type .whole-type .result) (at-whole-type .whole-type .ensures) (else1 .if1 .left)) (look-up .look-up .last .1 .1 .1 .1 .0) (look-up .look-up .result) (look-up .look-up .ensures) (required .required .given .0 .0) (required .required .given .0 .1 .0) (required .required .given .1) (look-up .look-up .kept .1 .1 .1 .1 .0) (answer-fits .answer-fits .result) (answer-fits .answer-fits .ensures) (c .if2 .taken)
 
 sub-copy : tie.Need-sub-copy
 sub-copy c = search needs
@@ -53,10 +70,26 @@ part-copy-start : tie.Need-part-copy-start
 part-copy-start c = search needs
 
 part-copy-end : tie.Need-part-copy-end
-part-copy-end c = omega (arith, small ((c .before .before .before .before .before .before .before .before .before .before .before .before .before .before .before .before .before .before .before .before .before .before) .args .schema .now) ((c .before .before .before .before .before .before .before .before .before .before .before .before .before .before .before .before .before .before .before .before .before .before) .args .attr) ((c .before .before .before .before .before .before .before .before .before .before .before .before .before .before .before .before .before .before .before .before .before .before) .args .t .now) ((c .before .before .before .before .before .before .before .before .before .before .before .before .before .before .before .before .before .before .before .before .before .before) .args .out .now) (length ((c .before .before .before .before .before .before .before .before .before .before .before .before .before .before .before .before .before .before .before .before .before .before) .args .work .now)) _ (checked-there ((c .before .before .before .before .before .before .before .before .before .before .before .before .before .before .before .before .before .before .before .before .before .before) .args .schema .now) ((c .before .before .before .before .before .before .before .before .before .before .before .before .before .before .before .before .before) .check-schema .result) ((c .before .before .before .before .before .before .before .before .before .before .before .before .before .before .before .before .before) .check-schema .ensures) ((c .before .before .before .before .before .before .before .before .before .before .before .before .before .before .before) .at .given .0 .0) ((c .before .before .before .before .before .before .before .before .before .before .before .before .before .before .before) .at .given .1)) _ (type-there ((c .before .before .before .before .before .before .before .before .before .before .before .before .before .before .before .before .before .before .before .before .before .before) .args .t .now) ((c .before .before .before .before .before .before .before .before .before .before .before .before .before) .whole-type .result) ((c .before .before .before .before .before .before .before .before .before .before .before .before .before) .whole-type .ensures) ((c .before .before .before .before .before .before .before .before .before .before .before .before) .if1 .left)) ((c .before .before .before .before .before .before .before .before .before) .look-up .last .1 .1 .1 .1 .0) ((c .before .before .before .before .before .before .before .before .before) .look-up .result) ((c .before .before .before .before .before .before .before .before .before) .look-up .ensures) ((c .before .before .before .before) .required .given .0 .0) ((c .before .before .before .before) .required .given .0 .1 .0) ((c .before .before .before .before) .required .given .1) ((c .before .before .before .before .before .before .before .before .before) .look-up .kept .1 .1 .1 .1 .0), (c .before .before .before .before .before .before .before .before .before) .look-up .kept .1 .1 .1 .1 .0)
+part-copy-end c =
+    let start = c .before .before .before .before .before .before .before .before .before .before .before .before .before .before .before .before .before .before .before .before .before in
+    let check = c .before .before .before .before .before .before .before .before .before .before .before .before .before .before .before in
+    let at-whole-type = c .before .before .before .before .before .before .before .before .before .before .before .before .before in
+    let else1 = c .before .before .before .before .before .before .before .before .before .before .before .before in
+    let look-up = c .before .before .before .before .before .before .before .before .before in
+    let required = c .before .before .before .before in
+    omega (arith, small (start .args .schema .now) (start .args .attr) (start .args .t .now) (start .args .out .now) (length (start .args .work .now)) _ (checked-there (start .args .schema .now) (start .args .check) (start .pre) (check .check .given .0 .0) (check .check .given .1)) _ (type-there (start .args .t .now) (at-whole-type .whole-type .result) (at-whole-type .whole-type .ensures) (else1 .if1 .left)) (look-up .look-up .last .1 .1 .1 .1 .0) (look-up .look-up .result) (look-up .look-up .ensures) (required .required .given .0 .0) (required .required .given .0 .1 .0) (required .required .given .1) (look-up .look-up .kept .1 .1 .1 .1 .0), look-up .look-up .kept .1 .1 .1 .1 .0)
 
 copy-requires : tie.Need-copy-requires
-copy-requires c κs = lookup-room ((c .before .before .before .before .before .before .before .before .before .before .before .before .before .before .before .before .before .before .before .before .before .before .before .before) .args .schema .now) ((c .before .before .before .before .before .before .before .before .before .before .before .before .before .before .before .before .before .before .before .before .before .before .before .before) .args .attr) ((c .before .before .before .before .before .before .before .before .before .before .before .before .before .before .before .before .before .before .before .before .before .before .before .before) .args .t .now) ((c .before .before .before .before .before .before .before .before .before .before .before .before .before .before .before .before .before .before .before .before .before .before .before .before) .args .out .now) (length ((c .before .before .before .before .before .before .before .before .before .before .before .before .before .before .before .before .before .before .before .before .before .before .before .before) .args .work .now)) _ (checked-there ((c .before .before .before .before .before .before .before .before .before .before .before .before .before .before .before .before .before .before .before .before .before .before .before .before) .args .schema .now) ((c .before .before .before .before .before .before .before .before .before .before .before .before .before .before .before .before .before .before .before) .check-schema .result) ((c .before .before .before .before .before .before .before .before .before .before .before .before .before .before .before .before .before .before .before) .check-schema .ensures) ((c .before .before .before .before .before .before .before .before .before .before .before .before .before .before .before .before .before) .at .given .0 .0) ((c .before .before .before .before .before .before .before .before .before .before .before .before .before .before .before .before .before) .at .given .1)) _ (type-there ((c .before .before .before .before .before .before .before .before .before .before .before .before .before .before .before .before .before .before .before .before .before .before .before .before) .args .t .now) ((c .before .before .before .before .before .before .before .before .before .before .before .before .before .before .before) .whole-type .result) ((c .before .before .before .before .before .before .before .before .before .before .before .before .before .before .before) .whole-type .ensures) ((c .before .before .before .before .before .before .before .before .before .before .before .before .before .before) .if1 .left)) ((c .before .before .before .before .before .before .before .before .before .before .before) .look-up .last .1 .1 .1 .1 .0) ((c .before .before .before .before .before .before .before .before .before .before .before) .look-up .result) ((c .before .before .before .before .before .before .before .before .before .before .before) .look-up .ensures) ((c .before .before .before .before .before .before) .required .given .0 .0) ((c .before .before .before .before .before .before) .required .given .0 .1 .0) ((c .before .before .before .before .before .before) .required .given .1) ((c .before .before .before .before .before .before .before .before .before .before .before) .look-up .kept .1 .1 .1 .1 .0) ((c .before .before .before .before) .answer-fits .result) ((c .before .before .before .before) .answer-fits .ensures) ((c .before .before .before) .if2 .left)
+copy-requires c κs =
+    let start = c .before .before .before .before .before .before .before .before .before .before .before .before .before .before .before .before .before .before .before .before .before .before .before in
+    let check = c .before .before .before .before .before .before .before .before .before .before .before .before .before .before .before .before .before in
+    let at-whole-type = c .before .before .before .before .before .before .before .before .before .before .before .before .before .before .before in
+    let else1 = c .before .before .before .before .before .before .before .before .before .before .before .before .before .before in
+    let look-up = c .before .before .before .before .before .before .before .before .before .before .before in
+    let required = c .before .before .before .before .before .before in
+    let answer-fits = c .before .before .before .before in
+    let else2 = c .before .before .before in
+    lookup-room (start .args .schema .now) (start .args .attr) (start .args .t .now) (start .args .out .now) (length (start .args .work .now)) _ (checked-there (start .args .schema .now) (start .args .check) (start .pre) (check .check .given .0 .0) (check .check .given .1)) _ (type-there (start .args .t .now) (at-whole-type .whole-type .result) (at-whole-type .whole-type .ensures) (else1 .if1 .left)) (look-up .look-up .last .1 .1 .1 .1 .0) (look-up .look-up .result) (look-up .look-up .ensures) (required .required .given .0 .0) (required .required .given .0 .1 .0) (required .required .given .1) (look-up .look-up .kept .1 .1 .1 .1 .0) (answer-fits .answer-fits .result) (answer-fits .answer-fits .ensures) (else2 .if2 .left)
 
 enum-told-2 : tie.Need-enum-told-2
 enum-told-2 c = search needs
@@ -71,26 +104,47 @@ same-length-3 : tie.Need-same-length-3
 same-length-3 c = search needs
 
 returns-4 : tie.Need-returns-4
-returns-4 c = lookup-writes ((c .before .before .before .before .before .before .before .before .before .before .before .before .before .before .before .before .before .before .before .before .before .before .before .before .before .before .before) .args .schema .now) ((c .before .before .before .before .before .before .before .before .before .before .before .before .before .before .before .before .before .before .before .before .before .before .before .before .before .before .before) .args .attr) ((c .before .before .before .before .before .before .before .before .before .before .before .before .before .before .before .before .before .before .before .before .before .before .before .before .before .before .before) .args .t .now) ((c .before .before .before .before .before .before .before .before .before .before .before .before .before .before .before .before .before .before .before .before .before .before .before .before .before .before .before) .args .out .now) (length ((c .before .before .before .before .before .before .before .before .before .before .before .before .before .before .before .before .before .before .before .before .before .before .before .before .before .before .before) .args .work .now)) _ (checked-there ((c .before .before .before .before .before .before .before .before .before .before .before .before .before .before .before .before .before .before .before .before .before .before .before .before .before .before .before) .args .schema .now) ((c .before .before .before .before .before .before .before .before .before .before .before .before .before .before .before .before .before .before .before .before .before .before) .check-schema .result) ((c .before .before .before .before .before .before .before .before .before .before .before .before .before .before .before .before .before .before .before .before .before .before) .check-schema .ensures) ((c .before .before .before .before .before .before .before .before .before .before .before .before .before .before .before .before .before .before .before .before) .at .given .0 .0) ((c .before .before .before .before .before .before .before .before .before .before .before .before .before .before .before .before .before .before .before .before) .at .given .1)) _ (type-there ((c .before .before .before .before .before .before .before .before .before .before .before .before .before .before .before .before .before .before .before .before .before .before .before .before .before .before .before) .args .t .now) ((c .before .before .before .before .before .before .before .before .before .before .before .before .before .before .before .before .before .before) .whole-type .result) ((c .before .before .before .before .before .before .before .before .before .before .before .before .before .before .before .before .before .before) .whole-type .ensures) ((c .before .before .before .before .before .before .before .before .before .before .before .before .before .before .before .before .before) .if1 .left)) ((c .before .before .before .before .before .before .before .before .before .before .before .before .before .before) .look-up .last .1 .1 .1 .1 .0) ((c .before .before .before .before .before .before .before .before .before .before .before .before .before .before) .look-up .result) ((c .before .before .before .before .before .before .before .before .before .before .before .before .before .before) .look-up .ensures) ((c .before .before .before .before .before .before .before .before .before) .required .given .0 .0) ((c .before .before .before .before .before .before .before .before .before) .required .given .0 .1 .0) ((c .before .before .before .before .before .before .before .before .before) .required .given .1) ((c .before .before .before .before .before .before .before .before .before .before .before .before .before .before) .look-up .kept .1 .1 .1 .1 .0) ((c .before .before .before .before .before .before .before) .answer-fits .result) ((c .before .before .before .before .before .before .before) .answer-fits .ensures) ((c .before .before .before .before .before .before) .if2 .left) ((c .before .before) .copy .last .1 .0) ((c .before .before) .copy .ensures)
+returns-4 c =
+    let start = c .before .before .before .before .before .before .before .before .before .before .before .before .before .before .before .before .before .before .before .before .before .before .before .before .before .before in
+    let check = c .before .before .before .before .before .before .before .before .before .before .before .before .before .before .before .before .before .before .before .before in
+    let at-whole-type = c .before .before .before .before .before .before .before .before .before .before .before .before .before .before .before .before .before .before in
+    let else1 = c .before .before .before .before .before .before .before .before .before .before .before .before .before .before .before .before .before in
+    let look-up = c .before .before .before .before .before .before .before .before .before .before .before .before .before .before in
+    let required = c .before .before .before .before .before .before .before .before .before in
+    let answer-fits = c .before .before .before .before .before .before .before in
+    let else2 = c .before .before .before .before .before .before in
+    let copy = c .before .before in
+    lookup-writes (start .args .schema .now) (start .args .attr) (start .args .t .now) (start .args .out .now) (length (start .args .work .now)) _ (checked-there (start .args .schema .now) (start .args .check) (start .pre) (check .check .given .0 .0) (check .check .given .1)) _ (type-there (start .args .t .now) (at-whole-type .whole-type .result) (at-whole-type .whole-type .ensures) (else1 .if1 .left)) (look-up .look-up .last .1 .1 .1 .1 .0) (look-up .look-up .result) (look-up .look-up .ensures) (required .required .given .0 .0) (required .required .given .0 .1 .0) (required .required .given .1) (look-up .look-up .kept .1 .1 .1 .1 .0) (answer-fits .answer-fits .result) (answer-fits .answer-fits .ensures) (else2 .if2 .left) (copy .copy .last .1 .0) (copy .copy .ensures)
 
 same-length-4 : tie.Need-same-length-4
 same-length-4 c = search needs
 
 returns-5 : tie.Need-returns-5
-returns-5 c = lookup-nothing ((c .before .before .before .before .before .before .before .before .before .before .before .before .before .before .before .before .before .before) .args .schema .now) ((c .before .before .before .before .before .before .before .before .before .before .before .before .before .before .before .before .before .before) .args .attr) ((c .before .before .before .before .before .before .before .before .before .before .before .before .before .before .before .before .before .before) .args .t .now) ((c .before .before .before .before .before .before .before .before .before .before .before .before .before .before .before .before .before .before) .args .out .now) (length ((c .before .before .before .before .before .before .before .before .before .before .before .before .before .before .before .before .before .before) .args .work .now)) _ (checked-there ((c .before .before .before .before .before .before .before .before .before .before .before .before .before .before .before .before .before .before) .args .schema .now) ((c .before .before .before .before .before .before .before .before .before .before .before .before .before) .check-schema .result) ((c .before .before .before .before .before .before .before .before .before .before .before .before .before) .check-schema .ensures) ((c .before .before .before .before .before .before .before .before .before .before .before) .at .given .0 .0) ((c .before .before .before .before .before .before .before .before .before .before .before) .at .given .1)) _ (type-there ((c .before .before .before .before .before .before .before .before .before .before .before .before .before .before .before .before .before .before) .args .t .now) ((c .before .before .before .before .before .before .before .before .before) .whole-type .result) ((c .before .before .before .before .before .before .before .before .before) .whole-type .ensures) ((c .before .before .before .before .before .before .before .before) .if1 .left)) ((c .before .before .before .before .before) .look-up .last .1 .1 .1 .1 .0) ((c .before .before .before .before .before) .look-up .result) ((c .before .before .before .before .before) .look-up .ensures) (c .enum-told2 .given .1)
+returns-5 c =
+    let start = c .before .before .before .before .before .before .before .before .before .before .before .before .before .before .before .before .before in
+    let check = c .before .before .before .before .before .before .before .before .before .before .before in
+    let at-whole-type = c .before .before .before .before .before .before .before .before .before in
+    let else1 = c .before .before .before .before .before .before .before .before in
+    let look-up = c .before .before .before .before .before in
+    lookup-nothing (start .args .schema .now) (start .args .attr) (start .args .t .now) (start .args .out .now) (length (start .args .work .now)) _ (checked-there (start .args .schema .now) (start .args .check) (start .pre) (check .check .given .0 .0) (check .check .given .1)) _ (type-there (start .args .t .now) (at-whole-type .whole-type .result) (at-whole-type .whole-type .ensures) (else1 .if1 .left)) (look-up .look-up .last .1 .1 .1 .1 .0) (look-up .look-up .result) (look-up .look-up .ensures) (c .enum-told2 .given .1)
 
 same-length-5 : tie.Need-same-length-5
 same-length-5 c = search needs
 
 returns-6 : tie.Need-returns-6
-returns-6 c = lookup-too-long ((c .before .before .before .before .before .before .before .before .before .before .before .before .before .before .before .before .before .before) .args .schema .now) ((c .before .before .before .before .before .before .before .before .before .before .before .before .before .before .before .before .before .before) .args .attr) ((c .before .before .before .before .before .before .before .before .before .before .before .before .before .before .before .before .before .before) .args .t .now) ((c .before .before .before .before .before .before .before .before .before .before .before .before .before .before .before .before .before .before) .args .out .now) (length ((c .before .before .before .before .before .before .before .before .before .before .before .before .before .before .before .before .before .before) .args .work .now)) _ (checked-there ((c .before .before .before .before .before .before .before .before .before .before .before .before .before .before .before .before .before .before) .args .schema .now) ((c .before .before .before .before .before .before .before .before .before .before .before .before .before) .check-schema .result) ((c .before .before .before .before .before .before .before .before .before .before .before .before .before) .check-schema .ensures) ((c .before .before .before .before .before .before .before .before .before .before .before) .at .given .0 .0) ((c .before .before .before .before .before .before .before .before .before .before .before) .at .given .1)) _ (type-there ((c .before .before .before .before .before .before .before .before .before .before .before .before .before .before .before .before .before .before) .args .t .now) ((c .before .before .before .before .before .before .before .before .before) .whole-type .result) ((c .before .before .before .before .before .before .before .before .before) .whole-type .ensures) ((c .before .before .before .before .before .before .before .before) .if1 .left)) ((c .before .before .before .before .before) .look-up .last .1 .1 .1 .1 .0) ((c .before .before .before .before .before) .look-up .result) ((c .before .before .before .before .before) .look-up .ensures) (c .enum-told3 .given .1)
+returns-6 c =
+    let start = c .before .before .before .before .before .before .before .before .before .before .before .before .before .before .before .before .before in
+    let check = c .before .before .before .before .before .before .before .before .before .before .before in
+    let at-whole-type = c .before .before .before .before .before .before .before .before .before in
+    let else1 = c .before .before .before .before .before .before .before .before in
+    let look-up = c .before .before .before .before .before in
+    lookup-too-long (start .args .schema .now) (start .args .attr) (start .args .t .now) (start .args .out .now) (length (start .args .work .now)) _ (checked-there (start .args .schema .now) (start .args .check) (start .pre) (check .check .given .0 .0) (check .check .given .1)) _ (type-there (start .args .t .now) (at-whole-type .whole-type .result) (at-whole-type .whole-type .ensures) (else1 .if1 .left)) (look-up .look-up .last .1 .1 .1 .1 .0) (look-up .look-up .result) (look-up .look-up .ensures) (c .enum-told3 .given .1)
 
 pub looked-up-spec : {M : Type 1} → statement M
 looked-up-spec =
     tie.close
     (tie.spec
-    check-schema-requires
-    enum-known-at
+    enum-known-check
     enum-told
     returns
     whole-type-requires

@@ -1,0 +1,98 @@
+// A schema that is checked once and kept with its block. Each method answers as the entry of its name does, without the check.
+use crate::all_attributes::all_attributes_checked;
+use crate::answers::Answer;
+use crate::euid_literal::euid_literal_checked;
+use crate::is_subtype::is_subtype_checked;
+use crate::least_upper_bound::least_upper_bound_checked;
+use crate::lookup_attribute_type::lookup_attribute_type_checked;
+use crate::may_have_attr::may_have_attr_checked;
+use crate::own_attribute_type::own_attribute_type_checked;
+use crate::typecheck_restricted_expr::typecheck_restricted_expr_checked;
+use schemas::whole::Checked;
+use schemas::whole::check_schema;
+ghost use mathlib.Core.Path.{_≡_};
+ghost use lib.ListN.{length};
+ghost use Rattle.cedar.specs.Limits.{standard};
+ghost use Rattle.cedar.specs.Calls.{subtypeCall, boundCall, lookupCall, ownAttributeCall, mayHaveCall, namesCall, conformsCall, literalCall};
+ghost use Rattle.validator.specs.Answers.{answerOf, Answered, AnsweredIn};
+ghost use Rattle.validator.specs.Handed.{Handed};
+ghost use Rattle.validator.specs.Kept.{Sound};
+
+// The block, and what its check came to: where its sections lie, or that it is broken.
+pub struct ValidatorSchema<'a> {
+    pub block: &'a [u8],
+    pub check: Checked,
+}
+
+impl<'a> ValidatorSchema<'a> {
+    pub fn new(block: &'a [u8]) -> ValidatorSchema<'a>
+        ensures { λ r. ⌜ (r .block ≡ block .entry) × Sound r ⌝ }
+    {
+        ValidatorSchema {
+            block,
+            check: check_schema(block),
+        }
+    }
+
+    pub fn is_subtype(self, mode: u8, t0: &[u8], t1: &[u8]) -> Answer
+        requires { ⌜ Sound self ⌝ }
+        ensures { λ r. ⌜ r ≡ answerOf (subtypeCall standard mode (now (self .entry .block)) (now (t0 .entry)) (now (t1 .entry))) ⌝ }
+    {
+        is_subtype_checked(self.check, mode, t0, t1)
+    }
+
+    pub fn least_upper_bound(self, mode: u8, t0: &[u8], t1: &[u8], out: &mut [u8]) -> Answer
+        requires { ⌜ Sound self ⌝ }
+        ensures { λ r. ⌜ Answered (boundCall standard mode (now (self .entry .block)) (now (t0 .entry)) (now (t1 .entry)) (length (now (out .entry)))) (now (out .entry)) (now (out .exit)) r ⌝ }
+    {
+        least_upper_bound_checked(self.check, mode, t0, t1, out)
+    }
+
+    pub fn lookup_attribute_type(
+        self,
+        attr: u16,
+        t: &[u8],
+        out: &mut [u8],
+        work: &mut [u8],
+    ) -> Answer
+        requires { ⌜ Sound self ⌝ }
+        ensures { λ r. ⌜ AnsweredIn (lookupCall standard (now (self .entry .block)) attr (now (t .entry)) (length (now (out .entry))) (length (now (work .entry)))) (now (out .entry)) (now (out .exit)) (now (work .entry)) (now (work .exit)) r ⌝ }
+    {
+        lookup_attribute_type_checked(self.block, self.check, attr, t, out, work)
+    }
+
+    pub fn own_attribute_type<'b>(self, attr: u16, t: &'b [u8], told: &mut u8) -> &'b [u8]
+        requires { ⌜ Sound self ⌝ }
+        ensures { λ r. ⌜ Handed (ownAttributeCall standard (now (self .entry .block)) attr (now (t .entry))) (now r) (now (told .exit)) ⌝ }
+    {
+        own_attribute_type_checked(self.check, attr, t, told)
+    }
+
+    pub fn may_have_attr(self, attr: u16, t: &[u8]) -> Answer
+        requires { ⌜ Sound self ⌝ }
+        ensures { λ r. ⌜ r ≡ answerOf (mayHaveCall standard (now (self .entry .block)) attr (now (t .entry))) ⌝ }
+    {
+        may_have_attr_checked(self.block, self.check, attr, t)
+    }
+
+    pub fn all_attributes(self, t: &[u8], out: &mut [u8], work: &mut [u8]) -> Answer
+        requires { ⌜ Sound self ⌝ }
+        ensures { λ r. ⌜ AnsweredIn (namesCall standard (now (self .entry .block)) (now (t .entry)) (length (now (out .entry))) (length (now (work .entry)))) (now (out .entry)) (now (out .exit)) (now (work .entry)) (now (work .exit)) r ⌝ }
+    {
+        all_attributes_checked(self.block, self.check, t, out, work)
+    }
+
+    pub fn typecheck_restricted_expr(self, t: &[u8], v: &[u8]) -> Answer
+        requires { ⌜ Sound self ⌝ }
+        ensures { λ r. ⌜ r ≡ answerOf (conformsCall standard (now (self .entry .block)) (now (t .entry)) (now (v .entry))) ⌝ }
+    {
+        typecheck_restricted_expr_checked(self.block, self.check, t, v)
+    }
+
+    pub fn euid_literal(self, v: &[u8], out: &mut [u8]) -> Answer
+        requires { ⌜ Sound self ⌝ }
+        ensures { λ r. ⌜ Answered (literalCall standard (now (self .entry .block)) (now (v .entry)) (length (now (out .entry)))) (now (out .entry)) (now (out .exit)) r ⌝ }
+    {
+        euid_literal_checked(self.block, self.check, v, out)
+    }
+}
