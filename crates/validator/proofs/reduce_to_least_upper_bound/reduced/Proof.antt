@@ -103,7 +103,7 @@ copy-requires : tie.Need-copy-requires
 copy-requires c κs =
     let start = c .before .before .before .before .before .before .before .before .before .before .before .before .before .before .before .before .before .before .before .before .before .before .before in
     let f = foldTypes (stepFits standard (length (start .args .work .now))) (asMode (start .args .mode)) (listOf 16 (start .args .list .now)) in
-    folds-room f (start .args .out .now) (c .before .before .before .before .before .before .before .before .before .before .before .fold-types .last .1 .1 .0) (c .before .before .before .before .before .before .before .before .before .before .before .fold-types .result) (c .before .before .before .before .before .before .before .before .before .before .before .fold-types .ensures) (c .before .before .before .before .before .before .n .given .0 .0) (c .before .before .before .before .before .before .n .given .1) (c .before .before .before .before .answer-fits .result) (c .before .before .before .before .answer-fits .ensures) (c .before .before .before .if3 .left)
+    omega (arith, folds-room f (start .args .out .now) (c .before .before .before .before .before .before .before .before .before .before .before .fold-types .last .1 .1 .0) (c .before .before .before .before .before .before .before .before .before .before .before .fold-types .result) (c .before .before .before .before .before .before .before .before .before .before .before .fold-types .ensures) (c .before .before .before .before .before .before .n .given .0 .0) (c .before .before .before .before .before .before .n .given .1) (c .before .before .before .before .answer-fits .result) (c .before .before .before .before .answer-fits .ensures) (c .before .before .before .if3 .left))
 
 -- src/reduce_to_least_upper_bound.rt:45:21
 enum-known-e : tie.Need-enum-known-e
