@@ -10,6 +10,7 @@ mod whole;
 mod writing;
 
 pub use lines::put_bad_line;
+pub use operations::Operation;
 pub use questions::Cursor;
 pub use questions::count;
 pub use questions::start;

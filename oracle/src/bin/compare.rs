@@ -3,16 +3,22 @@
 //! `compare --model --exhaustive` does so on every small question.
 //! `compare --program PATH --seed N --jobs K` compares a program that reads
 //! one job on standard input.
+//! `compare --replay PATH --seed N --jobs K` compares a program that reads a
+//! batch, with some thousand jobs to a run.
+//! `compare --rooms PATH --seed N --jobs K` compares the program `rooms`.
+//! `compare --library --seed N --jobs K`, with the feature `library`, compares
+//! the static library: every question of each job, and calls with rooms.
 
 use oracle::arguments::Arguments;
 use oracle::coverage::Coverage;
 use oracle::exhaustive;
 use oracle::generate::Gen;
-use oracle::harness::{difference, judged, Model};
+use oracle::harness::{difference, judged, Candidate, Model};
 use oracle::jobs::lines;
 use oracle::model::{self, Rules};
-use std::io::Write;
-use std::process::{Command, ExitCode, Stdio};
+use oracle::programs;
+use oracle::rooms::Lent;
+use std::process::ExitCode;
 
 fn hex(bytes: &[u8]) -> String {
     bytes.iter().map(|b| format!("{b:02x}")).collect()
@@ -51,21 +57,39 @@ fn compare_files(a: &str, b: &str) -> ExitCode {
     code(differences)
 }
 
-fn compare_model(args: &Arguments) -> ExitCode {
-    let mut gen = Gen::new(args.number("--seed", 1));
-    let mut model = Model(Rules {
+fn model(args: &Arguments) -> Model {
+    Model(Rules {
         fault: args.number("--fault", 0) as u32,
-    });
+    })
+}
+
+#[cfg(feature = "library")]
+fn compare_library(args: &Arguments) -> ExitCode {
+    use oracle::library::{linked, CheckedLibrary, Library};
+    let mut plain = Library(linked::ENTRIES);
+    let mut checked = CheckedLibrary(linked::ENTRIES, linked::CHECKED);
+    compare_candidates(&mut [&mut plain, &mut checked], args)
+}
+
+#[cfg(not(feature = "library"))]
+fn compare_library(_: &Arguments) -> ExitCode {
+    panic!("built without the feature `library`")
+}
+
+fn compare_candidates(candidates: &mut [&mut dyn Candidate], args: &Arguments) -> ExitCode {
+    let mut gen = Gen::new(args.number("--seed", 1));
     let (mut coverage, mut roomed) = (Coverage::default(), Coverage::with_rooms());
     let mut differences = 0;
     for _ in 0..args.number("--jobs", 1000) {
         let judged = judged(&mut gen);
-        coverage.count_job(&judged.job);
+        coverage.count_outcomes(&judged.job, judged.outcomes.as_deref());
         judged.calls.iter().for_each(|(c, o)| roomed.count(c.op, o));
-        if let Some(what) = difference(&mut model, &judged) {
-            differences += 1;
-            if differences <= 5 {
-                println!("{what}\n  job {}", hex(&judged.job));
+        for candidate in candidates.iter_mut() {
+            if let Some(what) = difference(*candidate, &judged) {
+                differences += 1;
+                if differences <= 5 {
+                    println!("{what}\n  job {}", hex(&judged.job));
+                }
             }
         }
     }
@@ -95,38 +119,59 @@ fn compare_exhaustively() -> ExitCode {
     code(differences)
 }
 
-fn ask_program(path: &str, job: &[u8]) -> Vec<u8> {
-    let mut child = Command::new(path)
-        .stdin(Stdio::piped())
-        .stdout(Stdio::piped())
-        .spawn()
-        .unwrap_or_else(|e| panic!("{path}: {e}"));
-    let mut input = child.stdin.take().expect("standard input");
-    // A program may stop reading a job that is too long.
-    let _ = input.write_all(job);
-    drop(input);
-    child.wait_with_output().expect("output").stdout
-}
+/// The answers of a program to some jobs, in turn.
+type Asker = fn(&str, &[Vec<u8>]) -> Vec<Vec<u8>>;
 
-fn compare_program(path: &str, args: &Arguments) -> ExitCode {
+fn compare_program(path: &str, ask: Asker, run: u64, args: &Arguments) -> ExitCode {
     let mut gen = Gen::new(args.number("--seed", 1));
     let mut coverage = Coverage::default();
     let mut differences = 0;
-    for _ in 0..args.number("--jobs", 1000) {
-        let job = gen.job();
-        coverage.count_job(&job);
-        let (got, wanted) = (ask_program(path, &job), lines(&job));
-        if got != wanted {
-            differences += 1;
-            if differences <= 5 {
-                println!("job {}", hex(&job));
-                println!("got {}", String::from_utf8_lossy(&got));
-                println!("expected {}", String::from_utf8_lossy(&wanted));
+    let mut left = args.number("--jobs", 1000);
+    while left > 0 {
+        let jobs: Vec<Vec<u8>> = (0..left.min(run)).map(|_| gen.job()).collect();
+        left -= jobs.len() as u64;
+        for (job, got) in jobs.iter().zip(ask(path, &jobs)) {
+            coverage.count_job(job);
+            let wanted = lines(job);
+            if got != wanted {
+                differences += 1;
+                if differences <= 5 {
+                    println!("job {}", hex(job));
+                    println!("got {}", String::from_utf8_lossy(&got));
+                    println!("expected {}", String::from_utf8_lossy(&wanted));
+                }
             }
         }
     }
     print!("{}", coverage.table());
+    println!("not reached: {:?}", coverage.missing());
     println!("{differences} jobs with a difference");
+    code(differences)
+}
+
+fn compare_rooms(path: &str, args: &Arguments) -> ExitCode {
+    let mut gen = Gen::new(args.number("--seed", 1));
+    let (mut calls, mut differences) = (0, 0);
+    let mut left = args.number("--jobs", 1000);
+    while left > 0 {
+        let jobs = left.min(2000);
+        left -= jobs;
+        let mut lent = Lent::default();
+        (0..jobs).for_each(|_| lent.put_judged(&judged(&mut gen)));
+        let output = programs::ask(path, &lent.input);
+        let output = String::from_utf8(output).expect("ASCII");
+        assert_eq!(output.lines().count(), lent.lines.len(), "lines");
+        calls += lent.lines.len();
+        for (got, wanted) in output.lines().zip(&lent.lines) {
+            if got != wanted {
+                differences += 1;
+                if differences <= 5 {
+                    println!("got {got}\nexpected {wanted}");
+                }
+            }
+        }
+    }
+    println!("{calls} calls, {differences} with a difference");
     code(differences)
 }
 
@@ -136,13 +181,22 @@ fn main() -> ExitCode {
         return compare_exhaustively();
     }
     if args.has("--model") {
-        return compare_model(&args);
+        return compare_candidates(&mut [&mut model(&args)], &args);
+    }
+    if args.has("--library") {
+        return compare_library(&args);
     }
     if let Some(path) = args.text("--program") {
-        return compare_program(path, &args);
+        return compare_program(path, programs::each, 1, &args);
+    }
+    if let Some(path) = args.text("--rooms") {
+        return compare_rooms(path, &args);
+    }
+    if let Some(path) = args.text("--replay") {
+        return compare_program(path, programs::batch, 4000, &args);
     }
     match (args.word(0), args.word(1)) {
         (Some(a), Some(b)) => compare_files(a, b),
-        _ => panic!("wants two files, --model or --program PATH"),
+        _ => panic!("wants two files, or one of the options above"),
     }
 }

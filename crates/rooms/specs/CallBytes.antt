@@ -1,0 +1,26 @@
+-- A call in bytes. Assumes nothing: a definition, and a law of it.
+use Prim.Native.Nat.{ℕ}
+use mathlib.Core.Path.{_≡_, refl}
+use mathlib.Core.List.{List}
+use lib.ListN.{getD}
+use Rattle.forms.specs.Parts.{rd}
+use Rattle.rooms.specs.declared.calls.Call.{Call}
+
+-- The call that fourteen bytes say.
+unfoldable pub callOf : List ℕ → Call
+callOf b =
+    record {
+      operation = getD b 0 0;
+      mode = getD b 1 0;
+      attribute = rd b 2;
+      room = rd b 4;
+      workspace = rd b 6;
+      schema = rd b 8;
+      first = rd b 10;
+      second = rd b 12;
+    }
+
+pub call-is : (b : List ℕ) {a r w s f g : ℕ} → a ≡ rd b 2 → r ≡ rd b 4 → w ≡ rd b 6 → s ≡ rd b 8 → f ≡ rd b 10 → g ≡ rd b 12 →
+    record { operation = getD b 0 0; mode = getD b 1 0; attribute = a; room = r; workspace = w; schema = s; first = f; second = g } ≡ callOf b
+unfolding callOf
+call-is b p q u v x y = rw (p, q, u, v, x, y) refl

@@ -1,0 +1,152 @@
+#!/usr/bin/env python3
+"""Writes the batch (stdin) and the expected lines (stdout) of each program crate that has a text here.
+
+    tests/batches.py            write crates/NAME/stdin and crates/NAME/stdout for each tests/NAME.txt
+    tests/batches.py --check    say whether they are as the texts have them
+
+A text, line by line; '#' starts a comment.
+
+    name = BYTES                bytes that '$name' stands for below
+    == TITLE                    a new job, with the empty schema
+    schema BYTES                its schema
+    OPERATION WORD.. : BYTES    a question and its body, or its two bodies behind a colon each. The words: 'strict',
+                                'permissive' or mode=N; attribute=N; in rooms.txt also room=N and workspace=N
+    job BYTES                   the whole job as it is, good or bad
+    > LINE                      what must be printed, in turn; '> N..M LINE' for each index from N to M. '<BYTES>' stands for the bytes in lower-case hexadecimal, '<>' for none
+
+BYTES: hexadecimal digits in pairs; '%N' a u16, low byte first; '%N..M' the u16s from N to M in steps of two, and
+'%N..M(BYTES)' with bytes behind each; 'N*(BYTES)' a repetition; '$name'; '@(BYTES)' the bytes' length as a u16;
+'N@(BYTES)(CORE)' the core wrapped N times, each time in the bytes and its length.
+"""
+import re
+import struct
+import sys
+from pathlib import Path
+
+HERE = Path(__file__).resolve().parent
+OPERATIONS = ["subtype", "bound", "disjoint", "lookup", "may-have", "names", "consistent", "convert", "conforms", "fold",
+              "literal", "own"]
+TOKEN = re.compile(r"\s*(?:%(?P<first>\d+)(?:\.\.(?P<last>\d+)(?P<each>\()?)?|(?P<times>\d+)\*\(|(?P<wraps>\d+)?@(?P<length>\()"
+                   r"|(?P<close>\))|\$(?P<name>[\w-]+)|(?P<pair>[0-9a-f]{2}))")
+
+
+def u16(n):
+    return struct.pack("<H", n)
+
+
+def wrapped(times, wrap, core):
+    for _ in range(times):
+        core = wrap + u16(len(core)) + core
+    return core
+
+
+def parse(text, at, names, inner):
+    """The bytes from a place of a text on, up to its end or to a closing bracket, and where they end."""
+    out = b""
+    while text[at:].strip():
+        m = TOKEN.match(text, at)
+        if not m or (m["close"] and not inner):
+            raise SystemExit(f"not understood: {text[at:]}")
+        at = m.end()
+        if m["close"]:
+            return out, at
+        if m["each"] or m["times"] or m["length"]:
+            body, at = parse(text, at, names, True)
+        if m["last"]:
+            each = body if m["each"] else b""
+            out += b"".join(u16(n) + each for n in range(int(m["first"]), int(m["last"]) + 1, 2))
+        elif m["first"]:
+            out += u16(int(m["first"]))
+        elif m["times"]:
+            out += body * int(m["times"])
+        elif m["wraps"]:
+            core, at = parse(text, at + 1, names, True)
+            out += wrapped(int(m["wraps"]), body, core)
+        elif m["length"]:
+            out += u16(len(body))
+        else:
+            out += names[m["name"]] if m["name"] else bytes.fromhex(m["pair"])
+    if inner:
+        raise SystemExit(f"a bracket is left open: {text}")
+    return out, at
+
+
+def question(line, names):
+    """An operation with its words, and its one or two bodies."""
+    head, *bodies = line.split(":")
+    operation, *words = head.split()
+    given = {"mode": 0, "attribute": 0, "room": 0, "workspace": 0}
+    for word in words:
+        key, _, value = {"strict": "mode=0", "permissive": "mode=1"}.get(word, word).partition("=")
+        given[key] = int(value)
+    bodies = [parse(body, 0, names, False)[0] for body in bodies] + [b""]
+    return OPERATIONS.index(operation), given, bodies[0], bodies[1]
+
+
+def job_form(schema, questions):
+    entries = b"".join(struct.pack("<BBHHH", op, g["mode"], g["attribute"], len(a), len(b)) for op, g, a, b in questions)
+    return u16(len(schema)) + u16(len(questions)) + entries + schema + b"".join(a + b for _, _, a, b in questions)
+
+
+def job(entry):
+    """A job behind its length."""
+    form = entry["job"] if entry["job"] is not None else job_form(entry["schema"], entry["questions"])
+    return struct.pack("<I", len(form)) + form
+
+
+def calls(entry):
+    """Calls of the library's entries, each behind its numbers and lengths."""
+    out = b""
+    for op, g, a, b in entry["questions"]:
+        numbers = (op, g["mode"], g["attribute"], g["room"], g["workspace"], len(entry["schema"]), len(a), len(b))
+        out += struct.pack("<BBHHHHHH", *numbers) + entry["schema"] + a + b
+    return out
+
+
+def expected(line, names):
+    """The lines that one line of a text stands for."""
+    line = re.sub(r"<(.*?)>", lambda m: parse(m[1], 0, names, False)[0].hex(), line)
+    if m := re.match(r"(\d+)\.\.(\d+)(.*)", line):
+        return "".join(f"{index}{m[3]}\n" for index in range(int(m[1]), int(m[2]) + 1))
+    return line + "\n"
+
+
+def read(path):
+    names, entries = {"empty": bytes(6)}, []
+    for line in path.read_text().splitlines():
+        line = line.partition("#")[0].strip()
+        if line.startswith("=="):
+            entries.append({"schema": names["empty"], "questions": [], "job": None, "lines": ""})
+        elif line.startswith(">"):
+            entries[-1]["lines"] += expected(line[2:], names)
+        elif m := re.fullmatch(r"([\w-]+) = (.*)", line):
+            names[m[1]] = parse(m[2], 0, names, False)[0]
+        elif line.partition(" ")[0] in ("schema", "job"):
+            word, _, body = line.partition(" ")
+            entries[-1][word] = parse(body, 0, names, False)[0]
+        elif line:
+            entries[-1]["questions"].append(question(line, names))
+    return entries
+
+
+def files(path):
+    rooms = path.stem == "rooms"
+    entries = read(path)
+    put, end = (calls, "") if rooms else (job, ".\n")
+    return {"stdin": b"".join(put(e) for e in entries), "stdout": "".join(e["lines"] + end for e in entries).encode()}
+
+
+def main():
+    check, bad = sys.argv[1:] == ["--check"], 0
+    for path in sorted(HERE.glob("*.txt")):
+        for name, content in files(path).items():
+            target = HERE.parent / "crates" / path.stem / name
+            if not check:
+                target.write_bytes(content)
+            elif not target.exists() or target.read_bytes() != content:
+                bad, _ = 1, print(f"{path.stem}/{name} is not as {path.name} has it")
+    sys.exit(bad)
+
+
+if __name__ == "__main__":
+    main()
