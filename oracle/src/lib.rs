@@ -54,6 +54,7 @@ pub mod model;
 pub mod noted;
 pub mod programs;
 pub mod properties;
+pub mod published;
 pub mod questions;
 pub mod rooms;
 pub mod sample;

@@ -7,13 +7,14 @@ use crate::least_upper_bound::least_upper_bound_checked;
 use crate::lookup_attribute_type::lookup_attribute_type_checked;
 use crate::may_have_attr::may_have_attr_checked;
 use crate::own_attribute_type::own_attribute_type_checked;
+use crate::reduce_to_least_upper_bound::reduce_to_least_upper_bound_checked;
 use crate::typecheck_restricted_expr::typecheck_restricted_expr_checked;
 use schemas::whole::Checked;
 use schemas::whole::check_schema;
 ghost use mathlib.Core.Path.{_≡_};
 ghost use lib.ListN.{length};
 ghost use Rattle.cedar.specs.Limits.{standard};
-ghost use Rattle.cedar.specs.Calls.{subtypeCall, boundCall, lookupCall, ownAttributeCall, mayHaveCall, namesCall, conformsCall, literalCall};
+ghost use Rattle.cedar.specs.Calls.{subtypeCall, boundCall, foldCall, lookupCall, ownAttributeCall, mayHaveCall, namesCall, conformsCall, literalCall};
 ghost use Rattle.validator.specs.Answers.{answerOf, Answered, AnsweredIn};
 ghost use Rattle.validator.specs.Handed.{Handed};
 ghost use Rattle.validator.specs.Kept.{Sound};
@@ -46,6 +47,19 @@ impl<'a> ValidatorSchema<'a> {
         ensures { λ r. ⌜ Answered (boundCall standard mode (now (self .entry .block)) (now (t0 .entry)) (now (t1 .entry)) (length (now (out .entry)))) (now (out .entry)) (now (out .exit)) r ⌝ }
     {
         least_upper_bound_checked(self.check, mode, t0, t1, out)
+    }
+
+    pub fn reduce_to_least_upper_bound(
+        self,
+        mode: u8,
+        list: &[u8],
+        out: &mut [u8],
+        work: &mut [u8],
+    ) -> Answer
+        requires { ⌜ Sound self ⌝ }
+        ensures { λ r. ⌜ AnsweredIn (foldCall standard mode (now (self .entry .block)) (now (list .entry)) (length (now (out .entry))) (length (now (work .entry)))) (now (out .entry)) (now (out .exit)) (now (work .entry)) (now (work .exit)) r ⌝ }
+    {
+        reduce_to_least_upper_bound_checked(self.check, mode, list, out, work)
     }
 
     pub fn lookup_attribute_type(

@@ -1,0 +1,57 @@
+//! How the cost grows with the bytes and with the levels.
+
+use crate::inputs::record;
+use crate::library::{self, Checked};
+use crate::timing::{best, repeated};
+use oracle::questions::{operation::*, Call};
+
+/// Disjoint of a form and of one byte is little more than the check that the
+/// form is whole.
+fn nanoseconds(op: u8, t0: &[u8], t1: &[u8]) -> f64 {
+    let schema = [0u8; 6];
+    let check = Checked::of(&schema);
+    let (mut out, mut work) = library::buffers();
+    let call = Call {
+        op,
+        mode: 1,
+        attr: 0,
+        schema: &schema,
+        t0,
+        t1,
+        room: library::ROOM,
+        work: library::WORK,
+    };
+    let least = best(&mut [repeated(|| {
+        library::through(check, &call, &mut out, &mut work)
+    })]);
+    least[0]
+}
+
+fn row(what: &str, width: u16, levels: usize) {
+    let (a, b) = (
+        record(width, levels, 0).form(),
+        record(width, levels, 1).form(),
+    );
+    let above = record(width, levels, 2).form();
+    let whole = nanoseconds(DISJOINT, &a, &[4]);
+    let subtype = nanoseconds(SUBTYPE, &a, &above);
+    let bound = nanoseconds(BOUND, &a, &b);
+    println!(
+        "| {what} | {} | {whole:.0} | {:.2} | {subtype:.0} | {:.2} | {bound:.0} | {:.2} |",
+        a.len(),
+        a.len() as f64 / whole,
+        subtype / (2 * a.len()) as f64,
+        bound / (2 * a.len()) as f64,
+    );
+}
+
+pub fn print() {
+    println!("| Records | bytes of one | whole, ns | GB/s | is_subtype, ns | ns a byte | least_upper_bound, ns | ns a byte |");
+    println!("|---|---|---|---|---|---|---|---|");
+    for width in [42, 85, 170, 341, 682] {
+        row(&format!("{width} attributes"), width, 2);
+    }
+    for levels in [2, 4, 8, 16] {
+        row(&format!("{levels} levels of 42"), 42, levels);
+    }
+}

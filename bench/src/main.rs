@@ -1,0 +1,55 @@
+//! The library beside the published Rust: the same questions, in one process,
+//! both built for release. Prints the tables of docs/PERFORMANCE.md.
+
+mod cases;
+mod growth;
+mod inputs;
+mod library;
+mod timing;
+
+use cases::Case;
+
+/// The answers must be the same before anything is timed.
+fn same_answer(case: &Case) {
+    let told = oracle::questions::answer(&case.call());
+    let (mut out, mut work) = library::buffers();
+    let entry = library::outcome(library::entry(&case.call(), &mut out, &mut work), &out);
+    let check = library::Checked::of(&case.schema);
+    let through = library::outcome(
+        library::through(check, &case.call(), &mut out, &mut work),
+        &out,
+    );
+    assert_eq!(told, entry, "{} {}", case.operation, case.input);
+    assert_eq!(told, through, "{} {}", case.operation, case.input);
+}
+
+/// Three figures that a person reads at a glance.
+fn figure(ns: f64) -> String {
+    match ns {
+        n if n < 100.0 => format!("{n:.1}"),
+        n => format!("{n:.0}"),
+    }
+}
+
+fn main() {
+    let cases = cases::all();
+    cases.iter().for_each(same_answer);
+    println!("| Operation | Input | Rust, ns | schema checked, ns | ratio | schema in each call, ns | ratio |");
+    println!("|---|---|---|---|---|---|---|");
+    for case in &cases {
+        let mut all = [case.published(), case.checked(), case.unchecked()];
+        let ns = timing::best(&mut all);
+        println!(
+            "| {} | {} | {} | {} | {:.2} | {} | {:.2} |",
+            case.operation,
+            case.input,
+            figure(ns[0]),
+            figure(ns[1]),
+            ns[0] / ns[1],
+            figure(ns[2]),
+            ns[0] / ns[2],
+        );
+    }
+    println!();
+    growth::print();
+}

@@ -1,0 +1,64 @@
+/* Asks four questions under an empty schema, which is checked once. */
+#include <stdio.h>
+
+#include "tirncheav.h"
+
+/* {1: Long} and {1: String}, both required. */
+static const uint8_t long_record[] = {8, 0, 1, 0, 1, 0, 1, 1, 0, 4};
+static const uint8_t string_record[] = {8, 0, 1, 0, 1, 0, 1, 1, 0, 5};
+
+static void print_bytes(const uint8_t *bytes, size_t n) {
+    for (size_t i = 0; i < n; i++) {
+        printf(" %02x", bytes[i]);
+    }
+    printf("\n");
+}
+
+static void print_answer(const char *asked, uint64_t answer, const uint8_t *out) {
+    printf("%s:", asked);
+    switch (TIRNCHEAV_KIND(answer)) {
+    case TIRNCHEAV_YES:
+        printf(" yes\n");
+        break;
+    case TIRNCHEAV_NO:
+        printf(" no\n");
+        break;
+    case TIRNCHEAV_NONE:
+        printf(" none\n");
+        break;
+    case TIRNCHEAV_REFUSED:
+        printf(" refused, %zu\n", TIRNCHEAV_VALUE(answer));
+        break;
+    case TIRNCHEAV_REQUIRED:
+        printf(" required,");
+        print_bytes(out, TIRNCHEAV_VALUE(answer));
+        break;
+    default:
+        print_bytes(out, TIRNCHEAV_VALUE(answer));
+    }
+}
+
+int main(void) {
+    static const uint8_t schema[6] = {0};
+    static const uint8_t true_type[] = {1}, bool_type[] = {3};
+    uint8_t out[4096], work[8192];
+    uint64_t check = tirncheav_check_schema(schema, sizeof schema);
+    if (check == 0) {
+        return 1;
+    }
+    print_answer("True under Bool",
+                 tirncheav_is_subtype_checked(schema, sizeof schema, check, 0, true_type, 1, bool_type, 1), out);
+    print_answer("permissive bound",
+                 tirncheav_least_upper_bound_checked(schema, sizeof schema, check, 1, long_record, sizeof long_record,
+                                                     string_record, sizeof string_record, out, sizeof out),
+                 out);
+    print_answer("strict bound",
+                 tirncheav_least_upper_bound_checked(schema, sizeof schema, check, 0, long_record, sizeof long_record,
+                                                     string_record, sizeof string_record, out, sizeof out),
+                 out);
+    print_answer("attribute 1",
+                 tirncheav_lookup_attribute_type_checked(schema, sizeof schema, check, 1, long_record,
+                                                         sizeof long_record, out, sizeof out, work, sizeof work),
+                 out);
+    return 0;
+}

@@ -1,0 +1,95 @@
+//! The type rules of Cedar policies, over a static library whose every answer
+//! is proved equal to its definition.
+//!
+//! Types, values, lists and schemas are byte forms; any bytes are safe to pass,
+//! and what is not whole is refused. A schema is checked once and kept with its
+//! block:
+//!
+//! ```
+//! use tirncheav::{Mode, Refusal, Schema};
+//!
+//! // No entity types, actions or functions.
+//! let schema = Schema::check(&[0; 6]).unwrap();
+//!
+//! // True is a subtype of Bool.
+//! assert_eq!(schema.is_subtype(Mode::Strict, &[1], &[3]), Ok(true));
+//!
+//! // {1: Long} and {1: String}.
+//! let long = [8, 0, 1, 0, 1, 0, 1, 1, 0, 4];
+//! let string = [8, 0, 1, 0, 1, 0, 1, 1, 0, 5];
+//! let mut out = [0; tirncheav::FORM_BYTES];
+//!
+//! // Permissive: field 1 is lost, and the record is open.
+//! let bound = schema.least_upper_bound(Mode::Permissive, &long, &string, &mut out);
+//! assert_eq!(bound, Ok(&[8, 1, 0, 0][..]));
+//!
+//! // Strict: there is none, and the result buffer stays as it was.
+//! let bound = schema.least_upper_bound(Mode::Strict, &long, &string, &mut out);
+//! assert_eq!(bound, Err(Refusal::NoBound));
+//! ```
+
+mod answers;
+#[rustfmt::skip]
+mod ffi;
+mod refusal;
+mod schema;
+
+pub use answers::Attribute;
+pub use refusal::Refusal;
+pub use schema::Schema;
+
+use answers::{written, yes_or_no};
+
+/// The longest form of a type: a result buffer of so many bytes holds any answer.
+pub const FORM_BYTES: usize = 4096;
+
+/// A workspace of so many bytes serves any step.
+pub const WORK_BYTES: usize = 2 * FORM_BYTES;
+
+/// How strictly types are joined and compared.
+#[derive(Clone, Copy, Debug, PartialEq, Eq, Hash)]
+pub enum Mode {
+    Strict = 0,
+    Permissive = 1,
+}
+
+/// Whether no value has both types.
+///
+/// ```
+/// // The entity types 2 and 4.
+/// assert_eq!(tirncheav::are_types_disjoint(&[10, 1, 0, 2, 0], &[10, 1, 0, 4, 0]), Ok(true));
+/// ```
+pub fn are_types_disjoint(t0: &[u8], t1: &[u8]) -> Result<bool, Refusal> {
+    // Each pointer stands with the length of its slice.
+    yes_or_no(unsafe {
+        ffi::tirncheav_are_types_disjoint(t0.as_ptr(), t0.len(), t1.as_ptr(), t1.len())
+    })
+}
+
+/// Whether a type is consistent with a plain one.
+///
+/// ```
+/// use tirncheav::{is_consistent_with, Refusal};
+/// // Long with Long; True is not plain.
+/// assert_eq!(is_consistent_with(&[4], &[4]), Ok(true));
+/// assert_eq!(is_consistent_with(&[4], &[1]), Err(Refusal::Plain));
+/// ```
+pub fn is_consistent_with(t0: &[u8], t1: &[u8]) -> Result<bool, Refusal> {
+    // Each pointer stands with the length of its slice.
+    yes_or_no(unsafe {
+        ffi::tirncheav_is_consistent_with(t0.as_ptr(), t0.len(), t1.as_ptr(), t1.len())
+    })
+}
+
+/// The core type of a type, written to the front of `out`.
+///
+/// ```
+/// // True becomes Bool.
+/// assert_eq!(tirncheav::convert(&[1], &mut [0; 1]), Ok(&[3][..]));
+/// ```
+pub fn convert<'b>(t: &[u8], out: &'b mut [u8]) -> Result<&'b [u8], Refusal> {
+    // Each pointer stands with the length of its slice, and `out` is lent alone.
+    let number =
+        unsafe { ffi::tirncheav_convert(t.as_ptr(), t.len(), out.as_mut_ptr(), out.len()) };
+    written(number, out)
+}

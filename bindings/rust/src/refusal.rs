@@ -1,0 +1,71 @@
+//! Why a call has no answer.
+
+use std::fmt;
+
+/// The question that refused, in the order in which a call asks them.
+#[derive(Clone, Copy, Debug, PartialEq, Eq, Hash, PartialOrd, Ord)]
+pub enum Refusal {
+    Mode = 1,
+    Schema = 2,
+    First = 3,
+    Second = 4,
+    Value = 5,
+    Plain = 6,
+    Function = 7,
+    Conversion = 8,
+    Workspace = 9,
+    Result = 10,
+    AttributeQualifier = 11,
+    RecordWidth = 12,
+    EntityType = 13,
+    EntityRecord = 14,
+    NoBound = 15,
+}
+
+use Refusal::*;
+
+/// Each refusal at its number less one.
+const ALL: [(Refusal, &str); 15] = [
+    (Mode, "the mode is neither strict nor permissive"),
+    (Schema, "the schema is not whole"),
+    (First, "the first type, or the list, is not whole"),
+    (Second, "the second type is not whole"),
+    (Value, "the value is not whole, or a literal is no uid"),
+    (Plain, "the second type is not plain"),
+    (Function, "an unknown extension function was reached"),
+    (Conversion, "the type has no core type"),
+    (
+        Workspace,
+        "a step's bound is longer than half of the workspace",
+    ),
+    (Result, "the answer is longer than the result buffer"),
+    (
+        AttributeQualifier,
+        "an attribute is required on one side only",
+    ),
+    (RecordWidth, "an attribute is on one side only"),
+    (EntityType, "the entity types differ"),
+    (EntityRecord, "an entity has no bound with a record"),
+    (NoBound, "the types have no bound"),
+];
+
+impl Refusal {
+    /// The number that the library and a job's line give.
+    pub fn number(self) -> u8 {
+        self as u8
+    }
+
+    /// The refusal of a number from 1 to 15.
+    pub fn from_number(number: u8) -> Option<Refusal> {
+        let index = usize::from(number).checked_sub(1)?;
+        ALL.get(index).map(|(refusal, _)| *refusal)
+    }
+}
+
+impl fmt::Display for Refusal {
+    fn fmt(&self, f: &mut fmt::Formatter<'_>) -> fmt::Result {
+        write!(f, "{} ({})", ALL[*self as usize - 1].1, self.number())
+    }
+}
+
+impl std::error::Error for Refusal {}

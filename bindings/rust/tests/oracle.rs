@@ -1,0 +1,116 @@
+//! The binding against the published Rust, question by question of generated
+//! jobs.
+
+use oracle::generate::Gen;
+use oracle::jobs::read_job;
+use oracle::questions::{answer, operation::*, Call, Outcome};
+use tirncheav::{Mode, Refusal, Schema, FORM_BYTES, WORK_BYTES};
+
+fn yes(answer: Result<bool, Refusal>) -> Outcome {
+    match answer {
+        Ok(true) => Outcome::Yes,
+        Ok(false) => Outcome::No,
+        Err(refusal) => Outcome::Refused(refusal.number()),
+    }
+}
+
+fn wrote(answer: Result<&[u8], Refusal>) -> Outcome {
+    match answer {
+        Ok(form) => Outcome::Wrote(form.to_vec()),
+        Err(refusal) => Outcome::Refused(refusal.number()),
+    }
+}
+
+fn found(answer: Result<Option<Outcome>, Refusal>) -> Outcome {
+    match answer {
+        Ok(outcome) => outcome.unwrap_or(Outcome::Nothing),
+        Err(refusal) => Outcome::Refused(refusal.number()),
+    }
+}
+
+/// The calls that take no schema.
+fn alone(call: &Call<'_>, out: &mut [u8]) -> Option<Outcome> {
+    Some(match call.op {
+        DISJOINT => yes(tirncheav::are_types_disjoint(call.t0, call.t1)),
+        CONSISTENT => yes(tirncheav::is_consistent_with(call.t0, call.t1)),
+        CONVERT => wrote(tirncheav::convert(call.t0, out)),
+        _ => return None,
+    })
+}
+
+fn under(schema: Schema<'_>, mode: Mode, call: &Call<'_>, out: &mut [u8]) -> Outcome {
+    let mut work = [1; WORK_BYTES];
+    let outcome = match call.op {
+        SUBTYPE => return yes(schema.is_subtype(mode, call.t0, call.t1)),
+        BOUND => return wrote(schema.least_upper_bound(mode, call.t0, call.t1, out)),
+        MAY_HAVE => return yes(schema.may_have_attr(call.attr, call.t0)),
+        CONFORMS => return yes(schema.typecheck_restricted_expr(call.t0, call.t1)),
+        LITERAL => {
+            let form = schema.euid_literal(call.t0, out);
+            return found(form.map(|f| f.map(|f| Outcome::Wrote(f.to_vec()))));
+        }
+        NAMES => wrote(schema.all_attributes(call.t0, out, &mut work)),
+        FOLD => wrote(schema.reduce_to_least_upper_bound(mode, call.t0, out, &mut work)),
+        _ => {
+            let at = schema.lookup_attribute_type(call.attr, call.t0, out, &mut work);
+            found(at.map(|a| a.map(|a| Outcome::Attribute(a.required, a.form.to_vec()))))
+        }
+    };
+    assert!(
+        work.iter().all(|byte| *byte == 0),
+        "the workspace is all zero"
+    );
+    outcome
+}
+
+/// A mode that is no mode cannot be said in Rust: such questions are passed.
+fn told(call: &Call<'_>, out: &mut [u8]) -> Option<Outcome> {
+    let mode = match (call.op, call.mode) {
+        (SUBTYPE | BOUND | FOLD, 0) => Mode::Strict,
+        (SUBTYPE | BOUND | FOLD, 1) => Mode::Permissive,
+        (SUBTYPE | BOUND | FOLD, _) => return None,
+        _ => Mode::Strict,
+    };
+    alone(call, out).or_else(|| {
+        Some(match Schema::check(call.schema) {
+            Ok(schema) => under(schema, mode, call, out),
+            Err(refusal) => Outcome::Refused(refusal.number()),
+        })
+    })
+}
+
+#[test]
+fn answers_are_the_published_ones() {
+    let mut jobs = Gen::new(2026);
+    let mut compared = 0;
+    for _ in 0..4000 {
+        let bytes = jobs.job();
+        let Some(job) = read_job(&bytes) else {
+            continue;
+        };
+        for question in &job.questions {
+            let call = question.call(job.schema);
+            let mut out = [7; FORM_BYTES];
+            let Some(outcome) = told(&call, &mut out) else {
+                continue;
+            };
+            assert_eq!(outcome, answer(&call), "{call:?}");
+            let filled = match &outcome {
+                Outcome::Wrote(form) | Outcome::Attribute(_, form) => form.len(),
+                _ => 0,
+            };
+            assert!(out[filled..].iter().all(|byte| *byte == 7), "{call:?}");
+            compared += 1;
+        }
+    }
+    assert!(compared > 20_000, "only {compared} questions were compared");
+}
+
+#[test]
+fn refusals_have_their_numbers() {
+    for number in 1..=15 {
+        assert_eq!(Refusal::from_number(number).unwrap().number(), number);
+    }
+    assert_eq!(Refusal::from_number(0), None);
+    assert_eq!(Refusal::from_number(16), None);
+}

@@ -1,0 +1,43 @@
+-- `exports::checked_calls::tirncheav_all_attributes_checked` meets its contract. Assumes nothing.
+use lib.ListN.{length}
+use Rattle.exports.specs.Laws.Numbers.{numbered-in}
+use Rattle.exports.specs.Laws.Brief.{brief, names-call-short}
+use borrow.Author.Needs.{needs}
+use Rattle.exports.proofs.checked_calls.tirncheav_all_attributes_checked.Statement.{
+  statement,
+}
+use Rattle.exports.proofs.checked_calls.tirncheav_all_attributes_checked.Tie as tie
+
+check-again-requires : tie.Need-check-again-requires
+check-again-requires c κs = search needs
+
+all-attributes-checked-requires : tie.Need-all-attributes-checked-requires
+all-attributes-checked-requires c κs = search needs
+
+answer-number-requires : tie.Need-answer-number-requires
+answer-number-requires c κs =
+    let start = c .before .before .before .before .before .before .before .before .before .before .before .before in
+    let all-attributes-checked = c .before .before .before .before in
+    brief (all-attributes-checked .all-attributes-checked .result) (names-call-short (start .args .schema .now) (start .args .t .now) (length (start .args .out .now)) (length (start .args .work .now))) ((all-attributes-checked .all-attributes-checked .ensures) .answer)
+
+same-length : tie.Need-same-length
+same-length c = search needs
+
+same-length-2 : tie.Need-same-length-2
+same-length-2 c = search needs
+
+returns : tie.Need-returns
+returns c =
+    let all-attributes-checked = c .before .before .before .before .before in
+    numbered-in (c .answer-number .result) (c .answer-number .ensures) (all-attributes-checked .all-attributes-checked .ensures)
+
+pub tirncheav-all-attributes-checked-spec : {M : Type 1} → statement M
+tirncheav-all-attributes-checked-spec =
+    tie.close
+    (tie.spec
+    check-again-requires
+    all-attributes-checked-requires
+    answer-number-requires
+    same-length
+    same-length-2
+    returns)

@@ -1,0 +1,47 @@
+-- `exports::checked_calls::tirncheav_reduce_to_least_upper_bound_checked` meets its contract. Assumes nothing.
+use lib.ListN.{length}
+use Rattle.exports.specs.Laws.Numbers.{numbered-in}
+use Rattle.exports.specs.Laws.Brief.{brief, fold-short}
+use borrow.Author.Needs.{needs}
+use Rattle.exports.proofs.checked_calls.tirncheav_reduce_to_least_upper_bound_checked.Statement.{
+  statement,
+}
+use Rattle.exports.proofs.checked_calls.tirncheav_reduce_to_least_upper_bound_checked.Tie as tie
+
+check-again-requires : tie.Need-check-again-requires
+check-again-requires c κs = search needs
+
+reduce-to-least-upper-bound-checked-requires :
+    tie.Need-reduce-to-least-upper-bound-checked-requires
+reduce-to-least-upper-bound-checked-requires c κs = search needs
+
+answer-number-requires : tie.Need-answer-number-requires
+answer-number-requires c κs =
+    let start = c .before .before .before .before .before .before .before .before .before .before .before .before in
+    let check-again = c .before .before .before .before .before .before .before in
+    let reduce-to-least-upper-bound-checked = c .before .before .before .before in
+    brief (reduce-to-least-upper-bound-checked .reduce-to-least-upper-bound-checked .result) (fold-short (start .args .schema .now) (start .args .mode) (start .args .list .now) (length (start .args .out .now)) (length (start .args .work .now))) ((reduce-to-least-upper-bound-checked .reduce-to-least-upper-bound-checked .ensures (start .args .schema .now) (check-again .check-again .ensures)) .answer)
+
+same-length : tie.Need-same-length
+same-length c = search needs
+
+same-length-2 : tie.Need-same-length-2
+same-length-2 c = search needs
+
+returns : tie.Need-returns
+returns c =
+    let start = c .before .before .before .before .before .before .before .before .before .before .before .before .before in
+    let check-again = c .before .before .before .before .before .before .before .before in
+    let reduce-to-least-upper-bound-checked = c .before .before .before .before .before in
+    numbered-in (c .answer-number .result) (c .answer-number .ensures) (reduce-to-least-upper-bound-checked .reduce-to-least-upper-bound-checked .ensures (start .args .schema .now) (check-again .check-again .ensures))
+
+pub tirncheav-reduce-to-least-upper-bound-checked-spec : {M : Type 1} → statement M
+tirncheav-reduce-to-least-upper-bound-checked-spec =
+    tie.close
+    (tie.spec
+    check-again-requires
+    reduce-to-least-upper-bound-checked-requires
+    answer-number-requires
+    same-length
+    same-length-2
+    returns)

@@ -1,0 +1,63 @@
+-- A number says one answer. Assumes nothing.
+use Prim.Native.Nat.{ℕ, _+_, _*_, _/_, _%_, _<_, _≤_}
+use native.Mathlib.Omega.{arith}
+use mathlib.Core.List.{List}
+use mathlib.Core.Bool.{Bool, true, false}
+use mathlib.Core.Path.{_≡_, refl, ap, sym, subst, _∙_}
+use Rattle.cedar.specs.Outcome.{Outcome}
+use Rattle.validator.specs.declared.answers.Answer.{Answer}
+use Rattle.validator.specs.declared.answers.Answer.the-variants.{Refused, Yes, No, Nothing, Wrote, Attribute}
+use Rattle.validator.specs.Answers.{Answered, AnsweredIn}
+use Rattle.exports.specs.Numbers.{answerNumber, answerWith, readAnswer, Brief, Numbered, NumberedIn}
+
+-- A kind, and what stands above it.
+parts : (k n : ℕ) → k < 256 → readAnswer (k + 256 * n) ≡ answerWith k n
+parts k n l =
+    let low : (k + 256 * n) % 256 ≡ k = omega (arith, l) in
+    let high : (k + 256 * n) / 256 ≡ n = omega (arith, l) in
+    rw (low, high) refl
+
+-- A number is read as the answer that it was made of.
+pub reads : (a : Answer) → readAnswer (answerNumber a) ≡ a
+reads (Refused n) =
+    let low : 256 * n % 256 ≡ 0 = omega arith in
+    let high : 256 * n / 256 ≡ n = omega arith in
+    rw (low, high) refl
+reads Yes = refl
+reads No = refl
+reads Nothing = refl
+reads (Wrote n) = parts 4 n (omega arith)
+reads (Attribute false n) = parts 5 n (omega arith)
+reads (Attribute true n) = parts 6 n (omega arith)
+
+-- So no two answers have one number.
+pub one-answer : (a b : Answer) → answerNumber a ≡ answerNumber b → a ≡ b
+one-answer a b e = sym (reads a) ∙ ap readAnswer e ∙ reads b
+
+-- The lengths that an answer tells.
+pub wrote-brief : (a : Answer) (n : ℕ) → Brief a → a ≡ Wrote n → n ≤ 4096
+wrote-brief a n h e = subst Brief e h
+
+pub attribute-brief : (a : Answer) (q : Bool) (n : ℕ) → Brief a → a ≡ Attribute q n → n ≤ 4096
+attribute-brief a q n h e = subst Brief e h
+
+-- The number of an answer, case by case.
+pub refused-number : (a : Answer) (n : ℕ) → a ≡ Refused n → 0 + 256 * n ≡ answerNumber a
+refused-number a n e = omega arith ∙ sym (ap answerNumber e)
+
+pub wrote-number : (a : Answer) (n : ℕ) → a ≡ Wrote n → 4 + 256 * n ≡ answerNumber a
+wrote-number a n e = sym (ap answerNumber e)
+
+pub required-number : (a : Answer) (q : Bool) (n : ℕ) → a ≡ Attribute q n → q ≡ true → 6 + 256 * n ≡ answerNumber a
+required-number a q n e h = sym (ap answerNumber (e ∙ ap (λ (z : Bool). Attribute z n) h))
+
+pub optional-number : (a : Answer) (q : Bool) (n : ℕ) → a ≡ Attribute q n → q ≡ false → 5 + 256 * n ≡ answerNumber a
+optional-number a q n e h = sym (ap answerNumber (e ∙ ap (λ (z : Bool). Attribute z n) h))
+
+-- The number of what an entry answered.
+module _ {o : Outcome} {a : Answer} {before after : List ℕ} (r : ℕ) (e : r ≡ answerNumber a) where
+  pub numbered : Answered o before after a → Numbered o before after r
+  numbered q = record { number = e ∙ ap answerNumber (q .answer); result = q .result }
+
+  pub numbered-in : {work cleared : List ℕ} → AnsweredIn o before after work cleared a → NumberedIn o before after work cleared r
+  numbered-in q = record { number = e ∙ ap answerNumber (q .answer); result = q .result; cleared = q .cleared }

@@ -1,0 +1,54 @@
+-- One number for each answer: its kind in the low byte, and above it a refusal's number or a length. Assumes nothing: these are definitions.
+use Prim.Native.Nat.{ℕ, zero, suc, _+_, _*_, _/_, _%_, _≤_}
+use mathlib.Core.List.{List}
+use mathlib.Core.Bool.{true, false}
+use mathlib.Core.Path.{_≡_}
+use lib.ListN.{length, replicate}
+use Rattle.cedar.specs.Outcome.{Outcome, resultAfter}
+use Rattle.validator.specs.Answers.{answerOf}
+use Rattle.validator.specs.declared.answers.Answer.{Answer}
+use Rattle.validator.specs.declared.answers.Answer.the-variants.{Refused, Yes, No, Nothing, Wrote, Attribute}
+
+-- Kinds 0 to 6: refused, yes, no, none, wrote, optional attribute, required attribute.
+abbrev pub answerNumber : Answer → ℕ
+answerNumber (Refused n) = 256 * n
+answerNumber Yes = 1
+answerNumber No = 2
+answerNumber Nothing = 3
+answerNumber (Wrote n) = 4 + 256 * n
+answerNumber (Attribute false n) = 5 + 256 * n
+answerNumber (Attribute true n) = 6 + 256 * n
+
+-- The answer of a kind and what stands above it.
+abbrev pub answerWith : ℕ → ℕ → Answer
+answerWith zero v = Refused v
+answerWith (suc zero) v = Yes
+answerWith (suc (suc zero)) v = No
+answerWith (suc (suc (suc zero))) v = Nothing
+answerWith (suc (suc (suc (suc zero)))) v = Wrote v
+answerWith (suc (suc (suc (suc (suc zero))))) v = Attribute false v
+answerWith (suc (suc (suc (suc (suc (suc k)))))) v = Attribute true v
+
+-- The answer that a number says.
+abbrev pub readAnswer : ℕ → Answer
+readAnswer x = answerWith (x % 256) (x / 256)
+
+-- An answer that tells no more bytes than a form has.
+abbrev pub Brief : Answer → Type 0
+Brief (Refused n) = Unit {0}
+Brief Yes = Unit {0}
+Brief No = Unit {0}
+Brief Nothing = Unit {0}
+Brief (Wrote n) = n ≤ 4096
+Brief (Attribute q n) = n ≤ 4096
+
+-- A call that writes: its number, and the result buffer after it.
+pub record Numbered (o : Outcome) (before after : List ℕ) (r : ℕ) : Type 0 where
+  pub number : r ≡ answerNumber (answerOf o)
+  pub result : after ≡ resultAfter o before
+
+-- A call that also takes a workspace, which is all zero after.
+pub record NumberedIn (o : Outcome) (before after work workAfter : List ℕ) (r : ℕ) : Type 0 where
+  pub number : r ≡ answerNumber (answerOf o)
+  pub result : after ≡ resultAfter o before
+  pub cleared : workAfter ≡ replicate (length work) 0

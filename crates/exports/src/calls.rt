@@ -1,0 +1,130 @@
+// The calls, each with the schema's bytes: it is checked in every call.
+use crate::numbers::answer_number;
+use validator::all_attributes::all_attributes;
+use validator::are_types_disjoint::are_types_disjoint;
+use validator::convert::convert;
+use validator::euid_literal::euid_literal;
+use validator::is_consistent_with::is_consistent_with;
+use validator::is_subtype::is_subtype;
+use validator::least_upper_bound::least_upper_bound;
+use validator::lookup_attribute_type::lookup_attribute_type;
+use validator::may_have_attr::may_have_attr;
+use validator::reduce_to_least_upper_bound::reduce_to_least_upper_bound;
+use validator::typecheck_restricted_expr::typecheck_restricted_expr;
+ghost use mathlib.Core.Path.{_≡_};
+ghost use lib.ListN.{length};
+ghost use Rattle.cedar.specs.Limits.{standard};
+ghost use Rattle.cedar.specs.Calls.{subtypeCall, boundCall, foldCall, lookupCall, mayHaveCall, namesCall, literalCall, conformsCall, disjointCall, consistentCall, convertCall};
+ghost use Rattle.validator.specs.Answers.{answerOf};
+ghost use Rattle.exports.specs.Numbers.{answerNumber, Numbered, NumberedIn};
+
+// Whether no entity is of both types.
+#[no_mangle]
+pub extern "C" fn tirncheav_are_types_disjoint(t0: &[u8], t1: &[u8]) -> u64
+    ensures { λ r. ⌜ r ≡ answerNumber (answerOf (disjointCall standard (now (t0 .entry)) (now (t1 .entry)))) ⌝ }
+{
+    answer_number(are_types_disjoint(t0, t1))
+}
+
+// Whether a type is a subtype of another.
+#[no_mangle]
+pub extern "C" fn tirncheav_is_subtype(mode: u8, schema: &[u8], t0: &[u8], t1: &[u8]) -> u64
+    ensures { λ r. ⌜ r ≡ answerNumber (answerOf (subtypeCall standard mode (now (schema .entry)) (now (t0 .entry)) (now (t1 .entry)))) ⌝ }
+{
+    answer_number(is_subtype(mode, schema, t0, t1))
+}
+
+// The least upper bound of two types.
+#[no_mangle]
+pub extern "C" fn tirncheav_least_upper_bound(
+    mode: u8,
+    schema: &[u8],
+    t0: &[u8],
+    t1: &[u8],
+    out: &mut [u8],
+) -> u64
+    ensures { λ r. ⌜ Numbered (boundCall standard mode (now (schema .entry)) (now (t0 .entry)) (now (t1 .entry)) (length (now (out .entry)))) (now (out .entry)) (now (out .exit)) r ⌝ }
+{
+    answer_number(least_upper_bound(mode, schema, t0, t1, out))
+}
+
+// The least upper bound of a list of types.
+#[no_mangle]
+pub extern "C" fn tirncheav_reduce_to_least_upper_bound(
+    mode: u8,
+    schema: &[u8],
+    list: &[u8],
+    out: &mut [u8],
+    work: &mut [u8],
+) -> u64
+    ensures { λ r. ⌜ NumberedIn (foldCall standard mode (now (schema .entry)) (now (list .entry)) (length (now (out .entry))) (length (now (work .entry)))) (now (out .entry)) (now (out .exit)) (now (work .entry)) (now (work .exit)) r ⌝ }
+{
+    answer_number(reduce_to_least_upper_bound(mode, schema, list, out, work))
+}
+
+// The attribute of a type, with its required flag.
+#[no_mangle]
+pub extern "C" fn tirncheav_lookup_attribute_type(
+    schema: &[u8],
+    attr: u16,
+    t: &[u8],
+    out: &mut [u8],
+    work: &mut [u8],
+) -> u64
+    ensures { λ r. ⌜ NumberedIn (lookupCall standard (now (schema .entry)) attr (now (t .entry)) (length (now (out .entry))) (length (now (work .entry)))) (now (out .entry)) (now (out .exit)) (now (work .entry)) (now (work .exit)) r ⌝ }
+{
+    answer_number(lookup_attribute_type(schema, attr, t, out, work))
+}
+
+// Whether a value of a type might have an attribute.
+#[no_mangle]
+pub extern "C" fn tirncheav_may_have_attr(schema: &[u8], attr: u16, t: &[u8]) -> u64
+    ensures { λ r. ⌜ r ≡ answerNumber (answerOf (mayHaveCall standard (now (schema .entry)) attr (now (t .entry)))) ⌝ }
+{
+    answer_number(may_have_attr(schema, attr, t))
+}
+
+// The names of a type's attributes.
+#[no_mangle]
+pub extern "C" fn tirncheav_all_attributes(
+    schema: &[u8],
+    t: &[u8],
+    out: &mut [u8],
+    work: &mut [u8],
+) -> u64
+    ensures { λ r. ⌜ NumberedIn (namesCall standard (now (schema .entry)) (now (t .entry)) (length (now (out .entry))) (length (now (work .entry)))) (now (out .entry)) (now (out .exit)) (now (work .entry)) (now (work .exit)) r ⌝ }
+{
+    answer_number(all_attributes(schema, t, out, work))
+}
+
+// Whether a type and a core type may have a value in common.
+#[no_mangle]
+pub extern "C" fn tirncheav_is_consistent_with(t0: &[u8], t1: &[u8]) -> u64
+    ensures { λ r. ⌜ r ≡ answerNumber (answerOf (consistentCall standard (now (t0 .entry)) (now (t1 .entry)))) ⌝ }
+{
+    answer_number(is_consistent_with(t0, t1))
+}
+
+// The core type of a type.
+#[no_mangle]
+pub extern "C" fn tirncheav_convert(t: &[u8], out: &mut [u8]) -> u64
+    ensures { λ r. ⌜ Numbered (convertCall standard (now (t .entry)) (length (now (out .entry)))) (now (out .entry)) (now (out .exit)) r ⌝ }
+{
+    answer_number(convert(t, out))
+}
+
+// Has a value a type under a schema?
+#[no_mangle]
+pub extern "C" fn tirncheav_typecheck_restricted_expr(schema: &[u8], t: &[u8], v: &[u8]) -> u64
+    ensures { λ r. ⌜ r ≡ answerNumber (answerOf (conformsCall standard (now (schema .entry)) (now (t .entry)) (now (v .entry)))) ⌝ }
+{
+    answer_number(typecheck_restricted_expr(schema, t, v))
+}
+
+// The type of a uid.
+#[no_mangle]
+pub extern "C" fn tirncheav_euid_literal(schema: &[u8], v: &[u8], out: &mut [u8]) -> u64
+    ensures { λ r. ⌜ Numbered (literalCall standard (now (schema .entry)) (now (v .entry)) (length (now (out .entry)))) (now (out .entry)) (now (out .exit)) r ⌝ }
+{
+    answer_number(euid_literal(schema, v, out))
+}

@@ -1,0 +1,131 @@
+/*
+ * The type rules of Cedar policies, for C. Link libexports.a (x86-64 Linux).
+ *
+ * Every form comes as a pointer and a length, and is checked: any bytes are safe to pass. A pointer must be readable, or
+ * for `out` and `work` writable, over its length; it is not kept after the call. `out` and `work` must not overlap each
+ * other or any form. A length of 0 still asks for a pointer that is not null.
+ *
+ * Every call answers one number. Its low byte is the kind; TIRNCHEAV_VALUE is the rest: the number of the question that
+ * refused, or how many bytes were written.
+ *
+ * A refusal, yes, no and none leave `out` as it was. An answer fills the first bytes of `out` and no others. `work` is all
+ * zero after every call that takes it.
+ */
+#ifndef TIRNCHEAV_H
+#define TIRNCHEAV_H
+
+#include <stddef.h>
+#include <stdint.h>
+
+#ifdef __cplusplus
+extern "C" {
+#endif
+
+enum tirncheav_kind {
+    TIRNCHEAV_REFUSED = 0,  /* the value is the number of the question: 1 to 15 */
+    TIRNCHEAV_YES = 1,
+    TIRNCHEAV_NO = 2,
+    TIRNCHEAV_NONE = 3,
+    TIRNCHEAV_WROTE = 4,    /* the value is how many bytes of `out` were written */
+    TIRNCHEAV_OPTIONAL = 5, /* an optional attribute: its type's length, written to `out` */
+    TIRNCHEAV_REQUIRED = 6  /* a required attribute: its type's length, written to `out` */
+};
+
+#define TIRNCHEAV_KIND(answer) ((int)((answer) & 0xff))
+#define TIRNCHEAV_VALUE(answer) ((size_t)((answer) >> 8))
+
+/* ---- Calls that check the schema each time. They ask nothing of their bytes. */
+
+/* Yes if no entity is of both types, else no. */
+uint64_t tirncheav_are_types_disjoint(const uint8_t *t0, size_t t0_len, const uint8_t *t1, size_t t1_len);
+
+/* Yes if t0 is a subtype of t1 in mode 0 (strict) or 1 (permissive), else no. */
+uint64_t tirncheav_is_subtype(uint8_t mode, const uint8_t *schema, size_t schema_len, const uint8_t *t0, size_t t0_len,
+                              const uint8_t *t1, size_t t1_len);
+
+/* Writes the least upper bound of t0 and t1 in a mode. */
+uint64_t tirncheav_least_upper_bound(uint8_t mode, const uint8_t *schema, size_t schema_len, const uint8_t *t0,
+                                     size_t t0_len, const uint8_t *t1, size_t t1_len, uint8_t *out, size_t out_len);
+
+/* Writes the least upper bound of a list of types in a mode, from Never, left to right. */
+uint64_t tirncheav_reduce_to_least_upper_bound(uint8_t mode, const uint8_t *schema, size_t schema_len,
+                                               const uint8_t *list, size_t list_len, uint8_t *out, size_t out_len,
+                                               uint8_t *work, size_t work_len);
+
+/* Writes the type of an attribute of t and says whether it is required, or none. */
+uint64_t tirncheav_lookup_attribute_type(const uint8_t *schema, size_t schema_len, uint16_t attr, const uint8_t *t,
+                                         size_t t_len, uint8_t *out, size_t out_len, uint8_t *work, size_t work_len);
+
+/* Yes if a value of type t might have the attribute, else no. */
+uint64_t tirncheav_may_have_attr(const uint8_t *schema, size_t schema_len, uint16_t attr, const uint8_t *t,
+                                 size_t t_len);
+
+/* Writes the names of t's attributes, two bytes each, ascending. */
+uint64_t tirncheav_all_attributes(const uint8_t *schema, size_t schema_len, const uint8_t *t, size_t t_len,
+                                  uint8_t *out, size_t out_len, uint8_t *work, size_t work_len);
+
+/* Yes if t0 and the plain type t1 may have a value in common, else no. */
+uint64_t tirncheav_is_consistent_with(const uint8_t *t0, size_t t0_len, const uint8_t *t1, size_t t1_len);
+
+/* Writes the core type of t. */
+uint64_t tirncheav_convert(const uint8_t *t, size_t t_len, uint8_t *out, size_t out_len);
+
+/* Yes if the value v has the type t, else no. */
+uint64_t tirncheav_typecheck_restricted_expr(const uint8_t *schema, size_t schema_len, const uint8_t *t, size_t t_len,
+                                             const uint8_t *v, size_t v_len);
+
+/* Writes the type of the uid v, or none where the schema does not have it. */
+uint64_t tirncheav_euid_literal(const uint8_t *schema, size_t schema_len, const uint8_t *v, size_t v_len, uint8_t *out,
+                                size_t out_len);
+
+/* ---- A schema that is checked once. */
+
+/* Checks a schema: 0 if it is not whole, else a number to hand to the calls below with the same bytes. */
+uint64_t tirncheav_check_schema(const uint8_t *schema, size_t schema_len);
+
+/*
+ * Each call below answers as the one of its name above. `check` must be what tirncheav_check_schema gave for exactly
+ * these schema bytes, and the bytes must not have changed since: nothing tests it, and with any other number the call may
+ * read outside the schema. 0 is safe where it was given: the call is refused with 2.
+ */
+
+/* tirncheav_is_subtype, without the check. */
+uint64_t tirncheav_is_subtype_checked(const uint8_t *schema, size_t schema_len, uint64_t check, uint8_t mode,
+                                      const uint8_t *t0, size_t t0_len, const uint8_t *t1, size_t t1_len);
+
+/* tirncheav_least_upper_bound, without the check. */
+uint64_t tirncheav_least_upper_bound_checked(const uint8_t *schema, size_t schema_len, uint64_t check, uint8_t mode,
+                                             const uint8_t *t0, size_t t0_len, const uint8_t *t1, size_t t1_len,
+                                             uint8_t *out, size_t out_len);
+
+/* tirncheav_reduce_to_least_upper_bound, without the check. */
+uint64_t tirncheav_reduce_to_least_upper_bound_checked(const uint8_t *schema, size_t schema_len, uint64_t check,
+                                                       uint8_t mode, const uint8_t *list, size_t list_len,
+                                                       uint8_t *out, size_t out_len, uint8_t *work, size_t work_len);
+
+/* tirncheav_lookup_attribute_type, without the check. */
+uint64_t tirncheav_lookup_attribute_type_checked(const uint8_t *schema, size_t schema_len, uint64_t check,
+                                                 uint16_t attr, const uint8_t *t, size_t t_len, uint8_t *out,
+                                                 size_t out_len, uint8_t *work, size_t work_len);
+
+/* tirncheav_may_have_attr, without the check. */
+uint64_t tirncheav_may_have_attr_checked(const uint8_t *schema, size_t schema_len, uint64_t check, uint16_t attr,
+                                         const uint8_t *t, size_t t_len);
+
+/* tirncheav_all_attributes, without the check. */
+uint64_t tirncheav_all_attributes_checked(const uint8_t *schema, size_t schema_len, uint64_t check, const uint8_t *t,
+                                          size_t t_len, uint8_t *out, size_t out_len, uint8_t *work, size_t work_len);
+
+/* tirncheav_typecheck_restricted_expr, without the check. */
+uint64_t tirncheav_typecheck_restricted_expr_checked(const uint8_t *schema, size_t schema_len, uint64_t check,
+                                                     const uint8_t *t, size_t t_len, const uint8_t *v, size_t v_len);
+
+/* tirncheav_euid_literal, without the check. */
+uint64_t tirncheav_euid_literal_checked(const uint8_t *schema, size_t schema_len, uint64_t check, const uint8_t *v,
+                                        size_t v_len, uint8_t *out, size_t out_len);
+
+#ifdef __cplusplus
+}
+#endif
+
+#endif
