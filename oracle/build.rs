@@ -2,7 +2,7 @@
 //!
 //! The folder is `CEDAR_SRC`, or `../shared/docs/src` seen from the root of
 //! the repository. A cut that does not find its text as often as it expects
-//! stops the build.
+//! stops the build. With the feature `library` the static library is linked.
 
 use std::{env, fs, path::PathBuf};
 
@@ -131,12 +131,27 @@ fn folder() -> PathBuf {
 fn main() {
     println!("cargo:rerun-if-env-changed=CEDAR_SRC");
     println!("cargo:rerun-if-changed=build.rs");
+    if env::var_os("CARGO_FEATURE_LIBRARY").is_some() {
+        link_library();
+    }
     types();
     entity_type();
     action();
     schema();
     validation_mode();
     lub_help();
+}
+
+/// libexports.a, from the folder `TIRNCHEAV_LIB` or from where
+/// `rt staticlib exports` puts it.
+fn link_library() {
+    println!("cargo:rerun-if-env-changed=TIRNCHEAV_LIB");
+    let here = PathBuf::from(env::var_os("CARGO_MANIFEST_DIR").expect("cargo sets it"));
+    let made = here.join("../target/staticlib");
+    let folder = env::var_os("TIRNCHEAV_LIB").map_or(made, PathBuf::from);
+    println!("cargo:rerun-if-changed={}", folder.display());
+    println!("cargo:rustc-link-search=native={}", folder.display());
+    println!("cargo:rustc-link-lib=static=exports");
 }
 
 /// types.rs, whole.

@@ -85,13 +85,19 @@ impl Coverage {
 
     /// Count the outcomes of one job.
     pub fn count_job(&mut self, input: &[u8]) {
+        let outcomes = read_job(input).map(|job| job.outcomes());
+        self.count_outcomes(input, outcomes.as_deref());
+    }
+
+    /// Count what a job came to; none for a bad job.
+    pub fn count_outcomes(&mut self, input: &[u8], outcomes: Option<&[Outcome]>) {
         self.jobs += 1;
-        let Some(job) = read_job(input) else {
+        let (Some(job), Some(outcomes)) = (read_job(input), outcomes) else {
             self.bad_jobs += 1;
             return;
         };
-        for (question, outcome) in job.questions.iter().zip(job.outcomes()) {
-            self.count(question.op, &outcome);
+        for (question, outcome) in job.questions.iter().zip(outcomes) {
+            self.count(question.op, outcome);
         }
     }
 

@@ -2,7 +2,7 @@
 //! answer, every byte of the result buffer and every byte of the workspace.
 
 use crate::generate::Gen;
-use crate::jobs::{lines, read_job};
+use crate::jobs::{print_outcomes, read_job};
 use crate::model::{self, Rules};
 use crate::questions::{answer, lookup_part, operation::*, Call, Outcome, Part};
 
@@ -23,11 +23,16 @@ pub trait Candidate {
     /// `call.work`.
     fn call(&mut self, call: &Call<'_>, out: &mut [u8], work: &mut [u8]) -> Reply;
 
-    /// The second entry of lookup.
-    fn part(&mut self, form: &[u8], attr: u16) -> Part;
+    /// The second entry of lookup, if the candidate has it.
+    fn part(&mut self, _schema: &[u8], _form: &[u8], _attr: u16) -> Option<Part> {
+        None
+    }
 
-    /// The lines of a job.
-    fn lines(&mut self, job: &[u8]) -> Vec<u8>;
+    /// The lines of a job, if the candidate prints them; else the job's
+    /// questions are put to it as calls.
+    fn lines(&mut self, _job: &[u8]) -> Option<Vec<u8>> {
+        None
+    }
 }
 
 /// The model as a candidate.
@@ -46,12 +51,12 @@ impl Candidate for Model {
         }
     }
 
-    fn part(&mut self, form: &[u8], attr: u16) -> Part {
-        model::part(self.0, form, attr)
+    fn part(&mut self, schema: &[u8], form: &[u8], attr: u16) -> Option<Part> {
+        Some(model::part(self.0, schema, form, attr))
     }
 
-    fn lines(&mut self, job: &[u8]) -> Vec<u8> {
-        model::lines(self.0, job)
+    fn lines(&mut self, job: &[u8]) -> Option<Vec<u8>> {
+        Some(model::lines(self.0, job))
     }
 }
 
@@ -63,7 +68,7 @@ fn put(out: &mut [u8], form: &[u8]) -> usize {
 }
 
 /// What stands in the buffers before a call.
-const UNTOUCHED: u8 = 0xa5;
+pub const UNTOUCHED: u8 = 0xa5;
 
 /// Put one call to the candidate; none if all is as the oracle says.
 pub fn check_call(
@@ -99,12 +104,22 @@ pub fn check_call(
 }
 
 /// Put the second entry of lookup to the candidate.
-pub fn check_part(candidate: &mut dyn Candidate, form: &[u8], attr: u16) -> Option<String> {
-    let (reply, wanted) = (candidate.part(form, attr), lookup_part(form, attr));
+pub fn check_part(candidate: &mut dyn Candidate, call: &Call<'_>) -> Option<String> {
+    let reply = candidate.part(call.schema, call.t0, call.attr)?;
+    let wanted = lookup_part(call.schema, call.t0, call.attr);
     if reply != wanted {
-        return Some(format!("part {reply:?}, expected {wanted:?}"));
+        return Some(format!(
+            "part {reply:?}, expected {wanted:?} in {call:02x?}"
+        ));
     }
     None
+}
+
+/// Put the lookups of a job to the second entry.
+fn check_parts(candidate: &mut dyn Candidate, judged: &Judged) -> Option<String> {
+    let job = read_job(&judged.job)?;
+    let mut lookups = job.questions.iter().filter(|q| q.op == LOOKUP);
+    lookups.find_map(|q| check_part(candidate, &q.call(job.schema)))
 }
 
 /// A call with rooms of any size, kept with its bytes.
@@ -220,6 +235,8 @@ impl Gen {
 pub struct Judged {
     pub job: Vec<u8>,
     pub lines: Vec<u8>,
+    /// None for a bad job.
+    pub outcomes: Option<Vec<Outcome>>,
     pub calls: Vec<(Roomed, Outcome)>,
 }
 
@@ -227,7 +244,8 @@ pub struct Judged {
 pub fn judged(gen: &mut Gen) -> Judged {
     let job = gen.job();
     let calls = gen.roomed_calls(&job);
-    let lines = lines(&job);
+    let outcomes = read_job(&job).map(|j| j.outcomes());
+    let lines = print_outcomes(outcomes.as_deref());
     let calls = calls
         .into_iter()
         .map(|c| {
@@ -235,26 +253,44 @@ pub fn judged(gen: &mut Gen) -> Judged {
             (c, outcome)
         })
         .collect();
-    Judged { job, lines, calls }
+    Judged {
+        job,
+        lines,
+        outcomes,
+        calls,
+    }
+}
+
+/// Put the questions of a job to the candidate as calls.
+fn check_questions(candidate: &mut dyn Candidate, judged: &Judged) -> Option<String> {
+    let job = read_job(&judged.job)?;
+    let outcomes = judged.outcomes.as_ref()?;
+    for (question, expected) in job.questions.iter().zip(outcomes) {
+        let call = question.call(job.schema);
+        if let Some(what) = check_call(candidate, &call, expected) {
+            return Some(format!("{what} in {call:02x?}"));
+        }
+    }
+    None
 }
 
 /// Compare a candidate on one job and its calls; the first difference.
 pub fn difference(candidate: &mut dyn Candidate, judged: &Judged) -> Option<String> {
-    let lines = candidate.lines(&judged.job);
-    if lines != judged.lines {
-        return Some(first_line(&lines, &judged.lines));
+    match candidate.lines(&judged.job) {
+        Some(lines) if lines != judged.lines => return Some(first_line(&lines, &judged.lines)),
+        Some(_) => (),
+        None => {
+            if let Some(what) = check_questions(candidate, judged) {
+                return Some(what);
+            }
+        }
     }
     for (call, expected) in &judged.calls {
         if let Some(what) = check_call(candidate, &call.call(), expected) {
             return Some(format!("{what} in {call:02x?}"));
         }
-        if call.op == LOOKUP {
-            if let Some(what) = check_part(candidate, &call.t0, call.attr) {
-                return Some(format!("{what} in {call:02x?}"));
-            }
-        }
     }
-    None
+    check_parts(candidate, judged)
 }
 
 fn first_line(got: &[u8], wanted: &[u8]) -> String {

@@ -125,16 +125,22 @@ pub fn put_line(out: &mut Vec<u8>, index: usize, outcome: &Outcome) {
     out.push(b'\n');
 }
 
-/// All lines of a job.
-pub fn lines(input: &[u8]) -> Vec<u8> {
-    let Some(job) = read_job(input) else {
+/// The lines of a job's outcomes; none for a bad job.
+pub fn print_outcomes(outcomes: Option<&[Outcome]>) -> Vec<u8> {
+    let Some(outcomes) = outcomes else {
         return b"- 16 -\n".to_vec();
     };
     let mut out = Vec::new();
-    for (index, outcome) in job.outcomes().iter().enumerate() {
+    for (index, outcome) in outcomes.iter().enumerate() {
         put_line(&mut out, index, outcome);
     }
     out
+}
+
+/// All lines of a job.
+pub fn lines(input: &[u8]) -> Vec<u8> {
+    let outcomes = read_job(input).map(|job| job.outcomes());
+    print_outcomes(outcomes.as_deref())
 }
 
 /// The jobs of a batch, each behind its u32 length.

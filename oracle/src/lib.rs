@@ -55,6 +55,7 @@ pub mod noted;
 pub mod programs;
 pub mod properties;
 pub mod published;
+pub mod published;
 pub mod questions;
 pub mod rooms;
 pub mod sample;

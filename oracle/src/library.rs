@@ -1,73 +1,86 @@
-//! A candidate behind a C interface: one function for each entry, a slice as a
-//! pointer and a length, the answer as one number.
-//!
-//! The number: bits 0 to 7 the refusal; bits 8 to 15 what was answered (0 no,
-//! 1 yes, 2 none, 3 wrote, 4 an optional and 5 a required attribute); from bit
-//! 16 on the length written, or where a part starts; a part's length from bit
-//! 40 on.
+//! A candidate behind the C interface of include/tirncheav.h: a slice is a
+//! pointer and a length, the answer one number, whose low byte is the kind and
+//! whose rest is the refusal, how many bytes were written, or where a part
+//! starts and ends.
 
 use crate::harness::{Candidate, Reply};
 use crate::questions::{operation::*, Call, Part};
 
-type P = *const u8;
-type M = *mut u8;
+pub type P = *const u8;
+pub type M = *mut u8;
 
-/// The entries of the library.
+/// The entries that check the schema in every call.
 #[derive(Clone, Copy)]
 pub struct Entries {
     pub is_subtype: unsafe extern "C" fn(u8, P, usize, P, usize, P, usize) -> u64,
     pub least_upper_bound: unsafe extern "C" fn(u8, P, usize, P, usize, P, usize, M, usize) -> u64,
     pub are_types_disjoint: unsafe extern "C" fn(P, usize, P, usize) -> u64,
     pub lookup_attribute_type:
-        unsafe extern "C" fn(u16, P, usize, P, usize, M, usize, M, usize) -> u64,
-    pub lookup_part: unsafe extern "C" fn(u16, P, usize) -> u64,
-    pub may_have_attr: unsafe extern "C" fn(u16, P, usize, P, usize) -> u64,
+        unsafe extern "C" fn(P, usize, u16, P, usize, M, usize, M, usize) -> u64,
+    pub own_attribute_type: unsafe extern "C" fn(P, usize, u16, P, usize) -> u64,
+    pub may_have_attr: unsafe extern "C" fn(P, usize, u16, P, usize) -> u64,
     pub all_attributes: unsafe extern "C" fn(P, usize, P, usize, M, usize, M, usize) -> u64,
     pub is_consistent_with: unsafe extern "C" fn(P, usize, P, usize) -> u64,
-    pub try_from: unsafe extern "C" fn(P, usize, M, usize) -> u64,
+    pub convert: unsafe extern "C" fn(P, usize, M, usize) -> u64,
     pub typecheck_restricted_expr: unsafe extern "C" fn(P, usize, P, usize, P, usize) -> u64,
     pub reduce_to_least_upper_bound:
         unsafe extern "C" fn(u8, P, usize, P, usize, M, usize, M, usize) -> u64,
     pub euid_literal: unsafe extern "C" fn(P, usize, P, usize, M, usize) -> u64,
-    /// The lines of a job, written into a buffer; the length written.
-    pub lines: unsafe extern "C" fn(P, usize, M, usize) -> usize,
 }
 
-/// More than the lines of any job: the smallest question with a long answer is
-/// a literal of 13 bytes, whose answer has at most 4,096.
-const LINES: usize = 1 << 25;
-
-pub struct Library {
-    entries: Entries,
-    buffer: Vec<u8>,
+/// The check of a schema, and the entries that take its number.
+#[derive(Clone, Copy)]
+pub struct Checked {
+    pub check_schema: unsafe extern "C" fn(P, usize) -> u64,
+    pub is_subtype: unsafe extern "C" fn(P, usize, u64, u8, P, usize, P, usize) -> u64,
+    pub least_upper_bound:
+        unsafe extern "C" fn(P, usize, u64, u8, P, usize, P, usize, M, usize) -> u64,
+    pub lookup_attribute_type:
+        unsafe extern "C" fn(P, usize, u64, u16, P, usize, M, usize, M, usize) -> u64,
+    pub own_attribute_type: unsafe extern "C" fn(P, usize, u64, u16, P, usize) -> u64,
+    pub may_have_attr: unsafe extern "C" fn(P, usize, u64, u16, P, usize) -> u64,
+    pub all_attributes: unsafe extern "C" fn(P, usize, u64, P, usize, M, usize, M, usize) -> u64,
+    pub typecheck_restricted_expr: unsafe extern "C" fn(P, usize, u64, P, usize, P, usize) -> u64,
+    pub reduce_to_least_upper_bound:
+        unsafe extern "C" fn(P, usize, u64, u8, P, usize, M, usize, M, usize) -> u64,
+    pub euid_literal: unsafe extern "C" fn(P, usize, u64, P, usize, M, usize) -> u64,
 }
 
-impl Library {
-    pub fn new(entries: Entries) -> Library {
-        Library {
-            entries,
-            buffer: vec![0; LINES],
-        }
+/// The library, asked with the schema's bytes.
+pub struct Library(pub Entries);
+
+/// The library, asked with a schema that is checked before; entries that take
+/// no schema are as above.
+pub struct CheckedLibrary(pub Entries, pub Checked);
+
+fn reply(number: u64) -> Reply {
+    let value = (number >> 8) as usize;
+    match number & 255 {
+        0 => Reply::Refused(u8::try_from(value).expect("a refusal's number")),
+        1 => Reply::Yes,
+        2 => Reply::No,
+        3 => Reply::Nothing,
+        4 => Reply::Wrote(value),
+        5 => Reply::Attribute(false, value),
+        6 => Reply::Attribute(true, value),
+        other => panic!("no answer has the kind {other}"),
     }
 }
 
-fn reply(number: u64) -> Reply {
-    let length = (number >> 16) as usize;
-    match (number & 255, number >> 8 & 255) {
-        (0, 0) => Reply::No,
-        (0, 1) => Reply::Yes,
-        (0, 2) => Reply::Nothing,
-        (0, 3) => Reply::Wrote(length),
-        (0, 4) => Reply::Attribute(false, length),
-        (0, 5) => Reply::Attribute(true, length),
-        (0, other) => panic!("no answer has the number {other}"),
-        (refusal, _) => Reply::Refused(refusal as u8),
+fn part(number: u64) -> Part {
+    let at = (number >> 8 & 0xffff) as usize..(number >> 24) as usize;
+    match number & 255 {
+        0 => Part::Refused(u8::try_from(number >> 8).expect("a refusal's number")),
+        3 => Part::Nothing,
+        7 => Part::Attribute(false, at),
+        8 => Part::Attribute(true, at),
+        other => panic!("no part has the kind {other}"),
     }
 }
 
 impl Candidate for Library {
     fn call(&mut self, call: &Call<'_>, out: &mut [u8], work: &mut [u8]) -> Reply {
-        let e = &self.entries;
+        let e = &self.0;
         let (s, sn) = (call.schema.as_ptr(), call.schema.len());
         let (a, an) = (call.t0.as_ptr(), call.t0.len());
         let (b, bn) = (call.t1.as_ptr(), call.t1.len());
@@ -80,11 +93,11 @@ impl Candidate for Library {
                 SUBTYPE => (e.is_subtype)(mode, s, sn, a, an, b, bn),
                 BOUND => (e.least_upper_bound)(mode, s, sn, a, an, b, bn, o, on),
                 DISJOINT => (e.are_types_disjoint)(a, an, b, bn),
-                LOOKUP => (e.lookup_attribute_type)(attr, s, sn, a, an, o, on, w, wn),
-                MAY_HAVE => (e.may_have_attr)(attr, s, sn, a, an),
+                LOOKUP => (e.lookup_attribute_type)(s, sn, attr, a, an, o, on, w, wn),
+                MAY_HAVE => (e.may_have_attr)(s, sn, attr, a, an),
                 NAMES => (e.all_attributes)(s, sn, a, an, o, on, w, wn),
                 CONSISTENT => (e.is_consistent_with)(a, an, b, bn),
-                CONVERT => (e.try_from)(a, an, o, on),
+                CONVERT => (e.convert)(a, an, o, on),
                 CONFORMS => (e.typecheck_restricted_expr)(s, sn, a, an, b, bn),
                 FOLD => (e.reduce_to_least_upper_bound)(mode, s, sn, a, an, o, on, w, wn),
                 _ => (e.euid_literal)(s, sn, a, an, o, on),
@@ -92,23 +105,108 @@ impl Candidate for Library {
         })
     }
 
-    fn part(&mut self, form: &[u8], attr: u16) -> Part {
-        let number = unsafe { (self.entries.lookup_part)(attr, form.as_ptr(), form.len()) };
-        let start = (number >> 16 & 0xff_ffff) as usize;
-        let part = start..start + (number >> 40) as usize;
-        match (number & 255, number >> 8 & 255) {
-            (0, 2) => Part::Nothing,
-            (0, 4) => Part::Attribute(false, part),
-            (0, 5) => Part::Attribute(true, part),
-            (0, other) => panic!("no part has the number {other}"),
-            (refusal, _) => Part::Refused(refusal as u8),
+    fn part(&mut self, schema: &[u8], form: &[u8], attr: u16) -> Option<Part> {
+        let (s, sn) = (schema.as_ptr(), schema.len());
+        let entry = self.0.own_attribute_type;
+        Some(part(unsafe {
+            entry(s, sn, attr, form.as_ptr(), form.len())
+        }))
+    }
+}
+
+impl Candidate for CheckedLibrary {
+    fn call(&mut self, call: &Call<'_>, out: &mut [u8], work: &mut [u8]) -> Reply {
+        if matches!(call.op, DISJOINT | CONSISTENT | CONVERT) {
+            return Library(self.0).call(call, out, work);
         }
+        let e = &self.1;
+        let (s, sn) = (call.schema.as_ptr(), call.schema.len());
+        let (a, an) = (call.t0.as_ptr(), call.t0.len());
+        let (b, bn) = (call.t1.as_ptr(), call.t1.len());
+        let (o, on) = (out.as_mut_ptr(), out.len());
+        let (w, wn) = (work.as_mut_ptr(), work.len());
+        let (mode, attr) = (call.mode, call.attr);
+        // As above, and the number is that of the same schema.
+        reply(unsafe {
+            let c = (e.check_schema)(s, sn);
+            match call.op {
+                SUBTYPE => (e.is_subtype)(s, sn, c, mode, a, an, b, bn),
+                BOUND => (e.least_upper_bound)(s, sn, c, mode, a, an, b, bn, o, on),
+                LOOKUP => (e.lookup_attribute_type)(s, sn, c, attr, a, an, o, on, w, wn),
+                MAY_HAVE => (e.may_have_attr)(s, sn, c, attr, a, an),
+                NAMES => (e.all_attributes)(s, sn, c, a, an, o, on, w, wn),
+                CONFORMS => (e.typecheck_restricted_expr)(s, sn, c, a, an, b, bn),
+                FOLD => (e.reduce_to_least_upper_bound)(s, sn, c, mode, a, an, o, on, w, wn),
+                _ => (e.euid_literal)(s, sn, c, a, an, o, on),
+            }
+        })
     }
 
-    fn lines(&mut self, job: &[u8]) -> Vec<u8> {
-        let out = &mut self.buffer;
-        let n =
-            unsafe { (self.entries.lines)(job.as_ptr(), job.len(), out.as_mut_ptr(), out.len()) };
-        out[..n].to_vec()
+    fn part(&mut self, schema: &[u8], form: &[u8], attr: u16) -> Option<Part> {
+        let (s, sn) = (schema.as_ptr(), schema.len());
+        let (check, entry) = (self.1.check_schema, self.1.own_attribute_type);
+        Some(part(unsafe {
+            entry(s, sn, check(s, sn), attr, form.as_ptr(), form.len())
+        }))
     }
+}
+
+/// The static library, linked in: see build.rs.
+#[cfg(feature = "library")]
+pub mod linked {
+    use super::{Checked, Entries, M, P};
+
+    #[rustfmt::skip]
+    extern "C" {
+        fn tirncheav_is_subtype(m: u8, s: P, sn: usize, a: P, an: usize, b: P, bn: usize) -> u64;
+        fn tirncheav_least_upper_bound(m: u8, s: P, sn: usize, a: P, an: usize, b: P, bn: usize, o: M, on: usize) -> u64;
+        fn tirncheav_are_types_disjoint(a: P, an: usize, b: P, bn: usize) -> u64;
+        fn tirncheav_lookup_attribute_type(s: P, sn: usize, n: u16, a: P, an: usize, o: M, on: usize, w: M, wn: usize) -> u64;
+        fn tirncheav_own_attribute_type(s: P, sn: usize, n: u16, a: P, an: usize) -> u64;
+        fn tirncheav_may_have_attr(s: P, sn: usize, n: u16, a: P, an: usize) -> u64;
+        fn tirncheav_all_attributes(s: P, sn: usize, a: P, an: usize, o: M, on: usize, w: M, wn: usize) -> u64;
+        fn tirncheav_is_consistent_with(a: P, an: usize, b: P, bn: usize) -> u64;
+        fn tirncheav_convert(a: P, an: usize, o: M, on: usize) -> u64;
+        fn tirncheav_typecheck_restricted_expr(s: P, sn: usize, a: P, an: usize, b: P, bn: usize) -> u64;
+        fn tirncheav_reduce_to_least_upper_bound(m: u8, s: P, sn: usize, a: P, an: usize, o: M, on: usize, w: M, wn: usize) -> u64;
+        fn tirncheav_euid_literal(s: P, sn: usize, a: P, an: usize, o: M, on: usize) -> u64;
+        fn tirncheav_check_schema(s: P, sn: usize) -> u64;
+        fn tirncheav_is_subtype_checked(s: P, sn: usize, c: u64, m: u8, a: P, an: usize, b: P, bn: usize) -> u64;
+        fn tirncheav_least_upper_bound_checked(s: P, sn: usize, c: u64, m: u8, a: P, an: usize, b: P, bn: usize, o: M, on: usize) -> u64;
+        fn tirncheav_lookup_attribute_type_checked(s: P, sn: usize, c: u64, n: u16, a: P, an: usize, o: M, on: usize, w: M, wn: usize) -> u64;
+        fn tirncheav_own_attribute_type_checked(s: P, sn: usize, c: u64, n: u16, a: P, an: usize) -> u64;
+        fn tirncheav_may_have_attr_checked(s: P, sn: usize, c: u64, n: u16, a: P, an: usize) -> u64;
+        fn tirncheav_all_attributes_checked(s: P, sn: usize, c: u64, a: P, an: usize, o: M, on: usize, w: M, wn: usize) -> u64;
+        fn tirncheav_typecheck_restricted_expr_checked(s: P, sn: usize, c: u64, a: P, an: usize, b: P, bn: usize) -> u64;
+        fn tirncheav_reduce_to_least_upper_bound_checked(s: P, sn: usize, c: u64, m: u8, a: P, an: usize, o: M, on: usize, w: M, wn: usize) -> u64;
+        fn tirncheav_euid_literal_checked(s: P, sn: usize, c: u64, a: P, an: usize, o: M, on: usize) -> u64;
+    }
+
+    pub const ENTRIES: Entries = Entries {
+        is_subtype: tirncheav_is_subtype,
+        least_upper_bound: tirncheav_least_upper_bound,
+        are_types_disjoint: tirncheav_are_types_disjoint,
+        lookup_attribute_type: tirncheav_lookup_attribute_type,
+        own_attribute_type: tirncheav_own_attribute_type,
+        may_have_attr: tirncheav_may_have_attr,
+        all_attributes: tirncheav_all_attributes,
+        is_consistent_with: tirncheav_is_consistent_with,
+        convert: tirncheav_convert,
+        typecheck_restricted_expr: tirncheav_typecheck_restricted_expr,
+        reduce_to_least_upper_bound: tirncheav_reduce_to_least_upper_bound,
+        euid_literal: tirncheav_euid_literal,
+    };
+
+    pub const CHECKED: Checked = Checked {
+        check_schema: tirncheav_check_schema,
+        is_subtype: tirncheav_is_subtype_checked,
+        least_upper_bound: tirncheav_least_upper_bound_checked,
+        lookup_attribute_type: tirncheav_lookup_attribute_type_checked,
+        own_attribute_type: tirncheav_own_attribute_type_checked,
+        may_have_attr: tirncheav_may_have_attr_checked,
+        all_attributes: tirncheav_all_attributes_checked,
+        typecheck_restricted_expr: tirncheav_typecheck_restricted_expr_checked,
+        reduce_to_least_upper_bound: tirncheav_reduce_to_least_upper_bound_checked,
+        euid_literal: tirncheav_euid_literal_checked,
+    };
 }

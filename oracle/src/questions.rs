@@ -307,7 +307,10 @@ fn literal(call: &Call<'_>, schema: &mut SchemaCache<'_>) -> Refusable<Outcome> 
 }
 
 /// The second entry of lookup.
-pub fn lookup_part(form: &[u8], attr: u16) -> Part {
+pub fn lookup_part(schema: &[u8], form: &[u8], attr: u16) -> Part {
+    if read_schema(schema).is_none() {
+        return Part::Refused(2);
+    }
     let Some(ty) = read_type(form) else {
         return Part::Refused(3);
     };

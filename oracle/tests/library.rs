@@ -1,14 +1,11 @@
-//! The harness through a C interface: the oracle itself behind `Entries`, and
+//! The harness through the C interface: the oracle itself behind it, and
 //! entries that break one promise each.
 
 use oracle::generate::Gen;
-use oracle::harness::{difference, judged};
-use oracle::library::{Entries, Library};
+use oracle::harness::{difference, judged, Candidate};
+use oracle::library::{Checked, CheckedLibrary, Entries, Library, M, P};
 use oracle::questions::{answer, lookup_part, operation::*, Call, Outcome, Part};
 use std::slice::{from_raw_parts, from_raw_parts_mut};
-
-type P = *const u8;
-type M = *mut u8;
 
 unsafe fn part<'a>(p: P, n: usize) -> &'a [u8] {
     from_raw_parts(p, n)
@@ -19,15 +16,15 @@ unsafe fn number(call: Call<'_>, out: M, work: M) -> u64 {
     from_raw_parts_mut(work, call.work).fill(0);
     let write = |kind: u64, form: &[u8]| {
         from_raw_parts_mut(out, form.len()).copy_from_slice(form);
-        kind << 8 | (form.len() as u64) << 16
+        kind | (form.len() as u64) << 8
     };
     match answer(&call) {
-        Outcome::Refused(n) => n as u64,
-        Outcome::No => 0,
-        Outcome::Yes => 1 << 8,
-        Outcome::Nothing => 2 << 8,
-        Outcome::Wrote(form) => write(3, &form),
-        Outcome::Attribute(required, form) => write(4 + required as u64, &form),
+        Outcome::Refused(n) => (n as u64) << 8,
+        Outcome::Yes => 1,
+        Outcome::No => 2,
+        Outcome::Nothing => 3,
+        Outcome::Wrote(form) => write(4, &form),
+        Outcome::Attribute(required, form) => write(5 + required as u64, &form),
     }
 }
 
@@ -78,24 +75,24 @@ unsafe extern "C" fn are_types_disjoint(a: P, an: usize, b: P, bn: usize) -> u64
 
 #[rustfmt::skip]
 unsafe extern "C" fn lookup_attribute_type(
-    n: u16, s: P, sn: usize, a: P, an: usize, o: M, on: usize, w: M, wn: usize,
+    s: P, sn: usize, n: u16, a: P, an: usize, o: M, on: usize, w: M, wn: usize,
 ) -> u64 {
     let call = plain(LOOKUP, 0, n, part(s, sn), part(a, an), &[]);
     number(Call { room: on, work: wn, ..call }, o, w)
 }
 
-unsafe extern "C" fn part_of(n: u16, a: P, an: usize) -> u64 {
-    match lookup_part(part(a, an), n) {
-        Part::Refused(n) => n as u64,
-        Part::Nothing => 2 << 8,
-        Part::Attribute(required, range) => {
-            let kind = 4 + required as u64;
-            kind << 8 | (range.start as u64) << 16 | (range.len() as u64) << 40
+unsafe extern "C" fn own_attribute_type(s: P, sn: usize, n: u16, a: P, an: usize) -> u64 {
+    match lookup_part(part(s, sn), part(a, an), n) {
+        Part::Refused(n) => (n as u64) << 8,
+        Part::Nothing => 3,
+        Part::Attribute(required, at) => {
+            let kind = 7 + required as u64;
+            kind | (at.start as u64) << 8 | (at.end as u64) << 24
         }
     }
 }
 
-unsafe extern "C" fn may_have_attr(n: u16, s: P, sn: usize, a: P, an: usize) -> u64 {
+unsafe extern "C" fn may_have_attr(s: P, sn: usize, n: u16, a: P, an: usize) -> u64 {
     let call = plain(MAY_HAVE, 0, n, part(s, sn), part(a, an), &[]);
     number(call, none(), none())
 }
@@ -113,7 +110,7 @@ unsafe extern "C" fn is_consistent_with(a: P, an: usize, b: P, bn: usize) -> u64
     number(call, none(), none())
 }
 
-unsafe extern "C" fn try_from(a: P, an: usize, o: M, on: usize) -> u64 {
+unsafe extern "C" fn convert(a: P, an: usize, o: M, on: usize) -> u64 {
     let call = plain(CONVERT, 0, 0, &[], part(a, an), &[]);
     number(Call { room: on, ..call }, o, none())
 }
@@ -136,40 +133,122 @@ unsafe extern "C" fn euid_literal(s: P, sn: usize, a: P, an: usize, o: M, on: us
     number(Call { room: on, ..call }, o, none())
 }
 
-unsafe extern "C" fn lines(a: P, an: usize, o: M, on: usize) -> usize {
-    let lines = oracle::jobs::lines(part(a, an));
-    assert!(lines.len() <= on);
-    from_raw_parts_mut(o, lines.len()).copy_from_slice(&lines);
-    lines.len()
-}
-
 const ORACLE: Entries = Entries {
     is_subtype,
     least_upper_bound,
     are_types_disjoint,
     lookup_attribute_type,
-    lookup_part: part_of,
+    own_attribute_type,
     may_have_attr,
     all_attributes,
     is_consistent_with,
-    try_from,
+    convert,
     typecheck_restricted_expr: conforms,
     reduce_to_least_upper_bound: fold,
     euid_literal,
-    lines,
 };
 
-fn differences(entries: Entries) -> usize {
-    let mut library = Library::new(entries);
+/// The number of a schema here: its length and one, for the entries to see.
+unsafe extern "C" fn check_schema(_: P, sn: usize) -> u64 {
+    sn as u64 + 1
+}
+
+#[rustfmt::skip]
+unsafe extern "C" fn is_subtype_checked(
+    s: P, sn: usize, c: u64, m: u8, a: P, an: usize, b: P, bn: usize,
+) -> u64 {
+    assert_eq!(c, check_schema(s, sn));
+    is_subtype(m, s, sn, a, an, b, bn)
+}
+
+#[rustfmt::skip]
+unsafe extern "C" fn least_upper_bound_checked(
+    s: P, sn: usize, c: u64, m: u8, a: P, an: usize, b: P, bn: usize, o: M, on: usize,
+) -> u64 {
+    assert_eq!(c, check_schema(s, sn));
+    least_upper_bound(m, s, sn, a, an, b, bn, o, on)
+}
+
+#[rustfmt::skip]
+unsafe extern "C" fn lookup_attribute_type_checked(
+    s: P, sn: usize, c: u64, n: u16, a: P, an: usize, o: M, on: usize, w: M, wn: usize,
+) -> u64 {
+    assert_eq!(c, check_schema(s, sn));
+    lookup_attribute_type(s, sn, n, a, an, o, on, w, wn)
+}
+
+#[rustfmt::skip]
+unsafe extern "C" fn own_attribute_type_checked(
+    s: P, sn: usize, c: u64, n: u16, a: P, an: usize,
+) -> u64 {
+    assert_eq!(c, check_schema(s, sn));
+    own_attribute_type(s, sn, n, a, an)
+}
+
+#[rustfmt::skip]
+unsafe extern "C" fn may_have_attr_checked(
+    s: P, sn: usize, c: u64, n: u16, a: P, an: usize,
+) -> u64 {
+    assert_eq!(c, check_schema(s, sn));
+    may_have_attr(s, sn, n, a, an)
+}
+
+#[rustfmt::skip]
+unsafe extern "C" fn all_attributes_checked(
+    s: P, sn: usize, c: u64, a: P, an: usize, o: M, on: usize, w: M, wn: usize,
+) -> u64 {
+    assert_eq!(c, check_schema(s, sn));
+    all_attributes(s, sn, a, an, o, on, w, wn)
+}
+
+#[rustfmt::skip]
+unsafe extern "C" fn conforms_checked(
+    s: P, sn: usize, c: u64, a: P, an: usize, b: P, bn: usize,
+) -> u64 {
+    assert_eq!(c, check_schema(s, sn));
+    conforms(s, sn, a, an, b, bn)
+}
+
+#[rustfmt::skip]
+unsafe extern "C" fn fold_checked(
+    s: P, sn: usize, c: u64, m: u8, a: P, an: usize, o: M, on: usize, w: M, wn: usize,
+) -> u64 {
+    assert_eq!(c, check_schema(s, sn));
+    fold(m, s, sn, a, an, o, on, w, wn)
+}
+
+#[rustfmt::skip]
+unsafe extern "C" fn euid_literal_checked(
+    s: P, sn: usize, c: u64, a: P, an: usize, o: M, on: usize,
+) -> u64 {
+    assert_eq!(c, check_schema(s, sn));
+    euid_literal(s, sn, a, an, o, on)
+}
+
+const CHECKED: Checked = Checked {
+    check_schema,
+    is_subtype: is_subtype_checked,
+    least_upper_bound: least_upper_bound_checked,
+    lookup_attribute_type: lookup_attribute_type_checked,
+    own_attribute_type: own_attribute_type_checked,
+    may_have_attr: may_have_attr_checked,
+    all_attributes: all_attributes_checked,
+    typecheck_restricted_expr: conforms_checked,
+    reduce_to_least_upper_bound: fold_checked,
+    euid_literal: euid_literal_checked,
+};
+
+fn differences(candidate: &mut dyn Candidate) -> usize {
     let mut gen = Gen::new(5);
     (0..3000)
-        .filter(|_| difference(&mut library, &judged(&mut gen)).is_some())
+        .filter(|_| difference(candidate, &judged(&mut gen)).is_some())
         .count()
 }
 
 #[test]
 fn the_oracle_agrees_with_itself() {
-    assert_eq!(differences(ORACLE), 0);
+    assert_eq!(differences(&mut Library(ORACLE)), 0);
+    assert_eq!(differences(&mut CheckedLibrary(ORACLE, CHECKED)), 0);
 }
 
 /// A refusal that writes.
@@ -186,9 +265,9 @@ unsafe extern "C" fn bound_writes_when_refused(
 /// A byte past the answer.
 #[rustfmt::skip]
 unsafe extern "C" fn convert_writes_past(a: P, an: usize, o: M, on: usize) -> u64 {
-    let n = try_from(a, an, o, on);
-    let length = (n >> 16) as usize;
-    if n & 255 == 0 && length < on {
+    let n = convert(a, an, o, on);
+    let length = (n >> 8) as usize;
+    if n & 255 == 4 && length < on {
         *o.add(length) = 0;
     }
     n
@@ -206,6 +285,15 @@ unsafe extern "C" fn fold_leaves_workspace(
     n
 }
 
+/// A part that starts a byte too early.
+unsafe extern "C" fn part_starts_early(s: P, sn: usize, n: u16, a: P, an: usize) -> u64 {
+    let number = own_attribute_type(s, sn, n, a, an);
+    match number & 255 {
+        7 | 8 => number - (1 << 8),
+        _ => number,
+    }
+}
+
 #[test]
 fn broken_promises_are_seen() {
     let broken = [
@@ -214,7 +302,11 @@ fn broken_promises_are_seen() {
             ..ORACLE
         },
         Entries {
-            try_from: convert_writes_past,
+            convert: convert_writes_past,
+            ..ORACLE
+        },
+        Entries {
+            own_attribute_type: part_starts_early,
             ..ORACLE
         },
         Entries {
@@ -223,6 +315,6 @@ fn broken_promises_are_seen() {
         },
     ];
     for entries in broken {
-        assert!(differences(entries) > 0);
+        assert!(differences(&mut Library(entries)) > 0);
     }
 }

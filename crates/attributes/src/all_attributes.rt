@@ -1,11 +1,11 @@
 // The names of a type's attributes.
 use crate::lookup_attribute_type::Looked;
 use crate::lookup_attribute_type::look_up_types;
-use bounds::tables::entries_at;
 use bounds::writers::put_name;
 use forms::kinds::Kind;
 use forms::numbers::u16_at;
 use forms::widths::Width;
+use lengths::tables::entries_at;
 use schemas::entries::FoundEntry;
 use schemas::entries::find_entity;
 use schemas::sections::Sections;

@@ -1,7 +1,7 @@
 -- What is written of the bound of two attribute lists. Assumes nothing: these are definitions.
 use Prim.Native.Nat.{ℕ}
 use mathlib.Core.List.{List, []}
-use mathlib.Core.Bool.{Bool}
+use mathlib.Core.Bool.{Bool, true, false}
 use mathlib.Core.Option.{Option, none, some}
 use Rattle.cedar.specs.Types.{Mode, Ty, Attrs}
 use Rattle.cedar.specs.TypeForm.{count, enc}
@@ -21,3 +21,14 @@ countOf (err e) = 0
 abbrev pub pairForm : Option (Bool × Ty) → List ℕ
 pairForm none = []
 pairForm (some y) = enc (y .1)
+
+-- Whether there is a result.
+abbrev pub isOk : {A : Type 0} → Result A → Bool
+isOk (ok a) = true
+isOk (err e) = false
+
+-- Whether an attribute is kept.
+abbrev pub isKept : Result (Option (Bool × Ty)) → Bool
+isKept (ok none) = false
+isKept (ok (some y)) = true
+isKept (err e) = false

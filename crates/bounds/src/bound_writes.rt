@@ -1,16 +1,9 @@
 // The least upper bound of two types, written where the length pass found it to fit.
-use crate::bound_extents::attributes_extent;
-use crate::bound_extents::pair_extent;
-use crate::extents::Kept;
-use crate::extents::Pair;
-use crate::kinds::Joined;
-use crate::kinds::unlike_kinds;
-use crate::names::union_count;
-use crate::names::write_union;
-use crate::pairs::both_required;
-use crate::pairs::open_byte;
-use crate::tables::bodies_at;
-use crate::tables::entries_at;
+use crate::flags::both_required;
+use crate::flags::open_byte;
+use crate::kept::kept_count;
+use crate::kept::pair_kept;
+use crate::unions::write_union;
 use crate::writers::copy;
 use crate::writers::put_attribute;
 use crate::writers::put_kind;
@@ -19,8 +12,14 @@ use crate::writers::put_record;
 use forms::kinds::Kind;
 use forms::modes::Mode;
 use forms::numbers::u16_at;
+use forms::offsets::Offset;
 use forms::search::skip_below;
 use forms::widths::Width;
+use lengths::kinds::Joined;
+use lengths::kinds::unlike_kinds;
+use lengths::names::union_count;
+use lengths::tables::bodies_at;
+use lengths::tables::entries_at;
 ghost use mathlib.Core.Path.{_≡_};
 ghost use mathlib.Core.Bool.{true};
 ghost use Prim.Native.Nat.{_+_, _*_, _≤_};
@@ -31,12 +30,12 @@ ghost use Rattle.cedar.specs.TypeForm.{enc};
 ghost use Rattle.cedar.specs.Result.{ok};
 ghost use Rattle.cedar.specs.Bound.{union};
 ghost use Rattle.cedar.specs.Direct.{direct};
-ghost use Rattle.forms.specs.Parts.{rd, rest};
+ghost use Rattle.forms.specs.Parts.{rd, rest, kind};
 ghost use Rattle.forms.specs.TypeBytes.{whole, dec, decA, namesUp, namesOf};
-ghost use Rattle.bounds.specs.Extents.{table, formOf, Ready};
+ghost use Rattle.lengths.specs.Extents.{table, formOf, Ready};
 ghost use Rattle.bounds.specs.Written.{Written};
-ghost use Rattle.bounds.specs.Kinds.{asMode, unlike};
-ghost use Rattle.bounds.specs.Pairs.{Front, Tabled, attrsAt, joined};
+ghost use Rattle.lengths.specs.Kinds.{asMode, unlike};
+ghost use Rattle.lengths.specs.Pairs.{Front, Tabled, attrsAt, joined};
 ghost use Rattle.bounds.specs.Joins.{joinedAttrs, countOf, pairForm};
 
 // Writes the bound of two unlike kinds, neither of them Never, and says how long it is.
@@ -67,24 +66,12 @@ fn write_entities(a: &[u8], b: &[u8], out: &mut [u8]) -> usize
     requires { ⌜ Ready enc (ok (ent (union (namesOf (rd (now a) 1) (rest 3 (now a))) (namesOf (rd (now b) 1) (rest 3 (now b)))))) (now out) ⌝ }
     ensures { λ r. ⌜ Written (enc (ent (union (namesOf (rd (now (a .entry)) 1) (rest 3 (now (a .entry)))) (namesOf (rd (now (b .entry)) 1) (rest 3 (now (b .entry))))))) (now (out .entry)) (now (out .exit)) r ⌝ }
 {
-    let n = u16_at(a, 1);
-    let m = u16_at(b, 1);
-    let x = &a[3..];
-    let y = &b[3..];
+    let n = u16_at(a, Offset::ENTITY_COUNT);
+    let m = u16_at(b, Offset::ENTITY_COUNT);
+    let x = &a[Offset::ENTITY_NAMES..];
+    let y = &b[Offset::ENTITY_NAMES..];
     put_kind(out, Kind::ENTITY, union_count(x, n, y, m));
-    write_union(x, n, y, m, &mut out[3..]) + 3
-}
-
-// How many attributes the bound of two lists has.
-fn kept_count(mode: u8, a: &[u8], b: &[u8], at: usize, levels: usize) -> usize
-    requires { ⌜ Tabled levels at (now a) ⌝ }
-    requires { ⌜ Tabled levels at (now b) ⌝ }
-    ensures { λ r. ⌜ r ≡ countOf (joinedAttrs (asMode mode) (attrsAt levels at (now (a .entry))) (attrsAt levels at (now (b .entry)))) ⌝ }
-{
-    let Kept::Of(n, _) = attributes_extent(mode, a, b, at, levels) else {
-        return 0;
-    };
-    n
+    write_union(x, n, y, m, &mut out[Offset::ENTITY_NAMES..]) + Offset::ENTITY_NAMES
 }
 
 // Writes the bound of two types, and says how long it is.
@@ -108,13 +95,11 @@ pub fn write_bound(mode: u8, a: &[u8], b: &[u8], levels: usize, out: &mut [u8]) 
     match j {
         Kind::SET => {
             put_one(out, Kind::SET);
-            write_bound(mode, &a[1..], &b[1..], levels - 1, &mut out[1..]) + 1
+            let x = &a[Offset::ELEMENT..];
+            let y = &b[Offset::ELEMENT..];
+            write_bound(mode, x, y, levels - 1, &mut out[Offset::ELEMENT..]) + Offset::ELEMENT
         }
-        Kind::RECORD => {
-            let n = kept_count(mode, a, b, 2, levels - 1);
-            put_record(out, open_byte(a[1], b[1], n, u16_at(a, 2), u16_at(b, 2)), n);
-            write_attributes(mode, a, b, 2, n, levels - 1, &mut out[4..]) + 4
-        }
+        Kind::RECORD => write_record(mode, a, b, levels, out),
         Kind::ENTITY => {
             if mode == Mode::PERMISSIVE {
                 return write_entities(a, b, out);
@@ -122,15 +107,49 @@ pub fn write_bound(mode: u8, a: &[u8], b: &[u8], levels: usize, out: &mut [u8]) 
             write_form(a, out)
         }
         Kind::ACTION => {
-            if u16_at(a, 1) != u16_at(b, 1) {
+            if u16_at(a, Offset::ACTION_NAME) != u16_at(b, Offset::ACTION_NAME) {
                 return write_unlike(mode, j, k, out);
             }
-            copy(&a[0..5], out);
-            let n = u16_at(a, 3);
-            write_attributes(Mode::STRICT, a, b, 3, n, levels - 1, &mut out[5..]) + 5
+            write_action(a, b, levels, out)
         }
         _ => write_form(a, out),
     }
+}
+
+// Writes the bound of two records, and says how long it is.
+fn write_record(mode: u8, a: &[u8], b: &[u8], levels: usize, out: &mut [u8]) -> usize
+    requires { ⌜ (whole levels (now a) ≡ true) × (kind (now a) ≡ 8) ⌝ }
+    requires { ⌜ (whole levels (now b) ≡ true) × (kind (now b) ≡ 8) ⌝ }
+    requires { ⌜ Ready enc (direct (asMode mode) (dec levels (now a)) (dec levels (now b))) (now out) ⌝ }
+    ensures { λ r. ⌜ Written (formOf enc (direct (asMode mode) (dec levels (now (a .entry))) (dec levels (now (b .entry))))) (now (out .entry)) (now (out .exit)) r ⌝ }
+{
+    let at = Offset::RECORD_COUNT;
+    let n = kept_count(mode, a, b, at, levels - 1);
+    let is_open = open_byte(
+        a[Offset::OPEN],
+        b[Offset::OPEN],
+        n,
+        u16_at(a, at),
+        u16_at(b, at),
+    );
+    put_record(out, is_open, n);
+    let behind = Offset::RECORD_ENTRIES;
+    write_attributes(mode, a, b, at, n, levels - 1, &mut out[behind..]) + behind
+}
+
+// Writes the bound of two actions of one name, and says how long it is.
+fn write_action(a: &[u8], b: &[u8], levels: usize, out: &mut [u8]) -> usize
+    requires { ⌜ (whole levels (now a) ≡ true) × (kind (now a) ≡ 11) ⌝ }
+    requires { ⌜ (whole levels (now b) ≡ true) × (kind (now b) ≡ 11) ⌝ }
+    requires { ⌜ rd (now a) 1 ≡ rd (now b) 1 ⌝ }
+    requires { ⌜ Ready enc (direct (asMode 0) (dec levels (now a)) (dec levels (now b))) (now out) ⌝ }
+    ensures { λ r. ⌜ Written (formOf enc (direct (asMode 0) (dec levels (now (a .entry))) (dec levels (now (b .entry))))) (now (out .entry)) (now (out .exit)) r ⌝ }
+{
+    let at = Offset::ACTION_COUNT;
+    let behind = Offset::ACTION_ENTRIES;
+    copy(&a[0..behind], out);
+    let n = u16_at(a, at);
+    write_attributes(Mode::STRICT, a, b, at, n, levels - 1, &mut out[behind..]) + behind
 }
 
 // Writes the n attributes of the bound of two lists whose counts stand at `at`, and says how long they are.
@@ -159,14 +178,13 @@ fn write_attributes(
     let mut pos = Width::ATTRIBUTE * n;
     while 0 < left {
         let name = u16_at(e, 0);
-        let required = e[2];
-        let len = u16_at(e, 3);
+        let required = e[Offset::REQUIRED];
+        let len = u16_at(e, Offset::BODY_LENGTH);
         let passed = skip_below(Width::ATTRIBUTE, f, c, m, name);
-        let k = passed.entries;
         let off = passed.bytes;
-        f = &f[Width::ATTRIBUTE * k..];
+        f = &f[Width::ATTRIBUTE * passed.entries..];
         c = &c[off..];
-        m -= k;
+        m -= passed.entries;
         let x = write_pair(mode, e, &s[0..len], f, c, m, levels, &mut out[pos..]);
         e = &e[Width::ATTRIBUTE..];
         s = &s[len..];
@@ -174,7 +192,8 @@ fn write_attributes(
         if x == 0 {
             continue;
         }
-        put_attribute(&mut out[next..], name, both_required(required, f[2]), x);
+        let flag = both_required(required, f[Offset::REQUIRED]);
+        put_attribute(&mut out[next..], name, flag, x);
         next += Width::ATTRIBUTE;
         pos += x;
     }
@@ -198,12 +217,9 @@ fn write_pair(
     requires { ⌜ Ready pairForm (joined (asMode mode) (eqb (getD (now e) 2 0) 1) (dec levels (now t)) (findAttr (rd (now e) 0) (decA (dec levels) m (now f) (now c)))) (now out) ⌝ }
     ensures { λ r. ⌜ Written (formOf pairForm (joined (asMode mode) (eqb (getD (now (e .entry)) 2 0) 1) (dec levels (now (t .entry))) (findAttr (rd (now (e .entry)) 0) (decA (dec levels) m (now (f .entry)) (now (c .entry)))))) (now (out .entry)) (now (out .exit)) r ⌝ }
 {
-    match pair_extent(mode, e, t, f, c, m, levels) {
-        Pair::Kept(_) => {
-            let len = u16_at(f, 3);
-            write_bound(mode, t, &c[0..len], levels, out)
-        }
-        Pair::Dropped => 0,
-        Pair::Not(_) => 0,
+    if !pair_kept(mode, e, t, f, c, m, levels) {
+        return 0;
     }
+    let len = u16_at(f, Offset::BODY_LENGTH);
+    write_bound(mode, t, &c[0..len], levels, out)
 }

@@ -1,9 +1,6 @@
-// The least upper bound of two types, and the writers of type forms.
-pub mod bound_extents;
+// The least upper bound of two types, written, and the writers of type forms.
 pub mod bound_writes;
-pub mod extents;
-pub mod kinds;
-pub mod names;
-pub mod pairs;
-pub mod tables;
+pub mod flags;
+pub mod kept;
+pub mod unions;
 pub mod writers;

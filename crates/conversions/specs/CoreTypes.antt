@@ -5,7 +5,7 @@ use lib.Dec.{eqb}
 use Rattle.cedar.specs.Types.{Ty, Attrs}
 use Rattle.cedar.specs.Conversion.{convert, convertAttrs}
 use Rattle.cedar.specs.Result.{Result, notConvertible}
-use Rattle.bounds.specs.Extents.{orRefuse}
+use Rattle.lengths.specs.Extents.{orRefuse}
 
 unfoldable pub core : Ty → Result Ty
 core t = orRefuse notConvertible (convert t)

@@ -1,8 +1,4 @@
 // `TryFrom<Type>` into `CoreSchemaType`: a length pass, and a write pass where every part can be expressed.
-use bounds::extents::Extent;
-use bounds::extents::capped;
-use bounds::tables::bodies_at;
-use bounds::tables::entries_at;
 use bounds::writers::put_attribute;
 use bounds::writers::put_entity;
 use bounds::writers::put_kind;
@@ -13,11 +9,15 @@ use forms::numbers::u16_at;
 use forms::offsets::Offset;
 use forms::refusals::Refusal;
 use forms::widths::Width;
+use lengths::extents::Extent;
+use lengths::extents::capped;
+use lengths::tables::bodies_at;
+use lengths::tables::entries_at;
 ghost use mathlib.Core.Path.{_≡_};
 ghost use mathlib.Core.Bool.{true};
 ghost use Rattle.cedar.specs.TypeForm.{enc};
 ghost use Rattle.forms.specs.TypeBytes.{whole, dec, decA, Sound};
-ghost use Rattle.bounds.specs.Extents.{extentOf, formOf, table, Ready};
+ghost use Rattle.lengths.specs.Extents.{extentOf, formOf, table, Ready};
 ghost use Rattle.bounds.specs.Written.{Written};
 ghost use Rattle.conversions.specs.CoreTypes.{core, coreAttrs, boolOr};
 

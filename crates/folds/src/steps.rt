@@ -1,16 +1,16 @@
 // One step of a fold: a bound written into a half of the workspace.
-use bounds::bound_extents::bound_extent;
 use bounds::bound_writes::write_bound;
-use bounds::extents::Extent;
 use bounds::writers::copy;
 use forms::limits::Limits;
+use lengths::bound_extents::bound_extent;
+use lengths::extents::Extent;
 ghost use mathlib.Core.Path.{_≡_};
 ghost use mathlib.Core.Bool.{true};
 ghost use lib.ListN.{length};
 ghost use Rattle.cedar.specs.Bound.{bound};
 ghost use Rattle.forms.specs.Parts.{part};
 ghost use Rattle.forms.specs.TypeBytes.{whole, dec};
-ghost use Rattle.bounds.specs.Kinds.{asMode};
+ghost use Rattle.lengths.specs.Kinds.{asMode};
 ghost use Rattle.folds.specs.Steps.{Held, Stepped};
 
 // Where a step leads: to a bound of so many bytes, to none, by the number of its reason, or to one that is too long.

@@ -2,9 +2,9 @@
 use crate::job::print_job;
 use forms::limits::Limits;
 use forms::numbers::u16_at;
-use libc::STDERR_FILENO;
 use streams::Input;
 use streams::read_input;
+use streams::stop;
 use streams::write_output;
 ghost use mathlib.Core.Path.{_≡_};
 ghost use Prim.Native.Nat.{_≤_};
@@ -57,16 +57,9 @@ fn read_head() -> Head
     head_of(&bytes, n)
 }
 
-// Says on standard error why a batch ends here.
-fn stop(why: &[u8]) -> bool {
-    io::write_all(STDERR_FILENO, why);
-    false
-}
-
 // Reads a job that fills buf and prints its lines; false where the batch ends here.
 fn print_read(buf: &mut [u8]) -> bool {
     let Input::Bytes(n) = read_input(buf) else {
-        os::fail(b"standard input");
         return false;
     };
     if n < buf.len() {
@@ -87,10 +80,7 @@ fn print_next(buffer: &mut [u8]) -> bool
         Head::End => false,
         Head::Cut => stop(b"standard input: a length is cut short\n"),
         Head::TooLong => stop(b"standard input: a job is too long\n"),
-        Head::Unreadable => {
-            os::fail(b"standard input");
-            false
-        }
+        Head::Unreadable => false,
     }
 }
 

@@ -6,18 +6,12 @@ mod print;
 
 use calls::Call;
 use calls::Form;
-use libc::STDERR_FILENO;
 use streams::Input;
 use streams::read_input;
+use streams::stop;
 ghost use mathlib.Core.Path.{_≡_};
 ghost use Prim.Native.Nat.{_+_, _<_};
 ghost use lib.ListN.{length};
-
-// Says on standard error why the calls end here.
-fn stop(why: &[u8]) -> bool {
-    io::write_all(STDERR_FILENO, why);
-    false
-}
 
 // Prints the line of a call whose bodies are these.
 fn print_parts(call: Call, bodies: &[u8])
@@ -40,7 +34,6 @@ fn print_call(call: Call, buf: &mut [u8]) -> bool
     requires { ⌜ (call .room < 65536) × (call .workspace < 65536) ⌝ }
 {
     let Input::Bytes(n) = read_input(buf) else {
-        os::fail(b"standard input");
         return false;
     };
     if n < buf.len() {
@@ -56,7 +49,6 @@ fn print_next(bodies: &mut [u8]) -> bool
 {
     let mut head = [0u8; Form::HEAD];
     let Input::Bytes(n) = read_input(&mut head) else {
-        os::fail(b"standard input");
         return false;
     };
     if n == 0 {

@@ -4,7 +4,7 @@ use libc::STDIN_FILENO;
 ghost use Rattle.streams.specs.Within.{inputWithin, gotWithin};
 ghost use lib.ListN.{length};
 
-// The bytes that came, or a failure, which errno tells.
+// The bytes that came, or a failure.
 pub enum Input {
     Bytes(usize),
     Unreadable,
@@ -17,7 +17,8 @@ enum Got {
     Failed,
 }
 
-// One read. A read that a signal cut short, or for which nothing was there yet, brings no bytes.
+// One read. A read that a signal cut short, or for which nothing was there yet, brings no bytes; where it fails, says so on standard
+// error.
 fn read_some(buf: &mut [u8]) -> Got
     ensures { λ r. ⌜ gotWithin r (length (now (buf .entry))) ⌝ }
 {
@@ -26,6 +27,7 @@ fn read_some(buf: &mut [u8]) -> Got
         if may_try_again() {
             return Got::Bytes(0);
         }
+        os::fail(b"standard input");
         return Got::Failed;
     }
     let n = io::count(got, buf);

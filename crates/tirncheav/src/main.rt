@@ -7,10 +7,8 @@ use streams::read_input;
 // One byte more than a job may have is read, so that a longer one is known to be bad.
 fn main() {
     let mut buffer = [0u8; Limits::BLOCK_BYTES + 1];
-    match read_input(&mut buffer) {
-        Input::Bytes(n) => {
-            print_job(&buffer[..n]);
-        }
-        Input::Unreadable => os::fail(b"standard input"),
-    }
+    let Input::Bytes(n) = read_input(&mut buffer) else {
+        return;
+    };
+    print_job(&buffer[..n]);
 }

@@ -1,12 +1,12 @@
 // `TryFrom<Type>` into `CoreSchemaType`.
 use crate::answers::Answer;
 use crate::rooms::answer_fits;
-use bounds::extents::Extent;
 use conversions::core_types::core_extent;
 use conversions::core_types::write_core;
 use forms::limits::Limits;
 use forms::refusals::Refusal;
 use forms::types::whole_type;
+use lengths::extents::Extent;
 ghost use lib.ListN.{length};
 ghost use Rattle.cedar.specs.Limits.{standard};
 ghost use Rattle.cedar.specs.Calls.{convertCall};

@@ -1,12 +1,12 @@
 // The least upper bound of two types.
 use crate::answers::Answer;
 use crate::rooms::answer_fits;
-use bounds::bound_extents::bound_extent;
 use bounds::bound_writes::write_bound;
-use bounds::extents::Extent;
 use forms::limits::Limits;
 use forms::refusals::Refusal;
 use forms::types::whole_type;
+use lengths::bound_extents::bound_extent;
+use lengths::extents::Extent;
 use relations::modes::is_mode;
 use schemas::whole::Checked;
 use schemas::whole::check_schema;

@@ -4,7 +4,8 @@
 //! `compare --program PATH --seed N --jobs K` compares a program that reads
 //! one job on standard input.
 //! `compare --replay PATH --seed N --jobs K` compares a program that reads a
-//! batch, with some thousand jobs to a run.
+//! batch, with some thousand jobs to a run; with `--exhaustive` for seed and
+//! jobs, on every small question.
 //! `compare --rooms PATH --seed N --jobs K` compares the program `rooms`.
 //! `compare --library --seed N --jobs K`, with the feature `library`, compares
 //! the static library: every question of each job, and calls with rooms.
@@ -14,7 +15,7 @@ use oracle::coverage::Coverage;
 use oracle::exhaustive;
 use oracle::generate::Gen;
 use oracle::harness::{difference, judged, Candidate, Model};
-use oracle::jobs::lines;
+use oracle::jobs::{lines, print_outcomes, read_job};
 use oracle::model::{self, Rules};
 use oracle::programs;
 use oracle::rooms::Lent;
@@ -122,17 +123,28 @@ fn compare_exhaustively() -> ExitCode {
 /// The answers of a program to some jobs, in turn.
 type Asker = fn(&str, &[Vec<u8>]) -> Vec<Vec<u8>>;
 
-fn compare_program(path: &str, ask: Asker, run: u64, args: &Arguments) -> ExitCode {
+/// The jobs to put to a program.
+fn jobs(args: &Arguments) -> Box<dyn Iterator<Item = Vec<u8>>> {
+    if args.has("--exhaustive") {
+        return Box::new(exhaustive::jobs().into_iter());
+    }
     let mut gen = Gen::new(args.number("--seed", 1));
+    Box::new((0..args.number("--jobs", 1000)).map(move |_| gen.job()))
+}
+
+fn compare_program(path: &str, ask: Asker, run: usize, args: &Arguments) -> ExitCode {
     let mut coverage = Coverage::default();
     let mut differences = 0;
-    let mut left = args.number("--jobs", 1000);
-    while left > 0 {
-        let jobs: Vec<Vec<u8>> = (0..left.min(run)).map(|_| gen.job()).collect();
-        left -= jobs.len() as u64;
+    let mut left = jobs(args);
+    loop {
+        let jobs: Vec<Vec<u8>> = left.by_ref().take(run).collect();
+        if jobs.is_empty() {
+            break;
+        }
         for (job, got) in jobs.iter().zip(ask(path, &jobs)) {
-            coverage.count_job(job);
-            let wanted = lines(job);
+            let outcomes = read_job(job).map(|j| j.outcomes());
+            coverage.count_outcomes(job, outcomes.as_deref());
+            let wanted = print_outcomes(outcomes.as_deref());
             if got != wanted {
                 differences += 1;
                 if differences <= 5 {

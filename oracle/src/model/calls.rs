@@ -195,7 +195,10 @@ impl Rules {
 }
 
 /// The second entry of lookup.
-pub fn part(rules: Rules, form: &[u8], attr: u16) -> Part {
+pub fn part(rules: Rules, schema: &[u8], form: &[u8], attr: u16) -> Part {
+    if rules.whole_schema(schema).is_none() {
+        return Part::Refused(2);
+    }
     let Some(ty) = rules.whole_type(form) else {
         return Part::Refused(3);
     };

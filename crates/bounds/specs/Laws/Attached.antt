@@ -15,10 +15,10 @@ use Rattle.cedar.specs.Outcome.{over}
 use Rattle.cedar.specs.Direct.{direct}
 use Rattle.forms.specs.Parts.{rest}
 use Rattle.bounds.specs.Written.{Written}
-use Rattle.bounds.specs.Extents.{formOf, Ready}
-use Rattle.bounds.specs.Pairs.{joined, joinedTo}
-use Rattle.bounds.specs.Laws.Extents.{before}
-use Rattle.bounds.specs.Laws.Pairs.{after}
+use Rattle.lengths.specs.Extents.{formOf, Ready}
+use Rattle.lengths.specs.Pairs.{joined, joinedTo}
+use Rattle.lengths.specs.Laws.Extents.{before}
+use Rattle.lengths.specs.Laws.Pairs.{after}
 use Rattle.bounds.specs.Laws.Writing.{back, filling-pos, filling-body}
 use Rattle.bounds.specs.Laws.Laying.{Laying, ready-room, laying-ready, laying-at, laying-entry, laying-small, laying-more}
 use Rattle.bounds.specs.Joins.{pairForm}

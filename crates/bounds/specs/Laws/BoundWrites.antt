@@ -23,20 +23,19 @@ use Rattle.forms.specs.Parts.{part, rest, rd, kind}
 use Rattle.forms.specs.TypeBytes.{whole, dec, namesUp, namesOf}
 use Rattle.forms.specs.Laws.Parts.{part-is, length-part, length-rest}
 use Rattle.forms.specs.Laws.Views.{is-record, is-entity, is-action, is-extension, is-atom}
-use Rattle.bounds.specs.declared.kinds.Joined.{Joined}
-use Rattle.bounds.specs.declared.kinds.Joined.the-variants.{Kind, Not}
-use Rattle.bounds.specs.declared.extents.Kept.{Kept}
-use Rattle.bounds.specs.declared.extents.Kept.the-variants.{Of as KeptOf, Not as KeptNot}
+use Rattle.lengths.specs.declared.kinds.Joined.{Joined}
+use Rattle.lengths.specs.declared.kinds.Joined.the-variants.{Kind, Not}
 use Rattle.bounds.specs.Written.{Written}
-use Rattle.bounds.specs.Extents.{table, formOf, Ready}
-use Rattle.bounds.specs.Kinds.{asMode, code, unlike, joinedOf}
-use Rattle.bounds.specs.Pairs.{attrsAt, keptOf}
-use Rattle.bounds.specs.Joins.{joinedAttrs, countOf}
-use Rattle.bounds.specs.Laws.Extents.{length-entries, Cut}
-use Rattle.bounds.specs.Laws.Kinds.{asMode-strict, asMode-permissive, unlike-of}
+use Rattle.lengths.specs.Extents.{table, formOf, Ready}
+use Rattle.lengths.specs.Kinds.{asMode, code, unlike, joinedOf}
+use Rattle.lengths.specs.Pairs.{attrsAt}
+use Rattle.bounds.specs.Joins.{joinedAttrs, countOf, isOk}
+use Rattle.bounds.specs.Laws.Kept.{ok-bind, joined-direct, strict-many}
+use Rattle.lengths.specs.Laws.Extents.{length-entries, Cut}
+use Rattle.lengths.specs.Laws.Kinds.{asMode-strict, asMode-permissive, unlike-of}
 use Rattle.bounds.specs.Laws.Laying.{ready-room, written-known}
-use Rattle.bounds.specs.Laws.Tables.{attrs-count}
-use Rattle.bounds.specs.Laws.Bounds.{form-is, ordered, never-left, never-right, unlike-join, set-cut, record-join, action-join, action-apart, extension-join, extension-apart, entity-join, atoms-join, atom-form}
+use Rattle.lengths.specs.Laws.Tables.{attrs-count}
+use Rattle.lengths.specs.Laws.Bounds.{form-is, ordered, never-left, never-right, unlike-join, set-cut, record-join, action-join, action-apart, extension-join, extension-apart, entity-join, atoms-join, atom-form}
 
 first-code : (t : Ty) → kind (enc t) ≡ code t
 unfolding enc
@@ -102,58 +101,6 @@ entities-few a b n m k e f h g =
     names-long : (ns : List ℕ) → length (encNames ns) ≡ 2 * length ns
     names-long [] = refl
     names-long (n ∷ ns) = omega (arith, names-long ns)
-
--- How many attributes the length pass counted.
-module _ (r : Result Attrs) (x : Kept) (told : x ≡ keptOf r) where
-  pub count-of : (n y : ℕ) → x ≡ KeptOf n y → n ≡ countOf r
-  count-of n y e = go r told
-    where
-      go : (r : Result Attrs) → x ≡ keptOf r → n ≡ countOf r
-      go (ok cs) f = cc
-      go (err d) f = absurd (let z : _≡_ {A = ℕ} 0 1 = cc in omega arith)
-
-  pub count-not : (d : ℕ) → x ≡ KeptNot d → 0 ≡ countOf r
-  count-not d e = go r told
-    where
-      go : (r : Result Attrs) → x ≡ keptOf r → 0 ≡ countOf r
-      go (ok cs) f = absurd (let z : _≡_ {A = ℕ} 0 1 = cc in omega arith)
-      go (err d) f = refl
-
--- Strict, no attribute is dropped.
-strict-count : (xs ys cs : Attrs) → directAttrs strict xs ys ≡ ok cs → count cs ≡ count xs
-unfolding direct
-strict-count nil ys cs e = let z : nil ≡ cs = cc in rw (← z) refl
-strict-count (attr n r t xs) ys cs e = go (find n ys) (λ ls q. strict-count xs ys ls q) e
-  where
-    more : (s : Bool) (c : Result Ty) (ds : Result Attrs) → ((ls : Attrs) → ds ≡ ok ls → count ls ≡ count xs) →
-        joinEqual n r s c ds ≡ ok cs → count cs ≡ suc (count xs)
-    more s (err d) ds f e = absurd (let z : _≡_ {A = ℕ} 0 1 = cc in omega arith)
-    more s (ok c) ds f e = flags (eqFlag r s) ds f e
-      where
-        flags : (b : Bool) (ds : Result Attrs) → ((ls : Attrs) → ds ≡ ok ls → count ls ≡ count xs) →
-            cond b (bind ds (λ l. ok (attr n r c l))) (err 11) ≡ ok cs → count cs ≡ suc (count xs)
-        flags false ds f e = absurd (let z : _≡_ {A = ℕ} 0 1 = cc in omega arith)
-        flags true (err d) f e = absurd (let z : _≡_ {A = ℕ} 0 1 = cc in omega arith)
-        flags true (ok ls) f e = let z : attr n r c ls ≡ cs = cc in rw (← z) (ap suc (f ls refl))
-
-    go : (o : Option (Bool × Ty)) → ((ls : Attrs) → directAttrs strict xs ys ≡ ok ls → count ls ≡ count xs) →
-        maybe (absent strict (directAttrs strict xs ys)) (λ y. joinOne strict n r (y .0) (direct strict t (y .1)) (directAttrs strict xs ys)) o ≡ ok cs →
-        count cs ≡ suc (count xs)
-    go none f e = absurd (let z : _≡_ {A = ℕ} 0 1 = cc in omega arith)
-    go (some y) f e = more (y .0) (direct strict t (y .1)) (directAttrs strict xs ys) f e
-
--- Where the mode allows the names, the bound of the lists is that of their attributes.
-pub joined-direct : (m : Mode) (xs ys cs : Attrs) → joinedAttrs m xs ys ≡ ok cs → joinedAttrs m xs ys ≡ directAttrs m xs ys
-joined-direct m xs ys cs e = go (isPermissive m || eqNames (names xs) (names ys)) (directAttrs m xs ys) e
-  where
-    go : (b : Bool) (r : Result Attrs) → cond b r (err 12) ≡ ok cs → cond b r (err 12) ≡ r
-    go true r e = refl
-    go false r e = absurd (let z : _≡_ {A = ℕ} 0 1 = cc in omega arith)
-
-strict-many : (xs ys cs : Attrs) → joinedAttrs (asMode 0) xs ys ≡ ok cs → count xs ≡ count cs
-strict-many xs ys cs z =
-    let s : joinedAttrs strict xs ys ≡ ok cs = rw (asMode-strict 0 (λ z. omega arith)) at z in
-    sym (strict-count xs ys cs (sym (joined-direct strict xs ys cs s) ∙ s))
 
 -- Two whole forms, and room for their bound.
 pub record Given (mode l : ℕ) (a b o : List ℕ) : Type 0 where
@@ -243,7 +190,12 @@ module _ {mode l : ℕ} {a b o : List ℕ} (g : Given mode l a b o) where
             let one = is-atom l a (g .first) p7 p8 p10 p11 p12 .sized in
             copied (g .ready) (atom (s .0)) a (s .1 .0) (atom-form (s .0) ∙ ap (λ (n : ℕ). n ∷ []) (s .1 .1) ∙ sym (one-byte a one))
 
-    -- Records: n attributes are kept.
+    -- Records: their attributes have a bound, and n of them are kept.
+    pub records-known : kind a ≡ 8 → isOk (Tables mode 2) ≡ true
+    records-known e =
+        sym (ok-bind (Tables mode 2) (joinRecord (eqb (getD a 1 0) 1) (eqb (getD b 1 0) 1) (attrsAt (l - 1) 2 a) (attrsAt (l - 1) 2 b)))
+        ∙ sym (ap isOk (record-join m l a b (g .first) (g .second) e (sym k ∙ e))) ∙ ap isOk (g .ready .is)
+
     pub records-cut : kind a ≡ 8 → (n i j x : ℕ) → n ≡ countOf (Tables mode 2) → i ≡ rd a 2 → j ≡ rd b 2 → x ≡ flag (eqb (getD a 1 0) 1 || eqb (getD b 1 0) 1 || not (eqb n i && eqb n j)) →
         Cut table enc (8 ∷ x ∷ u16 n) (Tables mode 2) Both
     unfolding enc Ordered
@@ -272,6 +224,13 @@ module _ {mode l : ℕ} {a b o : List ℕ} (g : Given mode l a b o) where
           let f = sym k ∙ e in
           known (g .ready) (unlike m (kind a) (kind b)) (action-apart m l a b (g .first) (g .second) e f n i q r h ∙ rw (e, f) refl)
 
+      -- Of one name they join strictly.
+      pub actions-strict : n ≡ i → Same Both (direct (asMode 0) (dec l a) (dec l b)) o
+      actions-strict h =
+          let f = sym k ∙ e in
+          known (g .ready) (direct (asMode 0) (dec l a) (dec l b))
+          (action-join m l a b (g .first) (g .second) e f n i q r h ∙ sym (action-join (asMode 0) l a b (g .first) (g .second) e f n i q r h))
+
       -- The kind, the name and the count stand before the first's attributes.
       pub actions-cut : n ≡ i → Cut table enc (part 0 5 a) (Tables 0 3) Both
       unfolding enc
@@ -279,7 +238,7 @@ module _ {mode l : ℕ} {a b o : List ℕ} (g : Given mode l a b o) where
           record {
             make = act (rd a 1);
             is = action-join m l a b (g .first) (g .second) e (sym k ∙ e) n i q r h ∙ rw (asMode-strict 0 (λ z. omega arith)) refl;
-            cut = λ cs z. rw (front (attrsAt (l - 1) 3 a) (sym own ∙ ap enc (is-action l a (g .first) e .is)), strict-many (attrsAt (l - 1) 3 a) (attrsAt (l - 1) 3 b) cs z) refl;
+            cut = λ cs z. rw (front (attrsAt (l - 1) 3 a) (sym own ∙ ap enc (is-action l a (g .first) e .is)), strict-many 0 (λ z. omega arith) (attrsAt (l - 1) 3 a) (attrsAt (l - 1) 3 b) cs z) refl;
           }
         where
           front : (xs : Attrs) → a ≡ enc (act (rd a 1) xs) → part 0 5 a ≡ 11 ∷ u16 (rd a 1) ++ u16 (count xs)
@@ -290,4 +249,4 @@ module _ {mode l : ℕ} {a b o : List ℕ} (g : Given mode l a b o) where
 
       pub actions-many : {o′ : List ℕ} → Ready table (Tables 0 3) o′ → (c : ℕ) → c ≡ rd a 3 → c ≡ countOf (Tables 0 3)
       actions-many t c z =
-          z ∙ sym (attrs-count (dec (l - 1)) (rd a 3) _ _) ∙ strict-many (attrsAt (l - 1) 3 a) (attrsAt (l - 1) 3 b) (t .result) (t .is) ∙ sym (ap countOf (t .is))
+          z ∙ sym (attrs-count (dec (l - 1)) (rd a 3) _ _) ∙ strict-many 0 (λ z. omega arith) (attrsAt (l - 1) 3 a) (attrsAt (l - 1) 3 b) (t .result) (t .is) ∙ sym (ap countOf (t .is))

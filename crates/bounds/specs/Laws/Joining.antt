@@ -1,33 +1,32 @@
 -- The write pass over two attribute lists: the first from entry to entry, the second past the names below. Assumes nothing.
 use mathlib.Core.Path.{_≡_, refl, ap, sym, _∙_}
 use mathlib.Core.List.{List, _∷_, _++_}
-use mathlib.Core.Bool.{Bool, true, _&&_}
+use mathlib.Core.Bool.{Bool, true, false, not, _&&_}
 use mathlib.Core.Option.{Option, none, some}
 use Prim.Native.Nat.{ℕ, _+_, _*_, _-_, _≤_, _<_}
 use native.Mathlib.Omega.{arith}
 use lib.Dec.{eqb}
 use lib.ListN.{length, getD}
+use borrow.Author.Tests.{not-true, not-false}
 use Rattle.cedar.specs.Types.{Mode, Ty, Attrs, find}
 use Rattle.cedar.specs.TypeForm.{enc}
 use Rattle.cedar.specs.Bytes.{u16, flag}
-use Rattle.cedar.specs.Result.{Result, ok}
+use Rattle.cedar.specs.Result.{Result, ok, err}
 use Rattle.cedar.specs.Outcome.{over}
 use Rattle.cedar.specs.Direct.{direct, directAttrs}
 use Rattle.forms.specs.Parts.{part, rest, rd}
 use Rattle.forms.specs.Search.{below, used}
 use Rattle.forms.specs.TypeBytes.{whole, dec, decA}
 use Rattle.forms.specs.Laws.Attributes.{past, Past}
-use Rattle.bounds.specs.declared.extents.Pair.{Pair}
-use Rattle.bounds.specs.declared.extents.Pair.the-variants.{Kept, Dropped, Not}
 use Rattle.bounds.specs.Written.{Written}
-use Rattle.bounds.specs.Extents.{table, formOf, Ready}
-use Rattle.bounds.specs.Pairs.{Front, Tabled, attrsAt, joined, pairOf}
+use Rattle.lengths.specs.Extents.{table, formOf, Ready}
+use Rattle.lengths.specs.Pairs.{Front, Tabled, attrsAt, joined}
 use Rattle.bounds.specs.Laws.Writing.{back}
-use Rattle.bounds.specs.Laws.Tables.{Split}
+use Rattle.lengths.specs.Laws.Tables.{Split}
 use Rattle.bounds.specs.Laws.Laying.{Laying, laying-start, laying-length, laying-same, laying-end}
-use Rattle.bounds.specs.Joins.{joinedAttrs, countOf, pairForm}
-use Rattle.bounds.specs.Laws.Pairs.{after, Walk, walk-end, walk-room, walk-flag, walk-fit, walk-body, walk-front, walk-more, walk-step, start-walk, pair-kept, pair-dropped, pair-not, front-room, front-fit, front-body, front-is}
-use Rattle.bounds.specs.Laws.BoundWrites.{joined-direct}
+use Rattle.bounds.specs.Joins.{joinedAttrs, countOf, pairForm, isOk, isKept}
+use Rattle.lengths.specs.Laws.Pairs.{after, Walk, walk-end, walk-room, walk-flag, walk-fit, walk-body, walk-front, walk-more, walk-step, start-walk, front-room, front-fit, front-body, front-is}
+use Rattle.bounds.specs.Laws.Kept.{joined-direct}
 use Rattle.bounds.specs.Laws.Attached.{Both, both, pair-ready, pair-written, Attaching, attach-some, attach-none, attach-at, attach-entry, attach-small, attach-more}
 
 -- The attribute that was found is the first.
@@ -39,17 +38,27 @@ module _ {l m : ℕ} (e : List ℕ) {fs cs : List ℕ} (s : Front l m (rd e 0) f
   abbrev Met : Result (Option (Bool × Ty))
   Met = joined d (eqb (getD e 2 0) 1) t (find (rd e 0) (decA (dec l) m fs cs))
 
-  module _ (p : Pair) (told : p ≡ pairOf Met) where
-    pub met-dropped : (o : List ℕ) → p ≡ Dropped → Written (formOf pairForm Met) o o 0
-    met-dropped o k = rw (pair-dropped Met p told k) record { bytes = refl; many = refl }
+  pub met-known : {o : List ℕ} → Ready pairForm Met o → isOk Met ≡ true
+  met-known g = ap isOk (g .is)
 
-    pub met-not : (o : List ℕ) (r : ℕ) → p ≡ Not r → Written (formOf pairForm Met) o o 0
-    met-not o r k = rw (pair-not Met p told r k) record { bytes = refl; many = refl }
+  module _ (x : Bool) (told : x ≡ isKept Met) where
+    pub met-dropped : (o : List ℕ) → not x ≡ true → Written (formOf pairForm Met) o o 0
+    met-dropped o h = go Met (sym told ∙ not-true x h)
+      where
+        go : (j : Result (Option (Bool × Ty))) → isKept j ≡ false → Written (formOf pairForm j) o o 0
+        go (ok none) h = record { bytes = refl; many = refl }
+        go (ok (some y)) h = absurd (let z : _≡_ {A = ℕ} 0 1 = cc in omega arith)
+        go (err r) h = record { bytes = refl; many = refl }
 
     -- It is kept.
-    module _ (n : ℕ) (k : p ≡ Kept n) where
+    module _ (h : not x ≡ false) where
       met : (y : Bool × Ty) × (Met ≡ ok (some y))
-      met = let y = pair-kept Met p told n k in (y .0, y .1 .0)
+      met = go Met (sym told ∙ not-false x h)
+        where
+          go : (j : Result (Option (Bool × Ty))) → isKept j ≡ true → (y : Bool × Ty) × (j ≡ ok (some y))
+          go (ok none) h = absurd (let z : _≡_ {A = ℕ} 0 1 = cc in omega arith)
+          go (ok (some y)) h = (y, refl)
+          go (err r) h = absurd (let z : _≡_ {A = ℕ} 0 1 = cc in omega arith)
 
       pair : Both d (eqb (getD e 2 0) 1) t (find (rd e 0) (decA (dec l) m fs cs)) (met .0)
       pair = both d (eqb (getD e 2 0) 1) t (find (rd e 0) (decA (dec l) m fs cs)) (met .0) (met .1)

@@ -14,8 +14,8 @@ use Rattle.cedar.specs.Outcome.{over}
 use Rattle.forms.specs.Parts.{rest}
 use Rattle.forms.specs.Laws.Parts.{length-rest}
 use Rattle.bounds.specs.Written.{Written}
-use Rattle.bounds.specs.Extents.{table, formOf, Ready}
-use Rattle.bounds.specs.Laws.Extents.{length-entries, bind-ok, Cut, before}
+use Rattle.lengths.specs.Extents.{table, formOf, Ready}
+use Rattle.lengths.specs.Laws.Extents.{length-entries, bind-ok, Cut, before}
 use Rattle.bounds.specs.Laws.Writing.{back, written-at, room-at, Filling, filling-start, filling-length, filling-at, filling-pos, filling-body, filling-entry, filling-end}
 
 -- A flag's byte is the flag.

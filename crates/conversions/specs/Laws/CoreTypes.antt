@@ -18,17 +18,17 @@ use Rattle.forms.specs.Parts.{part, rest, rd, kind}
 use Rattle.forms.specs.TypeBytes.{namesOf, decA, whole, dec, Sound}
 use Rattle.forms.specs.Laws.Parts.{rest-is}
 use Rattle.forms.specs.Laws.Sure.{rd-drop}
-use Rattle.bounds.specs.declared.extents.Extent.{Extent}
-use Rattle.bounds.specs.declared.extents.Extent.the-variants.{Of, Not}
+use Rattle.lengths.specs.declared.extents.Extent.{Extent}
+use Rattle.lengths.specs.declared.extents.Extent.the-variants.{Of, Not}
 use Rattle.cedar.specs.Outcome.{over}
 use Rattle.bounds.specs.Written.{Written}
-use Rattle.bounds.specs.Extents.{cap, table, extentOf, formOf, Ready, orRefuse}
+use Rattle.lengths.specs.Extents.{cap, table, extentOf, formOf, Ready, orRefuse}
 use Rattle.bounds.specs.Laws.Writing.{back}
-use Rattle.bounds.specs.Laws.Extents.{Cut, before, Summing, summing-err, summing-more}
+use Rattle.lengths.specs.Laws.Extents.{Cut, before, Summing, summing-err, summing-more}
 use Rattle.forms.specs.Laws.Views.{is-set, is-record, is-entity, is-action, is-extension, is-atom}
 use Rattle.forms.specs.Laws.Attributes.{attrs-none}
 use Rattle.bounds.specs.Laws.Laying.{flag-is, behind-front, ready-room, written-known, Laying, laying-start, laying-end, laying-ready, laying-pos, laying-at, laying-entry, laying-back, laying-small, laying-more}
-use Rattle.bounds.specs.Laws.Tables.{Split, split, record-is, attrs-count, Left, left-is, left-flag, atom-code, atom-at}
+use Rattle.lengths.specs.Laws.Tables.{Split, split, record-is, attrs-count, Left, left-is, left-flag, atom-code, atom-at}
 use Rattle.conversions.specs.CoreTypes.{core, coreAttrs, boolOr}
 
 -- A step after another, with the refusal.

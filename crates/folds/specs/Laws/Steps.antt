@@ -26,14 +26,14 @@ use Rattle.forms.specs.TypeBytes.{whole, dec}
 use Rattle.forms.specs.Laws.Parts.{rest-is, part-is}
 use Rattle.forms.specs.Laws.Sure.{sure-yes, sure-some}
 use Rattle.forms.specs.Laws.TypeTwin.{type-twin}
-use Rattle.bounds.specs.declared.extents.Extent.{Extent}
-use Rattle.bounds.specs.declared.extents.Extent.the-variants as extents
-use Rattle.bounds.specs.Extents.{cap, extentOf, formOf, Ready}
-use Rattle.bounds.specs.Laws.Extents.{of-ok, not-err, ready}
+use Rattle.lengths.specs.declared.extents.Extent.{Extent}
+use Rattle.lengths.specs.declared.extents.Extent.the-variants as extents
+use Rattle.lengths.specs.Extents.{cap, extentOf, formOf, Ready}
+use Rattle.lengths.specs.Laws.Extents.{of-ok, not-err, ready}
 use Rattle.bounds.specs.Laws.Writing.{back}
 use Rattle.forms.specs.Laws.Bytes.{enc-dec}
 use Rattle.folds.specs.declared.steps.Step.the-variants.{To, Not, TooLong}
-use Rattle.bounds.specs.Kinds.{asMode}
+use Rattle.lengths.specs.Kinds.{asMode}
 use Rattle.folds.specs.Steps.{Held, Stepped}
 
 -- What was written at the front of a list is there, whatever stands behind it.

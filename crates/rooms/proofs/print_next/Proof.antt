@@ -17,12 +17,6 @@ enum-known-n c = search needs
 enum-told : tie.Need-enum-told
 enum-told c = search needs
 
-slice-aggregate-fail : tie.Need-slice-aggregate-fail
-slice-aggregate-fail c = search needs
-
-fail-requires : tie.Need-fail-requires
-fail-requires c κs = search needs
-
 returns : tie.Need-returns
 returns c = search needs
 
@@ -70,8 +64,6 @@ print-next-spec =
     read-input-requires
     enum-known-n
     enum-told
-    slice-aggregate-fail
-    fail-requires
     returns
     returns-2
     slice-aggregate-stop

@@ -13,6 +13,12 @@ read-input-requires c κs = search needs
 enum-known-n : tie.Need-enum-known-n
 enum-known-n c = search needs
 
+enum-told : tie.Need-enum-told
+enum-told c = search needs
+
+returns : tie.Need-returns
+returns c = search needs
+
 array-share-prefix-buffer : tie.Need-array-share-prefix-buffer
 array-share-prefix-buffer c = rw ((c .before) .n .given .1) at ((c .before .before .before .before) .read-input .ensures)
 
@@ -21,18 +27,6 @@ slice-aggregate-print-job c = sym (length-take-le _ ((c .before .before .before 
 
 print-job-requires : tie.Need-print-job-requires
 print-job-requires c κs = search needs
-
-enum-told : tie.Need-enum-told
-enum-told c = search needs
-
-slice-aggregate-fail : tie.Need-slice-aggregate-fail
-slice-aggregate-fail c = search needs
-
-fail-requires : tie.Need-fail-requires
-fail-requires c κs = search needs
-
-returns : tie.Need-returns
-returns c = search needs
 
 returns-2 : tie.Need-returns-2
 returns-2 c = search needs
@@ -44,11 +38,9 @@ main-spec =
     slice-aggregate-read-input
     read-input-requires
     enum-known-n
+    enum-told
+    returns
     array-share-prefix-buffer
     slice-aggregate-print-job
     print-job-requires
-    enum-told
-    slice-aggregate-fail
-    fail-requires
-    returns
     returns-2)

@@ -20,7 +20,7 @@ use Rattle.cedar.specs.Calls.{modeOf, writeType, boundCall}
 use Rattle.cedar.specs.Laws.Whole.{wholeType-reads}
 use Rattle.cedar.specs.Laws.Direct.{direct-bound}
 use Rattle.forms.specs.TypeBytes.{dec}
-use Rattle.bounds.specs.Kinds.{asMode}
+use Rattle.lengths.specs.Kinds.{asMode}
 use Rattle.forms.specs.Laws.Bytes.{Bytes-index}
 use Rattle.validator.specs.Laws.Questions.{there}
 

@@ -19,8 +19,8 @@ use Rattle.cedar.specs.Literal.{literal}
 use Rattle.cedar.specs.Calls.{writeType, literalCall}
 use Rattle.forms.specs.Laws.Parts.{length-part}
 use Rattle.schemas.specs.SchemaBytes.{decS}
-use Rattle.bounds.specs.declared.extents.Extent.the-variants.{Of}
-use Rattle.bounds.specs.Extents.{cap, extentOf}
+use Rattle.lengths.specs.declared.extents.Extent.the-variants.{Of}
+use Rattle.lengths.specs.Extents.{cap, extentOf}
 use Rattle.attributes.specs.declared.euid_literal.Literal.{Literal}
 use Rattle.attributes.specs.declared.euid_literal.Literal.the-variants as literals
 use Rattle.attributes.specs.Literal.{literalType, literalForm, literalLength, Standing, LiteralAt}

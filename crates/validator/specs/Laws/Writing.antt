@@ -19,11 +19,11 @@ use Rattle.forms.specs.TypeBytes.{whole, dec}
 use Rattle.forms.specs.Laws.Parts.{and-r}
 use Rattle.forms.specs.Laws.Sure.{sure-present, sure-yes}
 use Rattle.forms.specs.Laws.TypeTwin.{whole-type-twin}
-use Rattle.bounds.specs.declared.extents.Extent.{Extent}
-use Rattle.bounds.specs.declared.extents.Extent.the-variants.{Of, Not}
+use Rattle.lengths.specs.declared.extents.Extent.{Extent}
+use Rattle.lengths.specs.declared.extents.Extent.the-variants.{Of, Not}
 use Rattle.bounds.specs.Written.{Written}
-use Rattle.bounds.specs.Extents.{cap, extentOf, formOf, Ready}
-use Rattle.bounds.specs.Laws.Extents.{of-ok, not-err, ready}
+use Rattle.lengths.specs.Extents.{cap, extentOf, formOf, Ready}
+use Rattle.lengths.specs.Laws.Extents.{of-ok, not-err, ready}
 use Rattle.validator.specs.declared.answers.Answer.{Answer}
 use Rattle.validator.specs.declared.answers.Answer.the-variants.{Refused, Wrote}
 use Rattle.validator.specs.Answers.{Answered}

@@ -4,8 +4,8 @@ use borrow.Author.Needs.{needs}
 use Rattle.cedar.specs.TypeForm.{enc}
 use Rattle.forms.specs.TypeBytes.{dec, decA}
 use Rattle.forms.specs.Laws.Views.{not-empty, is-set, is-record, is-entity}
-use Rattle.bounds.specs.Laws.Tables.{Left, left-start, left-room, left-fit, left-body, left-more, split, record-sound}
-use Rattle.bounds.specs.Laws.Extents.{Summing, summing-start, summing-end, of-small, cut-extent}
+use Rattle.lengths.specs.Laws.Tables.{Left, left-start, left-room, left-fit, left-body, left-more, split, record-sound}
+use Rattle.lengths.specs.Laws.Extents.{Summing, summing-start, summing-end, of-small, cut-extent}
 use Rattle.conversions.specs.CoreTypes.{core, coreAttrs}
 use Rattle.conversions.specs.Laws.CoreTypes.{attrs-end, attrs-not, attrs-more, set-cut, record-cut, known-extent, refused-extent, atom-extent, never-core, any-core, entity-core, entities-core, action-core, extension-core, entity-long, extension-long}
 use borrow.Fn.Kinds.{In}
@@ -16,10 +16,10 @@ use Rattle.conversions.proofs.core_types.+core_attributes_extent+core_e
 use Rattle.conversions.proofs.core_types.core_extent.Reads as core-extent
 use Rattle.conversions.proofs.core_types.core_extent.Kinds as core-extent-kinds
 use Rattle.conversions.proofs.core_types.+core_attributes_extent+core_extent.Lts-core_extent as core-extent-lts
-use Rattle.bounds.proofs.extents.Extent.plus.Reads as plus-reads
-use Rattle.bounds.proofs.extents.capped.Reads as capped-reads
-use Rattle.bounds.proofs.tables.bodies_at.Reads as bodies-at-reads
-use Rattle.bounds.proofs.tables.entries_at.Reads as entries-at-reads
+use Rattle.lengths.proofs.extents.Extent.plus.Reads as plus-reads
+use Rattle.lengths.proofs.extents.capped.Reads as capped-reads
+use Rattle.lengths.proofs.tables.bodies_at.Reads as bodies-at-reads
+use Rattle.lengths.proofs.tables.entries_at.Reads as entries-at-reads
 use Rattle.forms.proofs.numbers.u16_at.Reads as u16-at-reads
 use Rattle.conversions.proofs.core_types.+core_attributes_extent+core_extent.{statement}
 use Rattle.conversions.proofs.core_types.+core_attributes_extent+core_extent.Tie.{close}

@@ -4,7 +4,7 @@ use native.Mathlib.Omega.{arith}
 use borrow.Author.Needs.{needs}
 use Rattle.forms.specs.TypeBytes.{dec, decA}
 use Rattle.forms.specs.Laws.Views.{not-empty, is-set, is-record, is-entity, is-action, is-extension}
-use Rattle.bounds.specs.Laws.Tables.{Left, left-start, left-room, left-fit, left-body, left-more, split, record-sound}
+use Rattle.lengths.specs.Laws.Tables.{Left, left-start, left-room, left-fit, left-body, left-more, split, record-sound}
 use Rattle.bounds.specs.Laws.Laying.{behind-front, behind-at, behind-ready, behind-small, behind-written, Laying, laying-length}
 use Rattle.conversions.specs.CoreTypes.{coreAttrs}
 use Rattle.conversions.specs.Laws.CoreTypes.{set-cut, record-cut, one-name, action-core, entity-room, entity-written, extension-room, extension-written, atom-written, never-not, any-not, record-front, core-laying, core-end, core-pos, core-ready, core-at, core-entry, core-small, core-more}
@@ -16,8 +16,8 @@ use Rattle.conversions.proofs.core_types.+write_core+write_core_attribu
 use Rattle.conversions.proofs.core_types.write_core_attributes.Reads as write-core-attributes
 use Rattle.conversions.proofs.core_types.write_core_attributes.Kinds as write-core-attributes-kinds
 use Rattle.conversions.proofs.core_types.+write_core+write_core_attributes.Lts-write_core_attributes as write-core-attributes-lts
-use Rattle.bounds.proofs.tables.bodies_at.Reads as bodies-at-reads
-use Rattle.bounds.proofs.tables.entries_at.Reads as entries-at-reads
+use Rattle.lengths.proofs.tables.bodies_at.Reads as bodies-at-reads
+use Rattle.lengths.proofs.tables.entries_at.Reads as entries-at-reads
 use Rattle.bounds.proofs.writers.put_attribute.Reads as put-attribute-reads
 use Rattle.bounds.proofs.writers.put_entity.Reads as put-entity-reads
 use Rattle.bounds.proofs.writers.put_kind.Reads as put-kind-reads

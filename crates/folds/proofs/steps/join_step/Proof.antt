@@ -11,7 +11,7 @@ use Rattle.folds.proofs.steps.join_step.Statement.{statement}
 use Rattle.folds.proofs.steps.join_step.Tie as tie
 use Rattle.folds.proofs.steps.join_step.Reads as reads
 use Rattle.folds.proofs.steps.join_step.Lts as lts
-use Rattle.bounds.proofs.bound_extents.bound_extent.Reads as bound-extent-reads
+use Rattle.lengths.proofs.bound_extents.bound_extent.Reads as bound-extent-reads
 use Rattle.bounds.proofs.bound_writes.write_bound.Reads as write-bound-reads
 use Rattle.bounds.proofs.writers.copy.Reads as copy-reads
 

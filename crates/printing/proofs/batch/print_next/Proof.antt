@@ -44,12 +44,6 @@ stop-requires-2 c κs = search needs
 enum-told-4 : tie.Need-enum-told-4
 enum-told-4 c = search needs
 
-slice-aggregate-fail : tie.Need-slice-aggregate-fail
-slice-aggregate-fail c = search needs
-
-fail-requires : tie.Need-fail-requires
-fail-requires c κs = search needs
-
 same-length : tie.Need-same-length
 same-length c = search needs
 
@@ -85,8 +79,6 @@ print-next-spec =
     slice-aggregate-stop-2
     stop-requires-2
     enum-told-4
-    slice-aggregate-fail
-    fail-requires
     same-length
     returns
     returns-2

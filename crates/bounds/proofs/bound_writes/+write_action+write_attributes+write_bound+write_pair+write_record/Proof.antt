@@ -1,0 +1,1301 @@
+use Prim.Native.Nat.{_+_, _*_, _-_}
+use mathlib.Core.Path.{refl, sym, _∙_}
+use native.Mathlib.Omega.{arith}
+use borrow.Author.Needs.{needs}
+use Rattle.forms.specs.TypeBytes.{dec}
+use Rattle.forms.specs.Laws.Attributes.{laid}
+use Rattle.forms.specs.Laws.Views.{not-empty, is-set, is-record, is-entity, is-action}
+use Rattle.lengths.specs.Kinds.{asMode}
+use Rattle.lengths.specs.Pairs.{attrsAt}
+use Rattle.bounds.specs.Joins.{joinedAttrs}
+use Rattle.bounds.specs.Laws.Laying.{behind-front, behind-at, behind-ready, behind-small, behind-written}
+use Rattle.lengths.specs.Laws.Tables.{split}
+use Rattle.lengths.specs.Laws.Bounds.{record-tabled, action-tabled}
+use Rattle.bounds.specs.Laws.BoundWrites.{kept-few, given, second-copied, first-copied, unlike-forms, sets-cut, entities-union, entities-copied, others-copied, records-known, records-cut, actions-unlike, actions-strict, actions-cut, actions-front, actions-many}
+use Rattle.bounds.specs.Laws.Attached.{attach-pos, attach-ready}
+use Rattle.bounds.specs.Laws.Joining.{met-known, met-dropped, met-room, met-body, met-ready, met-written, Joining, joining-start, joining-length, joining-end, joining-entry, joining-past, joining-front, joining-body, joining-turn, joining-none, joining-other, joining-at, joining-room, joining-small, joining-some}
+use Prim.Native.Nat.{ℕ, _<_}
+use borrow.Fn.Kinds.{In}
+use borrow.Fn.PlainCycle.{Measures, is, falls, and}
+use Rattle.bounds.proofs.bound_writes.write_action.Reads as write-action
+use Rattle.bounds.proofs.bound_writes.write_action.Kinds as write-action-kinds
+use Rattle.bounds.proofs.bound_writes.+write_action+write_attributes+write_bound+write_pair+write_record.Lts-write_action as write-action-lts
+use Rattle.bounds.proofs.bound_writes.write_attributes.Reads as write-attributes
+use Rattle.bounds.proofs.bound_writes.write_attributes.Kinds as write-attributes-kinds
+use Rattle.bounds.proofs.bound_writes.+write_action+write_attributes+write_bound+write_pair+write_record.Lts-write_attributes as write-attributes-lts
+use Rattle.bounds.proofs.bound_writes.write_bound.Reads as write-bound
+use Rattle.bounds.proofs.bound_writes.write_bound.Kinds as write-bound-kinds
+use Rattle.bounds.proofs.bound_writes.+write_action+write_attributes+write_bound+write_pair+write_record.Lts-write_bound as write-bound-lts
+use Rattle.bounds.proofs.bound_writes.write_pair.Reads as write-pair
+use Rattle.bounds.proofs.bound_writes.write_pair.Kinds as write-pair-kinds
+use Rattle.bounds.proofs.bound_writes.+write_action+write_attributes+write_bound+write_pair+write_record.Lts-write_pair as write-pair-lts
+use Rattle.bounds.proofs.bound_writes.write_record.Reads as write-record
+use Rattle.bounds.proofs.bound_writes.write_record.Kinds as write-record-kinds
+use Rattle.bounds.proofs.bound_writes.+write_action+write_attributes+write_bound+write_pair+write_record.Lts-write_record as write-record-lts
+use Rattle.bounds.proofs.bound_writes.write_entities.Reads as write-entities-reads
+use Rattle.bounds.proofs.bound_writes.write_form.Reads as write-form-reads
+use Rattle.bounds.proofs.bound_writes.write_unlike.Reads as write-unlike-reads
+use Rattle.bounds.proofs.flags.both_required.Reads as both-required-reads
+use Rattle.bounds.proofs.flags.open_byte.Reads as open-byte-reads
+use Rattle.bounds.proofs.kept.kept_count.Reads as kept-count-reads
+use Rattle.bounds.proofs.kept.pair_kept.Reads as pair-kept-reads
+use Rattle.bounds.proofs.writers.copy.Reads as copy-reads
+use Rattle.bounds.proofs.writers.put_attribute.Reads as put-attribute-reads
+use Rattle.bounds.proofs.writers.put_one.Reads as put-one-reads
+use Rattle.bounds.proofs.writers.put_record.Reads as put-record-reads
+use Rattle.forms.proofs.numbers.u16_at.Reads as u16-at-reads
+use Rattle.forms.proofs.search.skip_below.Reads as skip-below-reads
+use Rattle.lengths.proofs.tables.bodies_at.Reads as bodies-at-reads
+use Rattle.lengths.proofs.tables.entries_at.Reads as entries-at-reads
+use Rattle.bounds.proofs.bound_writes.+write_action+write_attributes+write_bound+write_pair+write_record.{
+  statement,
+}
+use Rattle.bounds.proofs.bound_writes.+write_action+write_attributes+write_bound+write_pair+write_record.Tie.{
+  close,
+}
+
+abbrev μ-write-action : Measures 3 write-action-kinds.ps ℕ
+μ-write-action κs a = 4 * a .1 .1 .0 - 1
+
+abbrev μ-write-attributes : Measures 3 write-attributes-kinds.ps ℕ
+μ-write-attributes κs a = 4 * a .1 .1 .1 .1 .1 .0 + 2
+
+abbrev μ-write-bound : Measures 3 write-bound-kinds.ps ℕ
+μ-write-bound κs a = 4 * a .1 .1 .1 .0
+
+abbrev μ-write-pair : Measures 5 write-pair-kinds.ps ℕ
+μ-write-pair κs a = 4 * a .1 .1 .1 .1 .1 .1 .0 + 1
+
+abbrev μ-write-record : Measures 3 write-record-kinds.ps ℕ
+μ-write-record κs a = 4 * a .1 .1 .1 .0 - 1
+
+abbrev write-action-at : ℕ → In 3 write-action-kinds.ps
+write-action-at t =
+    and 3 write-action-kinds.ps (is 3 write-action-kinds.ps μ-write-action t) write-action.Pre
+
+abbrev write-action-below : ℕ → In 3 write-action-kinds.ps
+write-action-below t =
+    and
+    3
+    write-action-kinds.ps
+    (falls 3 write-action-kinds.ps _<_ μ-write-action t)
+    write-action.Pre
+
+abbrev write-attributes-at : ℕ → In 3 write-attributes-kinds.ps
+write-attributes-at t =
+    and
+    3
+    write-attributes-kinds.ps
+    (is 3 write-attributes-kinds.ps μ-write-attributes t)
+    write-attributes.Pre
+
+abbrev write-attributes-below : ℕ → In 3 write-attributes-kinds.ps
+write-attributes-below t =
+    and
+    3
+    write-attributes-kinds.ps
+    (falls 3 write-attributes-kinds.ps _<_ μ-write-attributes t)
+    write-attributes.Pre
+
+abbrev write-bound-at : ℕ → In 3 write-bound-kinds.ps
+write-bound-at t =
+    and 3 write-bound-kinds.ps (is 3 write-bound-kinds.ps μ-write-bound t) write-bound.Pre
+
+abbrev write-bound-below : ℕ → In 3 write-bound-kinds.ps
+write-bound-below t =
+    and 3 write-bound-kinds.ps (falls 3 write-bound-kinds.ps _<_ μ-write-bound t) write-bound.Pre
+
+abbrev write-pair-at : ℕ → In 5 write-pair-kinds.ps
+write-pair-at t =
+    and 5 write-pair-kinds.ps (is 5 write-pair-kinds.ps μ-write-pair t) write-pair.Pre
+
+abbrev write-pair-below : ℕ → In 5 write-pair-kinds.ps
+write-pair-below t =
+    and 5 write-pair-kinds.ps (falls 5 write-pair-kinds.ps _<_ μ-write-pair t) write-pair.Pre
+
+abbrev write-record-at : ℕ → In 3 write-record-kinds.ps
+write-record-at t =
+    and 3 write-record-kinds.ps (is 3 write-record-kinds.ps μ-write-record t) write-record.Pre
+
+abbrev write-record-below : ℕ → In 3 write-record-kinds.ps
+write-record-below t =
+    and
+    3
+    write-record-kinds.ps
+    (falls 3 write-record-kinds.ps _<_ μ-write-record t)
+    write-record.Pre
+
+abbrev write-action-callees : ℕ → write-action-lts.Claims
+write-action-callees t = (
+  copy-reads.Asked,
+  copy-reads.Learnt,
+  u16-at-reads.Asked,
+  u16-at-reads.Learnt,
+  write-attributes-below t,
+  write-attributes.Post,
+)
+
+-- src/bound_writes.rt:150:10
+write-action-sub-copy : (t : ℕ) → write-action-lts.Need-sub-copy (write-action-callees t) (write-action-at t) write-action.Post
+write-action-sub-copy t c = search needs
+
+-- src/bound_writes.rt:150:10
+write-action-part-copy-start : (t : ℕ) → write-action-lts.Need-part-copy-start (write-action-callees t) (write-action-at t) write-action.Post
+write-action-part-copy-start t c = search needs
+
+-- src/bound_writes.rt:150:10
+write-action-part-copy-end : (t : ℕ) → write-action-lts.Need-part-copy-end (write-action-callees t) (write-action-at t) write-action.Post
+write-action-part-copy-end t c =
+    let start = (c .before .before .before) in
+    let key = start .pre .1 .0 .1 in
+    omega (arith, is-action (start .args .levels) (start .args .a .now) (start .pre .1 .0 .0) key .some)
+
+-- src/bound_writes.rt:150:5
+write-action-copy-requires : (t : ℕ) → write-action-lts.Need-copy-requires (write-action-callees t) (write-action-at t) write-action.Post
+write-action-copy-requires t c κs =
+    let start = (c .before .before .before .before .before) in
+    let key = start .pre .1 .0 .1 in
+    let same = key ∙ sym (start .pre .1 .1 .0 .1) in
+    let g = given 0 (start .args .levels) (start .args .a .now) (start .args .b .now) (start .pre .1 .0 .0) (start .pre .1 .1 .0 .0) (λ i. (c .before .before .before .before) .shared-slice-known .given i .fits) (λ i. (c .before .before .before) .shared-slice-known2 .given i .fits) (start .pre .1 .1 .1 .1) in
+    let cut = actions-cut g same key _ _ refl refl (start .pre .1 .1 .1 .0) in
+    behind-front cut (g .ready)
+
+-- src/bound_writes.rt:151:9
+write-action-u16-at-requires : (t : ℕ) → write-action-lts.Need-u16-at-requires (write-action-callees t) (write-action-at t) write-action.Post
+write-action-u16-at-requires t c κs =
+    let start = (c .before .before .before .before .before .before .before .before) in
+    let key = start .pre .1 .0 .1 in
+    omega (arith, is-action (start .args .levels) (start .args .a .now) (start .pre .1 .0 .0) key .some)
+
+-- src/bound_writes.rt:152:49
+write-action-sub-write-attributes : (t : ℕ) → write-action-lts.Need-sub-write-attributes (write-action-callees t) (write-action-at t) write-action.Post
+write-action-sub-write-attributes t c =
+    let start = (c .before .before .before .before .before .before .before .before .before) in
+    let key = start .pre .1 .0 .1 in
+    omega (arith, is-action (start .args .levels) (start .args .a .now) (start .pre .1 .0 .0) key .deep)
+
+-- src/bound_writes.rt:152:61
+write-action-sub-write-attributes-2 : (t : ℕ) → write-action-lts.Need-sub-write-attributes-2 (write-action-callees t) (write-action-at t) write-action.Post
+write-action-sub-write-attributes-2 t c =
+    let start = (c .before .before .before .before .before .before .before .before .before) in
+    let key = start .pre .1 .0 .1 in
+    let same = key ∙ sym (start .pre .1 .1 .0 .1) in
+    let g = given 0 (start .args .levels) (start .args .a .now) (start .args .b .now) (start .pre .1 .0 .0) (start .pre .1 .1 .0 .0) (λ i. (c .before .before .before .before .before .before .before .before) .shared-slice-known .given i .fits) (λ i. (c .before .before .before .before .before .before .before) .shared-slice-known2 .given i .fits) (start .pre .1 .1 .1 .1) in
+    let cut = actions-cut g same key _ _ refl refl (start .pre .1 .1 .1 .0) in
+    let put = (c .before .before .before) .copy in
+    let front = actions-front g same key _ _ refl refl in
+    omega (arith, behind-at cut (g .ready) (put .last .1 .0) 5 (put .ensures) front)
+
+-- src/bound_writes.rt:152:61
+write-action-part-write-attributes-start : (t : ℕ) → write-action-lts.Need-part-write-attributes-start (write-action-callees t) (write-action-at t) write-action.Post
+write-action-part-write-attributes-start t c =
+    let start = (c .before .before .before .before .before .before .before .before .before) in
+    let key = start .pre .1 .0 .1 in
+    let same = key ∙ sym (start .pre .1 .1 .0 .1) in
+    let g = given 0 (start .args .levels) (start .args .a .now) (start .args .b .now) (start .pre .1 .0 .0) (start .pre .1 .1 .0 .0) (λ i. (c .before .before .before .before .before .before .before .before) .shared-slice-known .given i .fits) (λ i. (c .before .before .before .before .before .before .before) .shared-slice-known2 .given i .fits) (start .pre .1 .1 .1 .1) in
+    let cut = actions-cut g same key _ _ refl refl (start .pre .1 .1 .1 .0) in
+    let put = (c .before .before .before) .copy in
+    let front = actions-front g same key _ _ refl refl in
+    omega (arith, behind-at cut (g .ready) (put .last .1 .0) 5 (put .ensures) front)
+
+-- src/bound_writes.rt:152:61
+write-action-part-write-attributes-end : (t : ℕ) → write-action-lts.Need-part-write-attributes-end (write-action-callees t) (write-action-at t) write-action.Post
+write-action-part-write-attributes-end t c = search needs
+
+-- src/bound_writes.rt:152:5
+write-action-write-attributes-requires : (t : ℕ) → write-action-lts.Need-write-attributes-requires (write-action-callees t) (write-action-at t) write-action.Post
+write-action-write-attributes-requires t c κs =
+    let start = (c .before .before .before .before .before .before .before .before .before .before) in
+    let key = start .pre .1 .0 .1 in
+    let same = key ∙ sym (start .pre .1 .1 .0 .1) in
+    let g = given 0 (start .args .levels) (start .args .a .now) (start .args .b .now) (start .pre .1 .0 .0) (start .pre .1 .1 .0 .0) (λ i. (c .before .before .before .before .before .before .before .before .before) .shared-slice-known .given i .fits) (λ i. (c .before .before .before .before .before .before .before .before) .shared-slice-known2 .given i .fits) (start .pre .1 .1 .1 .1) in
+    let cut = actions-cut g same key _ _ refl refl (start .pre .1 .1 .1 .0) in
+    let put = (c .before .before .before .before) .copy in
+    let front = actions-front g same key _ _ refl refl in
+    let ready = behind-ready cut (g .ready) (put .last .1 .0) 5 (put .ensures) front in
+    (omega (arith, start .pre .0, is-action (start .args .levels) (start .args .a .now) (start .pre .1 .0 .0) key .deep), (action-tabled (start .args .levels) (start .args .a .now) (start .pre .1 .0 .0) key, (action-tabled (start .args .levels) (start .args .b .now) (start .pre .1 .1 .0 .0) (start .pre .1 .1 .0 .1), (actions-many g same key _ _ refl refl ready ((c .before) .u16-at .result) ((c .before) .u16-at .ensures .0), ready))))
+
+-- src/bound_writes.rt:152:5
+write-action-add-result : (t : ℕ) → write-action-lts.Need-add-result (write-action-callees t) (write-action-at t) write-action.Post
+write-action-add-result t c =
+    let start = (c .before .before .before .before .before .before .before .before .before .before .before .before .before) in
+    let key = start .pre .1 .0 .1 in
+    let same = key ∙ sym (start .pre .1 .1 .0 .1) in
+    let g = given 0 (start .args .levels) (start .args .a .now) (start .args .b .now) (start .pre .1 .0 .0) (start .pre .1 .1 .0 .0) (λ i. (c .before .before .before .before .before .before .before .before .before .before .before .before) .shared-slice-known .given i .fits) (λ i. (c .before .before .before .before .before .before .before .before .before .before .before) .shared-slice-known2 .given i .fits) (start .pre .1 .1 .1 .1) in
+    let cut = actions-cut g same key _ _ refl refl (start .pre .1 .1 .1 .0) in
+    let put = (c .before .before .before .before .before .before .before) .copy in
+    let front = actions-front g same key _ _ refl refl in
+    let rows = (c .before .before) .write-attributes in
+    omega (arith, behind-small cut (g .ready) (put .last .1 .0) 5 (put .ensures) front (rows .last .1 .1 .1 .1 .1 .1 .0) (rows .result) (rows .ensures))
+
+-- src/bound_writes.rt:141:1
+write-action-same-length : (t : ℕ) → write-action-lts.Need-same-length (write-action-callees t) (write-action-at t) write-action.Post
+write-action-same-length t c = search needs
+
+-- src/bound_writes.rt:141:1
+write-action-returns : (t : ℕ) → write-action-lts.Need-returns (write-action-callees t) (write-action-at t) write-action.Post
+write-action-returns t c =
+    let start = (c .before .before .before .before .before .before .before .before .before .before .before .before .before) in
+    let key = start .pre .1 .0 .1 in
+    let same = key ∙ sym (start .pre .1 .1 .0 .1) in
+    let g = given 0 (start .args .levels) (start .args .a .now) (start .args .b .now) (start .pre .1 .0 .0) (start .pre .1 .1 .0 .0) (λ i. (c .before .before .before .before .before .before .before .before .before .before .before .before) .shared-slice-known .given i .fits) (λ i. (c .before .before .before .before .before .before .before .before .before .before .before) .shared-slice-known2 .given i .fits) (start .pre .1 .1 .1 .1) in
+    let cut = actions-cut g same key _ _ refl refl (start .pre .1 .1 .1 .0) in
+    let put = (c .before .before .before .before .before .before .before) .copy in
+    let front = actions-front g same key _ _ refl refl in
+    let rows = (c .before .before) .write-attributes in
+    behind-written cut (g .ready) (put .last .1 .0) 5 (put .ensures) front (rows .last .1 .1 .1 .1 .1 .1 .0) (rows .result) (rows .ensures)
+
+abbrev write-attributes-Inv-loop : write-attributes-lts.InvT-loop
+write-attributes-Inv-loop mode a b at n levels out₀ left₀ e₀ s₀ m₀ f₀ c₀ next₀ pos₀ out left e s m f c next pos = Joining (asMode mode) (joinedAttrs (asMode mode) (attrsAt levels at a) (attrsAt levels at b)) levels out₀ left e s m f c next pos out
+
+abbrev write-attributes-μ-loop : write-attributes-lts.MeasureT-loop
+write-attributes-μ-loop mode a b at n levels out₀ left₀ e₀ s₀ m₀ f₀ c₀ next₀ pos₀ out left e s m f c next pos = left
+
+abbrev write-attributes-callees : ℕ → write-attributes-lts.Claims
+write-attributes-callees t = (
+  u16-at-reads.Asked,
+  u16-at-reads.Learnt,
+  entries-at-reads.Asked,
+  entries-at-reads.Learnt,
+  bodies-at-reads.Asked,
+  bodies-at-reads.Learnt,
+  skip-below-reads.Asked,
+  skip-below-reads.Learnt,
+  write-pair-below t,
+  write-pair.Post,
+  both-required-reads.Asked,
+  both-required-reads.Learnt,
+  put-attribute-reads.Asked,
+  put-attribute-reads.Learnt,
+)
+
+-- src/bound_writes.rt:171:9
+write-attributes-u16-at-requires : (t : ℕ) → write-attributes-lts.Need-u16-at-requires (write-attributes-callees t) (write-attributes-at t) write-attributes.Post write-attributes-Inv-loop write-attributes-μ-loop
+write-attributes-u16-at-requires t c κs = omega (arith, (c .before .before .before) .pre .1 .0 .fit)
+
+-- src/bound_writes.rt:172:9
+write-attributes-entries-at-requires : (t : ℕ) → write-attributes-lts.Need-entries-at-requires (write-attributes-callees t) (write-attributes-at t) write-attributes.Post write-attributes-Inv-loop write-attributes-μ-loop
+write-attributes-entries-at-requires t c κs = ((c .before .before .before .before) .pre .1 .0 .front, (c .before .before .before .before) .pre .1 .0 .fit)
+
+-- src/bound_writes.rt:173:9
+write-attributes-bodies-at-requires : (t : ℕ) → write-attributes-lts.Need-bodies-at-requires (write-attributes-callees t) (write-attributes-at t) write-attributes.Post write-attributes-Inv-loop write-attributes-μ-loop
+write-attributes-bodies-at-requires t c κs = ((c .before .before .before .before .before) .pre .1 .0 .front, (c .before .before .before .before .before) .pre .1 .0 .fit)
+
+-- src/bound_writes.rt:174:9
+write-attributes-u16-at-requires-2 : (t : ℕ) → write-attributes-lts.Need-u16-at-requires-2 (write-attributes-callees t) (write-attributes-at t) write-attributes.Post write-attributes-Inv-loop write-attributes-μ-loop
+write-attributes-u16-at-requires-2 t c κs = omega (arith, (c .before .before .before .before .before .before) .pre .1 .1 .0 .fit)
+
+-- src/bound_writes.rt:175:9
+write-attributes-entries-at-requires-2 : (t : ℕ) → write-attributes-lts.Need-entries-at-requires-2 (write-attributes-callees t) (write-attributes-at t) write-attributes.Post write-attributes-Inv-loop write-attributes-μ-loop
+write-attributes-entries-at-requires-2 t c κs = ((c .before .before .before .before .before .before .before) .pre .1 .1 .0 .front, (c .before .before .before .before .before .before .before) .pre .1 .1 .0 .fit)
+
+-- src/bound_writes.rt:176:9
+write-attributes-bodies-at-requires-2 : (t : ℕ) → write-attributes-lts.Need-bodies-at-requires-2 (write-attributes-callees t) (write-attributes-at t) write-attributes.Post write-attributes-Inv-loop write-attributes-μ-loop
+write-attributes-bodies-at-requires-2 t c κs = ((c .before .before .before .before .before .before .before .before) .pre .1 .1 .0 .front, (c .before .before .before .before .before .before .before .before) .pre .1 .1 .0 .fit)
+
+-- src/bound_writes.rt:178:19
+write-attributes-mul-pos : (t : ℕ) → write-attributes-lts.Need-mul-pos (write-attributes-callees t) (write-attributes-at t) write-attributes.Post write-attributes-Inv-loop write-attributes-μ-loop
+write-attributes-mul-pos t c =
+    let start = (c .before .before .before .before .before .before .before .before .before) in
+    omega (arith, kept-few (start .pre .1 .1 .1 .1) (start .args .n) (start .pre .1 .1 .1 .0))
+
+-- src/bound_writes.rt:179:5
+write-attributes-loop-holds : (t : ℕ) → write-attributes-lts.Need-loop-holds (write-attributes-callees t) (write-attributes-at t) write-attributes.Post write-attributes-Inv-loop write-attributes-μ-loop
+write-attributes-loop-holds t c =
+    let start = (c .before .before .before .before .before .before .before .before .before) in
+    let first = split ((c .before .before .before .before .before) .u16-at .ensures .0) ((c .before .before .before .before) .entries-at .ensures) ((c .before .before .before) .bodies-at .ensures) in
+    let second = split ((c .before .before) .u16-at2 .ensures .0) ((c .before) .entries-at2 .ensures) (c .bodies-at2 .ensures) in
+    joining-start (start .pre .1 .0) (start .pre .1 .1 .0) first second ((c .before .before) .u16-at2 .ensures .1) (asMode (start .args .mode)) (start .args .n) (start .pre .1 .1 .1 .0) (start .pre .1 .1 .1 .1)
+
+-- src/bound_writes.rt:180:13
+write-attributes-u16-at-requires-3 : (t : ℕ) → write-attributes-lts.Need-u16-at-requires-3 (write-attributes-callees t) (write-attributes-at t) write-attributes.Post write-attributes-Inv-loop write-attributes-μ-loop
+write-attributes-u16-at-requires-3 t c κs = omega (arith, joining-entry ((c .before) .loop .inv) (c .loop-test .taken))
+
+-- src/bound_writes.rt:181:24
+write-attributes-shared-slice-read-required : (t : ℕ) → write-attributes-lts.Need-shared-slice-read-required (write-attributes-callees t) (write-attributes-at t) write-attributes.Post write-attributes-Inv-loop write-attributes-μ-loop
+write-attributes-shared-slice-read-required t c = omega (arith, joining-entry ((c .before .before .before) .loop .inv) ((c .before .before) .loop-test .taken))
+
+-- src/bound_writes.rt:182:13
+write-attributes-u16-at-requires-4 : (t : ℕ) → write-attributes-lts.Need-u16-at-requires-4 (write-attributes-callees t) (write-attributes-at t) write-attributes.Post write-attributes-Inv-loop write-attributes-μ-loop
+write-attributes-u16-at-requires-4 t c κs = omega (arith, joining-entry ((c .before .before .before) .loop .inv) ((c .before .before) .loop-test .taken))
+
+-- src/bound_writes.rt:183:13
+write-attributes-skip-below-requires : (t : ℕ) → write-attributes-lts.Need-skip-below-requires (write-attributes-callees t) (write-attributes-at t) write-attributes.Post write-attributes-Inv-loop write-attributes-μ-loop
+write-attributes-skip-below-requires t c κs = laid ((c .before .before .before .before) .loop .inv .walk .second)
+
+-- src/bound_writes.rt:185:16
+write-attributes-mul-f : (t : ℕ) → write-attributes-lts.Need-mul-f (write-attributes-callees t) (write-attributes-at t) write-attributes.Post write-attributes-Inv-loop write-attributes-μ-loop
+write-attributes-mul-f t c =
+    let w = (c .before .before .before .before .before .before) .loop .inv in
+    let p = (c .before .before .before .before .before) .loop-test .taken in
+    let name = (c .before .before .before .before) .u16-at3 in
+    let skipped = (c .before) .skip-below in
+    omega (arith, joining-past w p (name .result) (name .ensures .0) (skipped .result .entries) (skipped .result .bytes) (skipped .ensures) .most, w .few)
+
+-- src/bound_writes.rt:185:13
+write-attributes-sub-f : (t : ℕ) → write-attributes-lts.Need-sub-f (write-attributes-callees t) (write-attributes-at t) write-attributes.Post write-attributes-Inv-loop write-attributes-μ-loop
+write-attributes-sub-f t c =
+    let w = (c .before .before .before .before .before .before) .loop .inv in
+    let p = (c .before .before .before .before .before) .loop-test .taken in
+    let name = (c .before .before .before .before) .u16-at3 in
+    let skipped = (c .before) .skip-below in
+    omega (arith, joining-past w p (name .result) (name .ensures .0) (skipped .result .entries) (skipped .result .bytes) (skipped .ensures) .room)
+
+-- src/bound_writes.rt:185:13
+write-attributes-part-f-start : (t : ℕ) → write-attributes-lts.Need-part-f-start (write-attributes-callees t) (write-attributes-at t) write-attributes.Post write-attributes-Inv-loop write-attributes-μ-loop
+write-attributes-part-f-start t c =
+    let w = (c .before .before .before .before .before .before) .loop .inv in
+    let p = (c .before .before .before .before .before) .loop-test .taken in
+    let name = (c .before .before .before .before) .u16-at3 in
+    let skipped = (c .before) .skip-below in
+    omega (arith, joining-past w p (name .result) (name .ensures .0) (skipped .result .entries) (skipped .result .bytes) (skipped .ensures) .room)
+
+-- src/bound_writes.rt:185:13
+write-attributes-part-f-end : (t : ℕ) → write-attributes-lts.Need-part-f-end (write-attributes-callees t) (write-attributes-at t) write-attributes.Post write-attributes-Inv-loop write-attributes-μ-loop
+write-attributes-part-f-end t c = search needs
+
+-- src/bound_writes.rt:186:13
+write-attributes-sub-c : (t : ℕ) → write-attributes-lts.Need-sub-c (write-attributes-callees t) (write-attributes-at t) write-attributes.Post write-attributes-Inv-loop write-attributes-μ-loop
+write-attributes-sub-c t c =
+    let w = (c .before .before .before .before .before .before .before) .loop .inv in
+    let p = (c .before .before .before .before .before .before) .loop-test .taken in
+    let name = (c .before .before .before .before .before) .u16-at3 in
+    let skipped = (c .before .before) .skip-below in
+    omega (arith, joining-past w p (name .result) (name .ensures .0) (skipped .result .entries) (skipped .result .bytes) (skipped .ensures) .inside)
+
+-- src/bound_writes.rt:186:13
+write-attributes-part-c-start : (t : ℕ) → write-attributes-lts.Need-part-c-start (write-attributes-callees t) (write-attributes-at t) write-attributes.Post write-attributes-Inv-loop write-attributes-μ-loop
+write-attributes-part-c-start t c =
+    let w = (c .before .before .before .before .before .before .before) .loop .inv in
+    let p = (c .before .before .before .before .before .before) .loop-test .taken in
+    let name = (c .before .before .before .before .before) .u16-at3 in
+    let skipped = (c .before .before) .skip-below in
+    omega (arith, joining-past w p (name .result) (name .ensures .0) (skipped .result .entries) (skipped .result .bytes) (skipped .ensures) .inside)
+
+-- src/bound_writes.rt:186:13
+write-attributes-part-c-end : (t : ℕ) → write-attributes-lts.Need-part-c-end (write-attributes-callees t) (write-attributes-at t) write-attributes.Post write-attributes-Inv-loop write-attributes-μ-loop
+write-attributes-part-c-end t c = search needs
+
+-- src/bound_writes.rt:187:9
+write-attributes-sub-m : (t : ℕ) → write-attributes-lts.Need-sub-m (write-attributes-callees t) (write-attributes-at t) write-attributes.Post write-attributes-Inv-loop write-attributes-μ-loop
+write-attributes-sub-m t c =
+    let w = (c .before .before .before .before .before .before .before .before .before) .loop .inv in
+    let p = (c .before .before .before .before .before .before .before .before) .loop-test .taken in
+    let name = (c .before .before .before .before .before .before .before) .u16-at3 in
+    let skipped = (c .before .before .before .before) .skip-below in
+    omega (arith, joining-past w p (name .result) (name .ensures .0) (skipped .result .entries) (skipped .result .bytes) (skipped .ensures) .most)
+
+-- src/bound_writes.rt:188:37
+write-attributes-sub-write-pair : (t : ℕ) → write-attributes-lts.Need-sub-write-pair (write-attributes-callees t) (write-attributes-at t) write-attributes.Post write-attributes-Inv-loop write-attributes-μ-loop
+write-attributes-sub-write-pair t c = search needs
+
+-- src/bound_writes.rt:188:37
+write-attributes-part-write-pair-start : (t : ℕ) → write-attributes-lts.Need-part-write-pair-start (write-attributes-callees t) (write-attributes-at t) write-attributes.Post write-attributes-Inv-loop write-attributes-μ-loop
+write-attributes-part-write-pair-start t c = search needs
+
+-- src/bound_writes.rt:188:37
+write-attributes-part-write-pair-end : (t : ℕ) → write-attributes-lts.Need-part-write-pair-end (write-attributes-callees t) (write-attributes-at t) write-attributes.Post write-attributes-Inv-loop write-attributes-μ-loop
+write-attributes-part-write-pair-end t c =
+    let w = (c .before .before .before .before .before .before .before .before .before) .loop .inv in
+    let p = (c .before .before .before .before .before .before .before .before) .loop-test .taken in
+    let name = (c .before .before .before .before .before .before .before) .u16-at3 in
+    let len = (c .before .before .before .before .before) .u16-at4 in
+    let skipped = (c .before .before .before .before) .skip-below in
+    omega (arith, joining-body w p (name .result) (name .ensures .0) (skipped .result .entries) (skipped .result .bytes) (skipped .ensures) (len .result) (len .ensures .0) .0)
+
+-- src/bound_writes.rt:188:66
+write-attributes-sub-write-pair-2 : (t : ℕ) → write-attributes-lts.Need-sub-write-pair-2 (write-attributes-callees t) (write-attributes-at t) write-attributes.Post write-attributes-Inv-loop write-attributes-μ-loop
+write-attributes-sub-write-pair-2 t c =
+    let w = (c .before .before .before .before .before .before .before .before .before .before) .loop .inv in
+    let p = (c .before .before .before .before .before .before .before .before .before) .loop-test .taken in
+    let name = (c .before .before .before .before .before .before .before .before) .u16-at3 in
+    let len = (c .before .before .before .before .before .before) .u16-at4 in
+    let skipped = (c .before .before .before .before .before) .skip-below in
+    omega (arith, attach-pos (joining-turn w p (name .result) (name .ensures .0) (skipped .result .entries) (skipped .result .bytes) (skipped .ensures) (len .result) (len .ensures .0)))
+
+-- src/bound_writes.rt:188:66
+write-attributes-part-write-pair-start-2 : (t : ℕ) → write-attributes-lts.Need-part-write-pair-start-2 (write-attributes-callees t) (write-attributes-at t) write-attributes.Post write-attributes-Inv-loop write-attributes-μ-loop
+write-attributes-part-write-pair-start-2 t c =
+    let w = (c .before .before .before .before .before .before .before .before .before .before) .loop .inv in
+    let p = (c .before .before .before .before .before .before .before .before .before) .loop-test .taken in
+    let name = (c .before .before .before .before .before .before .before .before) .u16-at3 in
+    let len = (c .before .before .before .before .before .before) .u16-at4 in
+    let skipped = (c .before .before .before .before .before) .skip-below in
+    omega (arith, attach-pos (joining-turn w p (name .result) (name .ensures .0) (skipped .result .entries) (skipped .result .bytes) (skipped .ensures) (len .result) (len .ensures .0)))
+
+-- src/bound_writes.rt:188:66
+write-attributes-part-write-pair-end-2 : (t : ℕ) → write-attributes-lts.Need-part-write-pair-end-2 (write-attributes-callees t) (write-attributes-at t) write-attributes.Post write-attributes-Inv-loop write-attributes-μ-loop
+write-attributes-part-write-pair-end-2 t c = search needs
+
+-- src/bound_writes.rt:188:13
+write-attributes-write-pair-requires : (t : ℕ) → write-attributes-lts.Need-write-pair-requires (write-attributes-callees t) (write-attributes-at t) write-attributes.Post write-attributes-Inv-loop write-attributes-μ-loop
+write-attributes-write-pair-requires t c κs =
+    let w = (c .before .before .before .before .before .before .before .before .before .before .before) .loop .inv in
+    let p = (c .before .before .before .before .before .before .before .before .before .before) .loop-test .taken in
+    let name = (c .before .before .before .before .before .before .before .before .before) .u16-at3 in
+    let len = (c .before .before .before .before .before .before .before) .u16-at4 in
+    let skipped = (c .before .before .before .before .before .before) .skip-below in
+    (omega (arith, (c .before .before .before .before .before .before .before .before .before .before .before .before .before .before .before .before .before .before .before .before .before) .pre .0), (joining-entry w p, (joining-body w p (name .result) (name .ensures .0) (skipped .result .entries) (skipped .result .bytes) (skipped .ensures) (len .result) (len .ensures .0) .1, (joining-front w p (name .result) (name .ensures .0) (skipped .result .entries) (skipped .result .bytes) (skipped .ensures) (len .result) (len .ensures .0), attach-ready (joining-turn w p (name .result) (name .ensures .0) (skipped .result .entries) (skipped .result .bytes) (skipped .ensures) (len .result) (len .ensures .0))))))
+
+-- src/bound_writes.rt:189:13
+write-attributes-sub-e : (t : ℕ) → write-attributes-lts.Need-sub-e (write-attributes-callees t) (write-attributes-at t) write-attributes.Post write-attributes-Inv-loop write-attributes-μ-loop
+write-attributes-sub-e t c = omega (arith, joining-entry ((c .before .before .before .before .before .before .before .before .before .before .before .before .before .before) .loop .inv) ((c .before .before .before .before .before .before .before .before .before .before .before .before .before) .loop-test .taken))
+
+-- src/bound_writes.rt:189:13
+write-attributes-part-e-start : (t : ℕ) → write-attributes-lts.Need-part-e-start (write-attributes-callees t) (write-attributes-at t) write-attributes.Post write-attributes-Inv-loop write-attributes-μ-loop
+write-attributes-part-e-start t c = omega (arith, joining-entry ((c .before .before .before .before .before .before .before .before .before .before .before .before .before .before) .loop .inv) ((c .before .before .before .before .before .before .before .before .before .before .before .before .before) .loop-test .taken))
+
+-- src/bound_writes.rt:189:13
+write-attributes-part-e-end : (t : ℕ) → write-attributes-lts.Need-part-e-end (write-attributes-callees t) (write-attributes-at t) write-attributes.Post write-attributes-Inv-loop write-attributes-μ-loop
+write-attributes-part-e-end t c = search needs
+
+-- src/bound_writes.rt:190:13
+write-attributes-sub-s : (t : ℕ) → write-attributes-lts.Need-sub-s (write-attributes-callees t) (write-attributes-at t) write-attributes.Post write-attributes-Inv-loop write-attributes-μ-loop
+write-attributes-sub-s t c =
+    let w = (c .before .before .before .before .before .before .before .before .before .before .before .before .before .before .before) .loop .inv in
+    let p = (c .before .before .before .before .before .before .before .before .before .before .before .before .before .before) .loop-test .taken in
+    let name = (c .before .before .before .before .before .before .before .before .before .before .before .before .before) .u16-at3 in
+    let len = (c .before .before .before .before .before .before .before .before .before .before .before) .u16-at4 in
+    let skipped = (c .before .before .before .before .before .before .before .before .before .before) .skip-below in
+    omega (arith, joining-body w p (name .result) (name .ensures .0) (skipped .result .entries) (skipped .result .bytes) (skipped .ensures) (len .result) (len .ensures .0) .0)
+
+-- src/bound_writes.rt:190:13
+write-attributes-part-s-start : (t : ℕ) → write-attributes-lts.Need-part-s-start (write-attributes-callees t) (write-attributes-at t) write-attributes.Post write-attributes-Inv-loop write-attributes-μ-loop
+write-attributes-part-s-start t c =
+    let w = (c .before .before .before .before .before .before .before .before .before .before .before .before .before .before .before) .loop .inv in
+    let p = (c .before .before .before .before .before .before .before .before .before .before .before .before .before .before) .loop-test .taken in
+    let name = (c .before .before .before .before .before .before .before .before .before .before .before .before .before) .u16-at3 in
+    let len = (c .before .before .before .before .before .before .before .before .before .before .before) .u16-at4 in
+    let skipped = (c .before .before .before .before .before .before .before .before .before .before) .skip-below in
+    omega (arith, joining-body w p (name .result) (name .ensures .0) (skipped .result .entries) (skipped .result .bytes) (skipped .ensures) (len .result) (len .ensures .0) .0)
+
+-- src/bound_writes.rt:190:13
+write-attributes-part-s-end : (t : ℕ) → write-attributes-lts.Need-part-s-end (write-attributes-callees t) (write-attributes-at t) write-attributes.Post write-attributes-Inv-loop write-attributes-μ-loop
+write-attributes-part-s-end t c = search needs
+
+-- src/bound_writes.rt:191:9
+write-attributes-sub-left : (t : ℕ) → write-attributes-lts.Need-sub-left (write-attributes-callees t) (write-attributes-at t) write-attributes.Post write-attributes-Inv-loop write-attributes-μ-loop
+write-attributes-sub-left t c = omega arith
+
+-- src/bound_writes.rt:179:5
+write-attributes-loop-less : (t : ℕ) → write-attributes-lts.Need-loop-less (write-attributes-callees t) (write-attributes-at t) write-attributes.Post write-attributes-Inv-loop write-attributes-μ-loop
+write-attributes-loop-less t c = omega arith
+
+-- src/bound_writes.rt:179:5
+write-attributes-loop-again : (t : ℕ) → write-attributes-lts.Need-loop-again (write-attributes-callees t) (write-attributes-at t) write-attributes.Post write-attributes-Inv-loop write-attributes-μ-loop
+write-attributes-loop-again t c =
+    let w = (c .before .before .before .before .before .before .before .before .before .before .before .before .before .before .before .before .before) .loop .inv in
+    let p = (c .before .before .before .before .before .before .before .before .before .before .before .before .before .before .before .before) .loop-test .taken in
+    let name = (c .before .before .before .before .before .before .before .before .before .before .before .before .before .before .before) .u16-at3 in
+    let len = (c .before .before .before .before .before .before .before .before .before .before .before .before .before) .u16-at4 in
+    let skipped = (c .before .before .before .before .before .before .before .before .before .before .before .before) .skip-below in
+    let pair = (c .before .before .before .before .before) .write-pair in
+    joining-none w p (name .result) (name .ensures .0) (skipped .result .entries) (skipped .result .bytes) (skipped .ensures) (len .result) (len .ensures .0) (pair .last .1 .1 .1 .1 .1 .1 .1 .0) (pair .result) (pair .ensures) (c .if1 .taken)
+
+-- src/bound_writes.rt:195:44
+write-attributes-shared-slice-read-both-required : (t : ℕ) → write-attributes-lts.Need-shared-slice-read-both-required (write-attributes-callees t) (write-attributes-at t) write-attributes.Post write-attributes-Inv-loop write-attributes-μ-loop
+write-attributes-shared-slice-read-both-required t c =
+    let w = (c .before .before .before .before .before .before .before .before .before .before .before .before .before .before .before .before .before .before) .loop .inv in
+    let p = (c .before .before .before .before .before .before .before .before .before .before .before .before .before .before .before .before .before) .loop-test .taken in
+    let name = (c .before .before .before .before .before .before .before .before .before .before .before .before .before .before .before .before) .u16-at3 in
+    let len = (c .before .before .before .before .before .before .before .before .before .before .before .before .before .before) .u16-at4 in
+    let skipped = (c .before .before .before .before .before .before .before .before .before .before .before .before .before) .skip-below in
+    let pair = (c .before .before .before .before .before .before) .write-pair in
+    omega (arith, joining-other w p (name .result) (name .ensures .0) (skipped .result .entries) (skipped .result .bytes) (skipped .ensures) (len .result) (len .ensures .0) (pair .last .1 .1 .1 .1 .1 .1 .1 .0) (pair .result) (pair .ensures) ((c .before) .if1 .left))
+
+-- src/bound_writes.rt:195:13
+write-attributes-both-required-requires : (t : ℕ) → write-attributes-lts.Need-both-required-requires (write-attributes-callees t) (write-attributes-at t) write-attributes.Post write-attributes-Inv-loop write-attributes-μ-loop
+write-attributes-both-required-requires t c κs = search needs
+
+-- src/bound_writes.rt:196:23
+write-attributes-sub-put-attribute : (t : ℕ) → write-attributes-lts.Need-sub-put-attribute (write-attributes-callees t) (write-attributes-at t) write-attributes.Post write-attributes-Inv-loop write-attributes-μ-loop
+write-attributes-sub-put-attribute t c =
+    let w = (c .before .before .before .before .before .before .before .before .before .before .before .before .before .before .before .before .before .before .before) .loop .inv in
+    let p = (c .before .before .before .before .before .before .before .before .before .before .before .before .before .before .before .before .before .before) .loop-test .taken in
+    let name = (c .before .before .before .before .before .before .before .before .before .before .before .before .before .before .before .before .before) .u16-at3 in
+    let len = (c .before .before .before .before .before .before .before .before .before .before .before .before .before .before .before) .u16-at4 in
+    let skipped = (c .before .before .before .before .before .before .before .before .before .before .before .before .before .before) .skip-below in
+    let pair = (c .before .before .before .before .before .before .before) .write-pair in
+    omega (arith, joining-at w p (name .result) (name .ensures .0) (skipped .result .entries) (skipped .result .bytes) (skipped .ensures) (len .result) (len .ensures .0) (pair .last .1 .1 .1 .1 .1 .1 .1 .0) (pair .result) (pair .ensures) ((c .before .before) .if1 .left))
+
+-- src/bound_writes.rt:196:23
+write-attributes-part-put-attribute-start : (t : ℕ) → write-attributes-lts.Need-part-put-attribute-start (write-attributes-callees t) (write-attributes-at t) write-attributes.Post write-attributes-Inv-loop write-attributes-μ-loop
+write-attributes-part-put-attribute-start t c =
+    let w = (c .before .before .before .before .before .before .before .before .before .before .before .before .before .before .before .before .before .before .before) .loop .inv in
+    let p = (c .before .before .before .before .before .before .before .before .before .before .before .before .before .before .before .before .before .before) .loop-test .taken in
+    let name = (c .before .before .before .before .before .before .before .before .before .before .before .before .before .before .before .before .before) .u16-at3 in
+    let len = (c .before .before .before .before .before .before .before .before .before .before .before .before .before .before .before) .u16-at4 in
+    let skipped = (c .before .before .before .before .before .before .before .before .before .before .before .before .before .before) .skip-below in
+    let pair = (c .before .before .before .before .before .before .before) .write-pair in
+    omega (arith, joining-at w p (name .result) (name .ensures .0) (skipped .result .entries) (skipped .result .bytes) (skipped .ensures) (len .result) (len .ensures .0) (pair .last .1 .1 .1 .1 .1 .1 .1 .0) (pair .result) (pair .ensures) ((c .before .before) .if1 .left))
+
+-- src/bound_writes.rt:196:23
+write-attributes-part-put-attribute-end : (t : ℕ) → write-attributes-lts.Need-part-put-attribute-end (write-attributes-callees t) (write-attributes-at t) write-attributes.Post write-attributes-Inv-loop write-attributes-μ-loop
+write-attributes-part-put-attribute-end t c = search needs
+
+-- src/bound_writes.rt:196:9
+write-attributes-put-attribute-requires : (t : ℕ) → write-attributes-lts.Need-put-attribute-requires (write-attributes-callees t) (write-attributes-at t) write-attributes.Post write-attributes-Inv-loop write-attributes-μ-loop
+write-attributes-put-attribute-requires t c κs =
+    let w = (c .before .before .before .before .before .before .before .before .before .before .before .before .before .before .before .before .before .before .before .before) .loop .inv in
+    let p = (c .before .before .before .before .before .before .before .before .before .before .before .before .before .before .before .before .before .before .before) .loop-test .taken in
+    let name = (c .before .before .before .before .before .before .before .before .before .before .before .before .before .before .before .before .before .before) .u16-at3 in
+    let len = (c .before .before .before .before .before .before .before .before .before .before .before .before .before .before .before .before) .u16-at4 in
+    let skipped = (c .before .before .before .before .before .before .before .before .before .before .before .before .before .before .before) .skip-below in
+    let pair = (c .before .before .before .before .before .before .before .before) .write-pair in
+    let kept = (c .before .before .before) .if1 .left in
+    (joining-room w p (name .result) (name .ensures .0) (skipped .result .entries) (skipped .result .bytes) (skipped .ensures) (len .result) (len .ensures .0) (pair .last .1 .1 .1 .1 .1 .1 .1 .0) (pair .result) (pair .ensures) kept, (name .ensures .1, omega (arith, joining-small w p (name .result) (name .ensures .0) (skipped .result .entries) (skipped .result .bytes) (skipped .ensures) (len .result) (len .ensures .0) (pair .last .1 .1 .1 .1 .1 .1 .1 .0) (pair .result) (pair .ensures) kept)))
+
+-- src/bound_writes.rt:197:9
+write-attributes-add-next : (t : ℕ) → write-attributes-lts.Need-add-next (write-attributes-callees t) (write-attributes-at t) write-attributes.Post write-attributes-Inv-loop write-attributes-μ-loop
+write-attributes-add-next t c =
+    let w = (c .before .before .before .before .before .before .before .before .before .before .before .before .before .before .before .before .before .before .before .before .before .before .before) .loop .inv in
+    let p = (c .before .before .before .before .before .before .before .before .before .before .before .before .before .before .before .before .before .before .before .before .before .before) .loop-test .taken in
+    let name = (c .before .before .before .before .before .before .before .before .before .before .before .before .before .before .before .before .before .before .before .before .before) .u16-at3 in
+    let len = (c .before .before .before .before .before .before .before .before .before .before .before .before .before .before .before .before .before .before .before) .u16-at4 in
+    let skipped = (c .before .before .before .before .before .before .before .before .before .before .before .before .before .before .before .before .before .before) .skip-below in
+    let pair = (c .before .before .before .before .before .before .before .before .before .before .before) .write-pair in
+    omega (arith, joining-small w p (name .result) (name .ensures .0) (skipped .result .entries) (skipped .result .bytes) (skipped .ensures) (len .result) (len .ensures .0) (pair .last .1 .1 .1 .1 .1 .1 .1 .0) (pair .result) (pair .ensures) ((c .before .before .before .before .before .before) .if1 .left))
+
+-- src/bound_writes.rt:198:9
+write-attributes-add-pos : (t : ℕ) → write-attributes-lts.Need-add-pos (write-attributes-callees t) (write-attributes-at t) write-attributes.Post write-attributes-Inv-loop write-attributes-μ-loop
+write-attributes-add-pos t c =
+    let w = (c .before .before .before .before .before .before .before .before .before .before .before .before .before .before .before .before .before .before .before .before .before .before .before) .loop .inv in
+    let p = (c .before .before .before .before .before .before .before .before .before .before .before .before .before .before .before .before .before .before .before .before .before .before) .loop-test .taken in
+    let name = (c .before .before .before .before .before .before .before .before .before .before .before .before .before .before .before .before .before .before .before .before .before) .u16-at3 in
+    let len = (c .before .before .before .before .before .before .before .before .before .before .before .before .before .before .before .before .before .before .before) .u16-at4 in
+    let skipped = (c .before .before .before .before .before .before .before .before .before .before .before .before .before .before .before .before .before .before) .skip-below in
+    let pair = (c .before .before .before .before .before .before .before .before .before .before .before) .write-pair in
+    omega (arith, joining-small w p (name .result) (name .ensures .0) (skipped .result .entries) (skipped .result .bytes) (skipped .ensures) (len .result) (len .ensures .0) (pair .last .1 .1 .1 .1 .1 .1 .1 .0) (pair .result) (pair .ensures) ((c .before .before .before .before .before .before) .if1 .left))
+
+-- src/bound_writes.rt:179:5
+write-attributes-loop-less-2 : (t : ℕ) → write-attributes-lts.Need-loop-less-2 (write-attributes-callees t) (write-attributes-at t) write-attributes.Post write-attributes-Inv-loop write-attributes-μ-loop
+write-attributes-loop-less-2 t c = omega arith
+
+-- src/bound_writes.rt:179:5
+write-attributes-loop-again-2 : (t : ℕ) → write-attributes-lts.Need-loop-again-2 (write-attributes-callees t) (write-attributes-at t) write-attributes.Post write-attributes-Inv-loop write-attributes-μ-loop
+write-attributes-loop-again-2 t c =
+    let w = (c .before .before .before .before .before .before .before .before .before .before .before .before .before .before .before .before .before .before .before .before .before .before .before) .loop .inv in
+    let p = (c .before .before .before .before .before .before .before .before .before .before .before .before .before .before .before .before .before .before .before .before .before .before) .loop-test .taken in
+    let name = (c .before .before .before .before .before .before .before .before .before .before .before .before .before .before .before .before .before .before .before .before .before) .u16-at3 in
+    let len = (c .before .before .before .before .before .before .before .before .before .before .before .before .before .before .before .before .before .before .before) .u16-at4 in
+    let skipped = (c .before .before .before .before .before .before .before .before .before .before .before .before .before .before .before .before .before .before) .skip-below in
+    let pair = (c .before .before .before .before .before .before .before .before .before .before .before) .write-pair in
+    let flag = (c .before .before .before .before) .both-required in
+    let put = (c .before .before) .put-attribute in
+    joining-some w p (name .result) (name .ensures .0) (skipped .result .entries) (skipped .result .bytes) (skipped .ensures) (len .result) (len .ensures .0) (pair .last .1 .1 .1 .1 .1 .1 .1 .0) (pair .result) (pair .ensures) ((c .before .before .before .before .before .before) .if1 .left) (flag .result) (put .last .0) (flag .ensures) (put .ensures)
+
+-- src/bound_writes.rt:156:1
+write-attributes-same-length : (t : ℕ) → write-attributes-lts.Need-same-length (write-attributes-callees t) (write-attributes-at t) write-attributes.Post write-attributes-Inv-loop write-attributes-μ-loop
+write-attributes-same-length t c = joining-length ((c .before) .loop .inv)
+
+-- src/bound_writes.rt:156:1
+write-attributes-returns : (t : ℕ) → write-attributes-lts.Need-returns (write-attributes-callees t) (write-attributes-at t) write-attributes.Post write-attributes-Inv-loop write-attributes-μ-loop
+write-attributes-returns t c = joining-end ((c .before) .loop .inv) (c .loop-test .left)
+
+abbrev write-bound-callees : ℕ → write-bound-lts.Claims
+write-bound-callees t = (
+  write-form-reads.Asked,
+  write-form-reads.Learnt,
+  write-unlike-reads.Asked,
+  write-unlike-reads.Learnt,
+  put-one-reads.Asked,
+  put-one-reads.Learnt,
+  write-bound-below t,
+  write-bound.Post,
+  write-record-below t,
+  write-record.Post,
+  write-entities-reads.Asked,
+  write-entities-reads.Learnt,
+  u16-at-reads.Asked,
+  u16-at-reads.Learnt,
+  write-action-below t,
+  write-action.Post,
+)
+
+-- src/bound_writes.rt:84:13
+write-bound-shared-slice-read-j : (t : ℕ) → write-bound-lts.Need-shared-slice-read-j (write-bound-callees t) (write-bound-at t) write-bound.Post
+write-bound-shared-slice-read-j t c =
+    let start = (c .before .before .before .before) in
+    omega (arith, not-empty (start .args .levels) (start .args .a .now) (start .pre .1 .0))
+
+-- src/bound_writes.rt:85:13
+write-bound-shared-slice-read-k : (t : ℕ) → write-bound-lts.Need-shared-slice-read-k (write-bound-callees t) (write-bound-at t) write-bound.Post
+write-bound-shared-slice-read-k t c =
+    let start = (c .before .before .before .before .before) in
+    omega (arith, not-empty (start .args .levels) (start .args .b .now) (start .pre .1 .1 .0))
+
+-- src/bound_writes.rt:87:9
+write-bound-write-form-requires : (t : ℕ) → write-bound-lts.Need-write-form-requires (write-bound-callees t) (write-bound-at t) write-bound.Post
+write-bound-write-form-requires t c κs =
+    let start = (c .before .before .before .before .before .before .before) in
+    let g = given (start .args .mode) (start .args .levels) (start .args .a .now) (start .args .b .now) (start .pre .1 .0) (start .pre .1 .1 .0) (λ i. (c .before .before .before .before .before .before) .shared-slice-known .given i .fits) (λ i. (c .before .before .before .before .before) .shared-slice-known2 .given i .fits) (start .pre .1 .1 .1) in
+    second-copied g ((c .before) .if1 .taken) .room
+
+-- src/bound_writes.rt:87:9
+write-bound-same-length : (t : ℕ) → write-bound-lts.Need-same-length (write-bound-callees t) (write-bound-at t) write-bound.Post
+write-bound-same-length t c = search needs
+
+-- src/bound_writes.rt:87:9
+write-bound-returns : (t : ℕ) → write-bound-lts.Need-returns (write-bound-callees t) (write-bound-at t) write-bound.Post
+write-bound-returns t c =
+    let start = (c .before .before .before .before .before .before .before .before .before .before) in
+    let g = given (start .args .mode) (start .args .levels) (start .args .a .now) (start .args .b .now) (start .pre .1 .0) (start .pre .1 .1 .0) (λ i. (c .before .before .before .before .before .before .before .before .before) .shared-slice-known .given i .fits) (λ i. (c .before .before .before .before .before .before .before .before) .shared-slice-known2 .given i .fits) (start .pre .1 .1 .1) in
+    second-copied g ((c .before .before .before .before) .if1 .taken) .written _ _ ((c .before .before) .write-form .ensures)
+
+-- src/bound_writes.rt:90:9
+write-bound-write-form-requires-2 : (t : ℕ) → write-bound-lts.Need-write-form-requires-2 (write-bound-callees t) (write-bound-at t) write-bound.Post
+write-bound-write-form-requires-2 t c κs =
+    let start = (c .before .before .before .before .before .before .before .before) in
+    let g = given (start .args .mode) (start .args .levels) (start .args .a .now) (start .args .b .now) (start .pre .1 .0) (start .pre .1 .1 .0) (λ i. (c .before .before .before .before .before .before .before) .shared-slice-known .given i .fits) (λ i. (c .before .before .before .before .before .before) .shared-slice-known2 .given i .fits) (start .pre .1 .1 .1) in
+    first-copied g ((c .before) .if2 .taken) .room
+
+-- src/bound_writes.rt:90:9
+write-bound-same-length-2 : (t : ℕ) → write-bound-lts.Need-same-length-2 (write-bound-callees t) (write-bound-at t) write-bound.Post
+write-bound-same-length-2 t c = search needs
+
+-- src/bound_writes.rt:90:9
+write-bound-returns-2 : (t : ℕ) → write-bound-lts.Need-returns-2 (write-bound-callees t) (write-bound-at t) write-bound.Post
+write-bound-returns-2 t c =
+    let start = (c .before .before .before .before .before .before .before .before .before .before .before) in
+    let g = given (start .args .mode) (start .args .levels) (start .args .a .now) (start .args .b .now) (start .pre .1 .0) (start .pre .1 .1 .0) (λ i. (c .before .before .before .before .before .before .before .before .before .before) .shared-slice-known .given i .fits) (λ i. (c .before .before .before .before .before .before .before .before .before) .shared-slice-known2 .given i .fits) (start .pre .1 .1 .1) in
+    first-copied g ((c .before .before .before .before) .if2 .taken) .written _ _ ((c .before .before) .write-form2 .ensures)
+
+-- src/bound_writes.rt:93:9
+write-bound-write-unlike-requires : (t : ℕ) → write-bound-lts.Need-write-unlike-requires (write-bound-callees t) (write-bound-at t) write-bound.Post
+write-bound-write-unlike-requires t c κs =
+    let start = (c .before .before .before .before .before .before .before .before .before) in
+    let g = given (start .args .mode) (start .args .levels) (start .args .a .now) (start .args .b .now) (start .pre .1 .0) (start .pre .1 .1 .0) (λ i. (c .before .before .before .before .before .before .before .before) .shared-slice-known .given i .fits) (λ i. (c .before .before .before .before .before .before .before) .shared-slice-known2 .given i .fits) (start .pre .1 .1 .1) in
+    unlike-forms g ((c .before) .if3 .taken) ((c .before .before .before) .if1 .left) ((c .before .before) .if2 .left) .ready
+
+-- src/bound_writes.rt:93:9
+write-bound-same-length-3 : (t : ℕ) → write-bound-lts.Need-same-length-3 (write-bound-callees t) (write-bound-at t) write-bound.Post
+write-bound-same-length-3 t c = search needs
+
+-- src/bound_writes.rt:93:9
+write-bound-returns-3 : (t : ℕ) → write-bound-lts.Need-returns-3 (write-bound-callees t) (write-bound-at t) write-bound.Post
+write-bound-returns-3 t c =
+    let start = (c .before .before .before .before .before .before .before .before .before .before .before .before) in
+    let g = given (start .args .mode) (start .args .levels) (start .args .a .now) (start .args .b .now) (start .pre .1 .0) (start .pre .1 .1 .0) (λ i. (c .before .before .before .before .before .before .before .before .before .before .before) .shared-slice-known .given i .fits) (λ i. (c .before .before .before .before .before .before .before .before .before .before) .shared-slice-known2 .given i .fits) (start .pre .1 .1 .1) in
+    unlike-forms g ((c .before .before .before .before) .if3 .taken) ((c .before .before .before .before .before .before) .if1 .left) ((c .before .before .before .before .before) .if2 .left) .written _ _ ((c .before .before) .write-unlike .ensures)
+
+-- src/bound_writes.rt:97:13
+write-bound-put-one-requires : (t : ℕ) → write-bound-lts.Need-put-one-requires (write-bound-callees t) (write-bound-at t) write-bound.Post
+write-bound-put-one-requires t c κs =
+    let start = (c .before .before .before .before .before .before .before .before .before .before) in
+    let g = given (start .args .mode) (start .args .levels) (start .args .a .now) (start .args .b .now) (start .pre .1 .0) (start .pre .1 .1 .0) (λ i. (c .before .before .before .before .before .before .before .before .before) .shared-slice-known .given i .fits) (λ i. (c .before .before .before .before .before .before .before .before) .shared-slice-known2 .given i .fits) (start .pre .1 .1 .1) in
+    let same = (c .before .before) .if3 .left in
+    behind-front (sets-cut g same ((c .before) .match .keys1)) (g .ready)
+
+-- src/bound_writes.rt:98:21
+write-bound-sub-x : (t : ℕ) → write-bound-lts.Need-sub-x (write-bound-callees t) (write-bound-at t) write-bound.Post
+write-bound-sub-x t c =
+    let start = (c .before .before .before .before .before .before .before .before .before .before .before .before .before) in
+    omega (arith, not-empty (start .args .levels) (start .args .a .now) (start .pre .1 .0))
+
+-- src/bound_writes.rt:98:21
+write-bound-part-x-start : (t : ℕ) → write-bound-lts.Need-part-x-start (write-bound-callees t) (write-bound-at t) write-bound.Post
+write-bound-part-x-start t c =
+    let start = (c .before .before .before .before .before .before .before .before .before .before .before .before .before) in
+    omega (arith, not-empty (start .args .levels) (start .args .a .now) (start .pre .1 .0))
+
+-- src/bound_writes.rt:98:21
+write-bound-part-x-end : (t : ℕ) → write-bound-lts.Need-part-x-end (write-bound-callees t) (write-bound-at t) write-bound.Post
+write-bound-part-x-end t c = search needs
+
+-- src/bound_writes.rt:99:21
+write-bound-sub-y : (t : ℕ) → write-bound-lts.Need-sub-y (write-bound-callees t) (write-bound-at t) write-bound.Post
+write-bound-sub-y t c =
+    let start = (c .before .before .before .before .before .before .before .before .before .before .before .before .before .before) in
+    omega (arith, not-empty (start .args .levels) (start .args .b .now) (start .pre .1 .1 .0))
+
+-- src/bound_writes.rt:99:21
+write-bound-part-y-start : (t : ℕ) → write-bound-lts.Need-part-y-start (write-bound-callees t) (write-bound-at t) write-bound.Post
+write-bound-part-y-start t c =
+    let start = (c .before .before .before .before .before .before .before .before .before .before .before .before .before .before) in
+    omega (arith, not-empty (start .args .levels) (start .args .b .now) (start .pre .1 .1 .0))
+
+-- src/bound_writes.rt:99:21
+write-bound-part-y-end : (t : ℕ) → write-bound-lts.Need-part-y-end (write-bound-callees t) (write-bound-at t) write-bound.Post
+write-bound-part-y-end t c = search needs
+
+-- src/bound_writes.rt:100:37
+write-bound-sub-write-bound : (t : ℕ) → write-bound-lts.Need-sub-write-bound (write-bound-callees t) (write-bound-at t) write-bound.Post
+write-bound-sub-write-bound t c =
+    let start = (c .before .before .before .before .before .before .before .before .before .before .before .before .before .before .before) in
+    omega (arith, is-set (start .args .levels) (start .args .a .now) (start .pre .1 .0) ((c .before .before .before .before .before .before) .match .keys1) .deep)
+
+-- src/bound_writes.rt:100:49
+write-bound-sub-write-bound-2 : (t : ℕ) → write-bound-lts.Need-sub-write-bound-2 (write-bound-callees t) (write-bound-at t) write-bound.Post
+write-bound-sub-write-bound-2 t c =
+    let start = (c .before .before .before .before .before .before .before .before .before .before .before .before .before .before .before) in
+    let g = given (start .args .mode) (start .args .levels) (start .args .a .now) (start .args .b .now) (start .pre .1 .0) (start .pre .1 .1 .0) (λ i. (c .before .before .before .before .before .before .before .before .before .before .before .before .before .before) .shared-slice-known .given i .fits) (λ i. (c .before .before .before .before .before .before .before .before .before .before .before .before .before) .shared-slice-known2 .given i .fits) (start .pre .1 .1 .1) in
+    let same = (c .before .before .before .before .before .before .before) .if3 .left in
+    let cut = sets-cut g same ((c .before .before .before .before .before .before) .match .keys1) in
+    let put = (c .before .before .before .before) .put-one in
+    omega (arith, behind-at cut (g .ready) (put .last .0) 1 (put .ensures) refl)
+
+-- src/bound_writes.rt:100:49
+write-bound-part-write-bound-start : (t : ℕ) → write-bound-lts.Need-part-write-bound-start (write-bound-callees t) (write-bound-at t) write-bound.Post
+write-bound-part-write-bound-start t c =
+    let start = (c .before .before .before .before .before .before .before .before .before .before .before .before .before .before .before) in
+    let g = given (start .args .mode) (start .args .levels) (start .args .a .now) (start .args .b .now) (start .pre .1 .0) (start .pre .1 .1 .0) (λ i. (c .before .before .before .before .before .before .before .before .before .before .before .before .before .before) .shared-slice-known .given i .fits) (λ i. (c .before .before .before .before .before .before .before .before .before .before .before .before .before) .shared-slice-known2 .given i .fits) (start .pre .1 .1 .1) in
+    let same = (c .before .before .before .before .before .before .before) .if3 .left in
+    let cut = sets-cut g same ((c .before .before .before .before .before .before) .match .keys1) in
+    let put = (c .before .before .before .before) .put-one in
+    omega (arith, behind-at cut (g .ready) (put .last .0) 1 (put .ensures) refl)
+
+-- src/bound_writes.rt:100:49
+write-bound-part-write-bound-end : (t : ℕ) → write-bound-lts.Need-part-write-bound-end (write-bound-callees t) (write-bound-at t) write-bound.Post
+write-bound-part-write-bound-end t c = search needs
+
+-- src/bound_writes.rt:100:13
+write-bound-write-bound-requires : (t : ℕ) → write-bound-lts.Need-write-bound-requires (write-bound-callees t) (write-bound-at t) write-bound.Post
+write-bound-write-bound-requires t c κs =
+    let start = (c .before .before .before .before .before .before .before .before .before .before .before .before .before .before .before .before) in
+    let g = given (start .args .mode) (start .args .levels) (start .args .a .now) (start .args .b .now) (start .pre .1 .0) (start .pre .1 .1 .0) (λ i. (c .before .before .before .before .before .before .before .before .before .before .before .before .before .before .before) .shared-slice-known .given i .fits) (λ i. (c .before .before .before .before .before .before .before .before .before .before .before .before .before .before) .shared-slice-known2 .given i .fits) (start .pre .1 .1 .1) in
+    let same = (c .before .before .before .before .before .before .before .before) .if3 .left in
+    let cut = sets-cut g same ((c .before .before .before .before .before .before .before) .match .keys1) in
+    let put = (c .before .before .before .before .before) .put-one in
+    let first = is-set (start .args .levels) (start .args .a .now) (start .pre .1 .0) ((c .before .before .before .before .before .before .before) .match .keys1) in
+    let second = is-set (start .args .levels) (start .args .b .now) (start .pre .1 .1 .0) (sym same ∙ (c .before .before .before .before .before .before .before) .match .keys1) in
+    (omega (arith, start .pre .0, first .deep), (first .good, (second .good, behind-ready cut (g .ready) (put .last .0) 1 (put .ensures) refl)))
+
+-- src/bound_writes.rt:100:13
+write-bound-add-result : (t : ℕ) → write-bound-lts.Need-add-result (write-bound-callees t) (write-bound-at t) write-bound.Post
+write-bound-add-result t c =
+    let start = (c .before .before .before .before .before .before .before .before .before .before .before .before .before .before .before .before .before .before .before) in
+    let g = given (start .args .mode) (start .args .levels) (start .args .a .now) (start .args .b .now) (start .pre .1 .0) (start .pre .1 .1 .0) (λ i. (c .before .before .before .before .before .before .before .before .before .before .before .before .before .before .before .before .before .before) .shared-slice-known .given i .fits) (λ i. (c .before .before .before .before .before .before .before .before .before .before .before .before .before .before .before .before .before) .shared-slice-known2 .given i .fits) (start .pre .1 .1 .1) in
+    let same = (c .before .before .before .before .before .before .before .before .before .before .before) .if3 .left in
+    let cut = sets-cut g same ((c .before .before .before .before .before .before .before .before .before .before) .match .keys1) in
+    let put = (c .before .before .before .before .before .before .before .before) .put-one in
+    let element = (c .before .before) .write-bound in
+    omega (arith, behind-small cut (g .ready) (put .last .0) 1 (put .ensures) refl (element .last .1 .1 .1 .1 .0) (element .result) (element .ensures))
+
+-- src/bound_writes.rt:102:25
+write-bound-write-record-requires : (t : ℕ) → write-bound-lts.Need-write-record-requires (write-bound-callees t) (write-bound-at t) write-bound.Post
+write-bound-write-record-requires t c κs =
+    let start = (c .before .before .before .before .before .before .before .before .before .before) in
+    let key = (c .before) .match .keys2 in
+    (omega (arith, start .pre .0, is-record (start .args .levels) (start .args .a .now) (start .pre .1 .0) key .deep), ((start .pre .1 .0, key), ((start .pre .1 .1 .0, sym ((c .before .before) .if3 .left) ∙ key), start .pre .1 .1 .1)))
+
+-- src/bound_writes.rt:105:17
+write-bound-write-entities-requires : (t : ℕ) → write-bound-lts.Need-write-entities-requires (write-bound-callees t) (write-bound-at t) write-bound.Post
+write-bound-write-entities-requires t c κs =
+    let start = (c .before .before .before .before .before .before .before .before .before .before .before) in
+    let g = given (start .args .mode) (start .args .levels) (start .args .a .now) (start .args .b .now) (start .pre .1 .0) (start .pre .1 .1 .0) (λ i. (c .before .before .before .before .before .before .before .before .before .before) .shared-slice-known .given i .fits) (λ i. (c .before .before .before .before .before .before .before .before .before) .shared-slice-known2 .given i .fits) (start .pre .1 .1 .1) in
+    let same = (c .before .before .before) .if3 .left in
+    let first = is-entity (start .args .levels) (start .args .a .now) (start .pre .1 .0) ((c .before .before) .match .keys3) in
+    let second = is-entity (start .args .levels) (start .args .b .now) (start .pre .1 .1 .0) (sym same ∙ (c .before .before) .match .keys3) in
+    ((first .sized, first .up), ((second .sized, second .up), entities-union g same ((c .before .before) .match .keys3) ((c .before) .if4 .taken) .ready))
+
+-- src/bound_writes.rt:105:17
+write-bound-same-length-4 : (t : ℕ) → write-bound-lts.Need-same-length-4 (write-bound-callees t) (write-bound-at t) write-bound.Post
+write-bound-same-length-4 t c = search needs
+
+-- src/bound_writes.rt:105:17
+write-bound-returns-4 : (t : ℕ) → write-bound-lts.Need-returns-4 (write-bound-callees t) (write-bound-at t) write-bound.Post
+write-bound-returns-4 t c =
+    let start = (c .before .before .before .before .before .before .before .before .before .before .before .before .before .before) in
+    let g = given (start .args .mode) (start .args .levels) (start .args .a .now) (start .args .b .now) (start .pre .1 .0) (start .pre .1 .1 .0) (λ i. (c .before .before .before .before .before .before .before .before .before .before .before .before .before) .shared-slice-known .given i .fits) (λ i. (c .before .before .before .before .before .before .before .before .before .before .before .before) .shared-slice-known2 .given i .fits) (start .pre .1 .1 .1) in
+    let same = (c .before .before .before .before .before .before) .if3 .left in
+    entities-union g same ((c .before .before .before .before .before) .match .keys3) ((c .before .before .before .before) .if4 .taken) .written _ _ ((c .before .before) .write-entities .ensures)
+
+-- src/bound_writes.rt:107:13
+write-bound-write-form-requires-3 : (t : ℕ) → write-bound-lts.Need-write-form-requires-3 (write-bound-callees t) (write-bound-at t) write-bound.Post
+write-bound-write-form-requires-3 t c κs =
+    let start = (c .before .before .before .before .before .before .before .before .before .before .before) in
+    let g = given (start .args .mode) (start .args .levels) (start .args .a .now) (start .args .b .now) (start .pre .1 .0) (start .pre .1 .1 .0) (λ i. (c .before .before .before .before .before .before .before .before .before .before) .shared-slice-known .given i .fits) (λ i. (c .before .before .before .before .before .before .before .before .before) .shared-slice-known2 .given i .fits) (start .pre .1 .1 .1) in
+    let same = (c .before .before .before) .if3 .left in
+    entities-copied g same ((c .before .before) .match .keys3) ((c .before) .if4 .left) .room
+
+-- src/bound_writes.rt:110:16
+write-bound-u16-at-requires : (t : ℕ) → write-bound-lts.Need-u16-at-requires (write-bound-callees t) (write-bound-at t) write-bound.Post
+write-bound-u16-at-requires t c κs =
+    let start = (c .before .before .before .before .before .before .before .before .before) in
+    omega (arith, is-action (start .args .levels) (start .args .a .now) (start .pre .1 .0) (c .match .keys4) .some)
+
+-- src/bound_writes.rt:110:50
+write-bound-u16-at-requires-2 : (t : ℕ) → write-bound-lts.Need-u16-at-requires-2 (write-bound-callees t) (write-bound-at t) write-bound.Post
+write-bound-u16-at-requires-2 t c κs =
+    let start = (c .before .before .before .before .before .before .before .before .before .before) in
+    omega (arith, is-action (start .args .levels) (start .args .b .now) (start .pre .1 .1 .0) (sym ((c .before .before) .if3 .left) ∙ (c .before) .match .keys4) .some)
+
+-- src/bound_writes.rt:111:17
+write-bound-write-unlike-requires-2 : (t : ℕ) → write-bound-lts.Need-write-unlike-requires-2 (write-bound-callees t) (write-bound-at t) write-bound.Post
+write-bound-write-unlike-requires-2 t c κs =
+    let start = (c .before .before .before .before .before .before .before .before .before .before .before .before .before) in
+    let g = given (start .args .mode) (start .args .levels) (start .args .a .now) (start .args .b .now) (start .pre .1 .0) (start .pre .1 .1 .0) (λ i. (c .before .before .before .before .before .before .before .before .before .before .before .before) .shared-slice-known .given i .fits) (λ i. (c .before .before .before .before .before .before .before .before .before .before .before) .shared-slice-known2 .given i .fits) (start .pre .1 .1 .1) in
+    let same = (c .before .before .before .before .before) .if3 .left in
+    let n = (c .before .before .before) .u16-at in
+    let i = (c .before .before) .u16-at2 in
+    actions-unlike g same ((c .before .before .before .before) .match .keys4) (n .result) (i .result) (n .ensures .0) (i .ensures .0) ((c .before) .if5 .taken) .ready
+
+-- src/bound_writes.rt:111:17
+write-bound-same-length-5 : (t : ℕ) → write-bound-lts.Need-same-length-5 (write-bound-callees t) (write-bound-at t) write-bound.Post
+write-bound-same-length-5 t c = search needs
+
+-- src/bound_writes.rt:111:17
+write-bound-returns-5 : (t : ℕ) → write-bound-lts.Need-returns-5 (write-bound-callees t) (write-bound-at t) write-bound.Post
+write-bound-returns-5 t c =
+    let start = (c .before .before .before .before .before .before .before .before .before .before .before .before .before .before .before .before) in
+    let g = given (start .args .mode) (start .args .levels) (start .args .a .now) (start .args .b .now) (start .pre .1 .0) (start .pre .1 .1 .0) (λ i. (c .before .before .before .before .before .before .before .before .before .before .before .before .before .before .before) .shared-slice-known .given i .fits) (λ i. (c .before .before .before .before .before .before .before .before .before .before .before .before .before .before) .shared-slice-known2 .given i .fits) (start .pre .1 .1 .1) in
+    let same = (c .before .before .before .before .before .before .before .before) .if3 .left in
+    let n = (c .before .before .before .before .before .before) .u16-at in
+    let i = (c .before .before .before .before .before) .u16-at2 in
+    actions-unlike g same ((c .before .before .before .before .before .before .before) .match .keys4) (n .result) (i .result) (n .ensures .0) (i .ensures .0) ((c .before .before .before .before) .if5 .taken) .written _ _ ((c .before .before) .write-unlike2 .ensures)
+
+-- src/bound_writes.rt:113:13
+write-bound-write-action-requires : (t : ℕ) → write-bound-lts.Need-write-action-requires (write-bound-callees t) (write-bound-at t) write-bound.Post
+write-bound-write-action-requires t c κs =
+    let start = (c .before .before .before .before .before .before .before .before .before .before .before .before .before) in
+    let g = given (start .args .mode) (start .args .levels) (start .args .a .now) (start .args .b .now) (start .pre .1 .0) (start .pre .1 .1 .0) (λ i. (c .before .before .before .before .before .before .before .before .before .before .before .before) .shared-slice-known .given i .fits) (λ i. (c .before .before .before .before .before .before .before .before .before .before .before) .shared-slice-known2 .given i .fits) (start .pre .1 .1 .1) in
+    let same = (c .before .before .before .before .before) .if3 .left in
+    let n = (c .before .before .before) .u16-at in
+    let i = (c .before .before) .u16-at2 in
+    let key = (c .before .before .before .before) .match .keys4 in
+    let named = (c .before) .if5 .left in
+    (omega (arith, start .pre .0, is-action (start .args .levels) (start .args .a .now) (start .pre .1 .0) key .deep), ((start .pre .1 .0, key), ((start .pre .1 .1 .0, sym same ∙ key), (sym (n .ensures .0) ∙ named ∙ i .ensures .0, actions-strict g same ((c .before .before .before .before) .match .keys4) (n .result) (i .result) (n .ensures .0) (i .ensures .0) named .ready))))
+
+-- src/bound_writes.rt:115:14
+write-bound-write-form-requires-4 : (t : ℕ) → write-bound-lts.Need-write-form-requires-4 (write-bound-callees t) (write-bound-at t) write-bound.Post
+write-bound-write-form-requires-4 t c κs =
+    let start = (c .before .before .before .before .before .before .before .before .before .before) in
+    let g = given (start .args .mode) (start .args .levels) (start .args .a .now) (start .args .b .now) (start .pre .1 .0) (start .pre .1 .1 .0) (λ i. (c .before .before .before .before .before .before .before .before .before) .shared-slice-known .given i .fits) (λ i. (c .before .before .before .before .before .before .before .before) .shared-slice-known2 .given i .fits) (start .pre .1 .1 .1) in
+    let same = (c .before .before) .if3 .left in
+    let rest = (c .before) .match .rest in
+    others-copied g same (rest .0 .0 .0 .1) (rest .0 .0 .1) (rest .0 .1) (rest .1) .room
+
+-- src/bound_writes.rt:78:1
+write-bound-same-length-6 : (t : ℕ) → write-bound-lts.Need-same-length-6 (write-bound-callees t) (write-bound-at t) write-bound.Post
+write-bound-same-length-6 t c = search needs
+
+-- src/bound_writes.rt:78:1
+write-bound-returns-6 : (t : ℕ) → write-bound-lts.Need-returns-6 (write-bound-callees t) (write-bound-at t) write-bound.Post
+write-bound-returns-6 t c =
+    let start = (c .before .before .before .before .before .before .before .before .before .before .before .before .before .before .before .before .before .before .before) in
+    let g = given (start .args .mode) (start .args .levels) (start .args .a .now) (start .args .b .now) (start .pre .1 .0) (start .pre .1 .1 .0) (λ i. (c .before .before .before .before .before .before .before .before .before .before .before .before .before .before .before .before .before .before) .shared-slice-known .given i .fits) (λ i. (c .before .before .before .before .before .before .before .before .before .before .before .before .before .before .before .before .before) .shared-slice-known2 .given i .fits) (start .pre .1 .1 .1) in
+    let same = (c .before .before .before .before .before .before .before .before .before .before .before) .if3 .left in
+    let cut = sets-cut g same ((c .before .before .before .before .before .before .before .before .before .before) .match .keys1) in
+    let put = (c .before .before .before .before .before .before .before .before) .put-one in
+    let element = (c .before .before) .write-bound in
+    behind-written cut (g .ready) (put .last .0) 1 (put .ensures) refl (element .last .1 .1 .1 .1 .0) (element .result) (element .ensures)
+
+-- src/bound_writes.rt:78:1
+write-bound-same-length-7 : (t : ℕ) → write-bound-lts.Need-same-length-7 (write-bound-callees t) (write-bound-at t) write-bound.Post
+write-bound-same-length-7 t c = search needs
+
+-- src/bound_writes.rt:78:1
+write-bound-returns-7 : (t : ℕ) → write-bound-lts.Need-returns-7 (write-bound-callees t) (write-bound-at t) write-bound.Post
+write-bound-returns-7 t c = (c .before .before) .write-record .ensures
+
+-- src/bound_writes.rt:78:1
+write-bound-same-length-8 : (t : ℕ) → write-bound-lts.Need-same-length-8 (write-bound-callees t) (write-bound-at t) write-bound.Post
+write-bound-same-length-8 t c = search needs
+
+-- src/bound_writes.rt:78:1
+write-bound-returns-8 : (t : ℕ) → write-bound-lts.Need-returns-8 (write-bound-callees t) (write-bound-at t) write-bound.Post
+write-bound-returns-8 t c =
+    let start = (c .before .before .before .before .before .before .before .before .before .before .before .before .before .before) in
+    let g = given (start .args .mode) (start .args .levels) (start .args .a .now) (start .args .b .now) (start .pre .1 .0) (start .pre .1 .1 .0) (λ i. (c .before .before .before .before .before .before .before .before .before .before .before .before .before) .shared-slice-known .given i .fits) (λ i. (c .before .before .before .before .before .before .before .before .before .before .before .before) .shared-slice-known2 .given i .fits) (start .pre .1 .1 .1) in
+    let same = (c .before .before .before .before .before .before) .if3 .left in
+    entities-copied g same ((c .before .before .before .before .before) .match .keys3) ((c .before .before .before .before) .if4 .left) .written _ _ ((c .before .before) .write-form3 .ensures)
+
+-- src/bound_writes.rt:78:1
+write-bound-same-length-9 : (t : ℕ) → write-bound-lts.Need-same-length-9 (write-bound-callees t) (write-bound-at t) write-bound.Post
+write-bound-same-length-9 t c = search needs
+
+-- src/bound_writes.rt:78:1
+write-bound-returns-9 : (t : ℕ) → write-bound-lts.Need-returns-9 (write-bound-callees t) (write-bound-at t) write-bound.Post
+write-bound-returns-9 t c =
+    let start = (c .before .before .before .before .before .before .before .before .before .before .before .before .before .before .before .before) in
+    let g = given (start .args .mode) (start .args .levels) (start .args .a .now) (start .args .b .now) (start .pre .1 .0) (start .pre .1 .1 .0) (λ i. (c .before .before .before .before .before .before .before .before .before .before .before .before .before .before .before) .shared-slice-known .given i .fits) (λ i. (c .before .before .before .before .before .before .before .before .before .before .before .before .before .before) .shared-slice-known2 .given i .fits) (start .pre .1 .1 .1) in
+    let same = (c .before .before .before .before .before .before .before .before) .if3 .left in
+    let n = (c .before .before .before .before .before .before) .u16-at in
+    let i = (c .before .before .before .before .before) .u16-at2 in
+    actions-strict g same ((c .before .before .before .before .before .before .before) .match .keys4) (n .result) (i .result) (n .ensures .0) (i .ensures .0) ((c .before .before .before .before) .if5 .left) .written _ _ ((c .before .before) .write-action .ensures)
+
+-- src/bound_writes.rt:78:1
+write-bound-same-length-10 : (t : ℕ) → write-bound-lts.Need-same-length-10 (write-bound-callees t) (write-bound-at t) write-bound.Post
+write-bound-same-length-10 t c = search needs
+
+-- src/bound_writes.rt:78:1
+write-bound-returns-10 : (t : ℕ) → write-bound-lts.Need-returns-10 (write-bound-callees t) (write-bound-at t) write-bound.Post
+write-bound-returns-10 t c =
+    let start = (c .before .before .before .before .before .before .before .before .before .before .before .before .before) in
+    let g = given (start .args .mode) (start .args .levels) (start .args .a .now) (start .args .b .now) (start .pre .1 .0) (start .pre .1 .1 .0) (λ i. (c .before .before .before .before .before .before .before .before .before .before .before .before) .shared-slice-known .given i .fits) (λ i. (c .before .before .before .before .before .before .before .before .before .before .before) .shared-slice-known2 .given i .fits) (start .pre .1 .1 .1) in
+    let same = (c .before .before .before .before .before) .if3 .left in
+    let rest = (c .before .before .before .before) .match .rest in
+    others-copied g same (rest .0 .0 .0 .1) (rest .0 .0 .1) (rest .0 .1) (rest .1) .written _ _ ((c .before .before) .write-form4 .ensures)
+
+abbrev write-pair-callees : ℕ → write-pair-lts.Claims
+write-pair-callees t = (
+  pair-kept-reads.Asked,
+  pair-kept-reads.Learnt,
+  u16-at-reads.Asked,
+  u16-at-reads.Learnt,
+  write-bound-below t,
+  write-bound.Post,
+)
+
+-- src/bound_writes.rt:220:9
+write-pair-pair-kept-requires : (t : ℕ) → write-pair-lts.Need-pair-kept-requires (write-pair-callees t) (write-pair-at t) write-pair.Post
+write-pair-pair-kept-requires t c κs =
+    let start = (c .before .before .before .before .before) in
+    (start .pre .1 .0 .0, (start .pre .1 .1 .0, (start .pre .1 .1 .1 .0, met-known (start .args .e .now) (start .pre .1 .1 .1 .0) (asMode (start .args .mode)) (dec (start .args .levels) (start .args .t .now)) (start .pre .1 .1 .1 .1))))
+
+-- src/bound_writes.rt:221:9
+write-pair-returns : (t : ℕ) → write-pair-lts.Need-returns (write-pair-callees t) (write-pair-at t) write-pair.Post
+write-pair-returns t c =
+    let start = (c .before .before .before .before .before .before .before) in
+    let kept = (c .before) .pair-kept in
+    met-dropped (start .args .e .now) (start .pre .1 .1 .1 .0) (asMode (start .args .mode)) (dec (start .args .levels) (start .args .t .now)) (kept .result) (kept .ensures) _ (c .if1 .taken)
+
+-- src/bound_writes.rt:223:9
+write-pair-u16-at-requires : (t : ℕ) → write-pair-lts.Need-u16-at-requires (write-pair-callees t) (write-pair-at t) write-pair.Post
+write-pair-u16-at-requires t c κs =
+    let start = (c .before .before .before .before .before .before .before) in
+    let kept = (c .before) .pair-kept in
+    omega (arith, met-room (start .args .e .now) (start .pre .1 .1 .1 .0) (asMode (start .args .mode)) (dec (start .args .levels) (start .args .t .now)) (kept .result) (kept .ensures) (c .if1 .left))
+
+-- src/bound_writes.rt:224:26
+write-pair-sub-write-bound : (t : ℕ) → write-pair-lts.Need-sub-write-bound (write-pair-callees t) (write-pair-at t) write-pair.Post
+write-pair-sub-write-bound t c = search needs
+
+-- src/bound_writes.rt:224:26
+write-pair-part-write-bound-start : (t : ℕ) → write-pair-lts.Need-part-write-bound-start (write-pair-callees t) (write-pair-at t) write-pair.Post
+write-pair-part-write-bound-start t c = search needs
+
+-- src/bound_writes.rt:224:26
+write-pair-part-write-bound-end : (t : ℕ) → write-pair-lts.Need-part-write-bound-end (write-pair-callees t) (write-pair-at t) write-pair.Post
+write-pair-part-write-bound-end t c =
+    let start = (c .before .before .before .before .before .before .before .before) in
+    let kept = (c .before .before) .pair-kept in
+    let len = c .u16-at in
+    omega (arith, met-body (start .args .e .now) (start .pre .1 .1 .1 .0) (asMode (start .args .mode)) (dec (start .args .levels) (start .args .t .now)) (kept .result) (kept .ensures) ((c .before) .if1 .left) (len .result) (len .ensures .0) .0)
+
+-- src/bound_writes.rt:224:5
+write-pair-write-bound-requires : (t : ℕ) → write-pair-lts.Need-write-bound-requires (write-pair-callees t) (write-pair-at t) write-pair.Post
+write-pair-write-bound-requires t c κs =
+    let start = (c .before .before .before .before .before .before .before .before .before .before) in
+    let kept = (c .before .before .before .before) .pair-kept in
+    let len = (c .before .before) .u16-at in
+    (omega (arith, start .pre .0), (start .pre .1 .1 .0, (met-body (start .args .e .now) (start .pre .1 .1 .1 .0) (asMode (start .args .mode)) (dec (start .args .levels) (start .args .t .now)) (kept .result) (kept .ensures) ((c .before .before .before) .if1 .left) (len .result) (len .ensures .0) .1, met-ready (start .args .e .now) (start .pre .1 .1 .1 .0) (asMode (start .args .mode)) (dec (start .args .levels) (start .args .t .now)) (kept .result) (kept .ensures) ((c .before .before .before) .if1 .left) (len .result) (len .ensures .0) (start .pre .1 .1 .1 .1))))
+
+-- src/bound_writes.rt:204:1
+write-pair-same-length : (t : ℕ) → write-pair-lts.Need-same-length (write-pair-callees t) (write-pair-at t) write-pair.Post
+write-pair-same-length t c = search needs
+
+-- src/bound_writes.rt:204:1
+write-pair-returns-2 : (t : ℕ) → write-pair-lts.Need-returns-2 (write-pair-callees t) (write-pair-at t) write-pair.Post
+write-pair-returns-2 t c =
+    let start = (c .before .before .before .before .before .before .before .before .before .before .before .before .before) in
+    let kept = (c .before .before .before .before .before .before .before) .pair-kept in
+    let len = (c .before .before .before .before .before) .u16-at in
+    met-written (start .args .e .now) (start .pre .1 .1 .1 .0) (asMode (start .args .mode)) (dec (start .args .levels) (start .args .t .now)) (kept .result) (kept .ensures) ((c .before .before .before .before .before .before) .if1 .left) (len .result) (len .ensures .0) _ _ ((c .before .before) .write-bound .ensures)
+
+abbrev write-record-callees : ℕ → write-record-lts.Claims
+write-record-callees t = (
+  kept-count-reads.Asked,
+  kept-count-reads.Learnt,
+  u16-at-reads.Asked,
+  u16-at-reads.Learnt,
+  open-byte-reads.Asked,
+  open-byte-reads.Learnt,
+  put-record-reads.Asked,
+  put-record-reads.Learnt,
+  write-attributes-below t,
+  write-attributes.Post,
+)
+
+-- src/bound_writes.rt:127:40
+write-record-sub-kept-count : (t : ℕ) → write-record-lts.Need-sub-kept-count (write-record-callees t) (write-record-at t) write-record.Post
+write-record-sub-kept-count t c =
+    let start = (c .before .before .before) in
+    let key = start .pre .1 .0 .1 in
+    omega (arith, is-record (start .args .levels) (start .args .a .now) (start .pre .1 .0 .0) key .deep)
+
+-- src/bound_writes.rt:127:9
+write-record-kept-count-requires : (t : ℕ) → write-record-lts.Need-kept-count-requires (write-record-callees t) (write-record-at t) write-record.Post
+write-record-kept-count-requires t c κs =
+    let start = (c .before .before .before) in
+    let key = start .pre .1 .0 .1 in
+    let same = key ∙ sym (start .pre .1 .1 .0 .1) in
+    let g = given (start .args .mode) (start .args .levels) (start .args .a .now) (start .args .b .now) (start .pre .1 .0 .0) (start .pre .1 .1 .0 .0) (λ i. (c .before .before) .shared-slice-known .given i .fits) (λ i. (c .before) .shared-slice-known2 .given i .fits) (start .pre .1 .1 .1) in
+    (record-tabled (start .args .levels) (start .args .a .now) (start .pre .1 .0 .0) key, (record-tabled (start .args .levels) (start .args .b .now) (start .pre .1 .1 .0 .0) (start .pre .1 .1 .0 .1), records-known g same key))
+
+-- src/bound_writes.rt:129:9
+write-record-shared-slice-read-open-byte : (t : ℕ) → write-record-lts.Need-shared-slice-read-open-byte (write-record-callees t) (write-record-at t) write-record.Post
+write-record-shared-slice-read-open-byte t c =
+    let start = (c .before .before .before .before .before) in
+    let key = start .pre .1 .0 .1 in
+    omega (arith, is-record (start .args .levels) (start .args .a .now) (start .pre .1 .0 .0) key .some)
+
+-- src/bound_writes.rt:130:9
+write-record-shared-slice-read-open-byte-2 : (t : ℕ) → write-record-lts.Need-shared-slice-read-open-byte-2 (write-record-callees t) (write-record-at t) write-record.Post
+write-record-shared-slice-read-open-byte-2 t c =
+    let start = (c .before .before .before .before .before .before) in
+    omega (arith, is-record (start .args .levels) (start .args .b .now) (start .pre .1 .1 .0 .0) (start .pre .1 .1 .0 .1) .some)
+
+-- src/bound_writes.rt:132:9
+write-record-u16-at-requires : (t : ℕ) → write-record-lts.Need-u16-at-requires (write-record-callees t) (write-record-at t) write-record.Post
+write-record-u16-at-requires t c κs =
+    let start = (c .before .before .before .before .before .before) in
+    let key = start .pre .1 .0 .1 in
+    omega (arith, is-record (start .args .levels) (start .args .a .now) (start .pre .1 .0 .0) key .some)
+
+-- src/bound_writes.rt:133:9
+write-record-u16-at-requires-2 : (t : ℕ) → write-record-lts.Need-u16-at-requires-2 (write-record-callees t) (write-record-at t) write-record.Post
+write-record-u16-at-requires-2 t c κs =
+    let start = (c .before .before .before .before .before .before .before) in
+    omega (arith, is-record (start .args .levels) (start .args .b .now) (start .pre .1 .1 .0 .0) (start .pre .1 .1 .0 .1) .some)
+
+-- src/bound_writes.rt:128:9
+write-record-open-byte-requires : (t : ℕ) → write-record-lts.Need-open-byte-requires (write-record-callees t) (write-record-at t) write-record.Post
+write-record-open-byte-requires t c κs = search needs
+
+-- src/bound_writes.rt:135:5
+write-record-put-record-requires : (t : ℕ) → write-record-lts.Need-put-record-requires (write-record-callees t) (write-record-at t) write-record.Post
+write-record-put-record-requires t c κs =
+    let start = (c .before .before .before .before .before .before .before .before .before .before) in
+    let key = start .pre .1 .0 .1 in
+    let same = key ∙ sym (start .pre .1 .1 .0 .1) in
+    let g = given (start .args .mode) (start .args .levels) (start .args .a .now) (start .args .b .now) (start .pre .1 .0 .0) (start .pre .1 .1 .0 .0) (λ i. (c .before .before .before .before .before .before .before .before .before) .shared-slice-known .given i .fits) (λ i. (c .before .before .before .before .before .before .before .before) .shared-slice-known2 .given i .fits) (start .pre .1 .1 .1) in
+    let kept = (c .before .before .before .before .before .before) .kept-count in
+    let cut = records-cut g same key (kept .result) ((c .before .before .before) .u16-at .result) ((c .before .before) .u16-at2 .result) ((c .before) .open-byte .result) (kept .ensures) ((c .before .before .before) .u16-at .ensures .0) ((c .before .before) .u16-at2 .ensures .0) ((c .before) .open-byte .ensures) in
+    (behind-front cut (g .ready), kept-few (behind-ready cut (g .ready) _ 4 refl refl) (kept .result) (kept .ensures))
+
+-- src/bound_writes.rt:137:41
+write-record-sub-write-attributes : (t : ℕ) → write-record-lts.Need-sub-write-attributes (write-record-callees t) (write-record-at t) write-record.Post
+write-record-sub-write-attributes t c =
+    let start = (c .before .before .before .before .before .before .before .before .before .before .before .before .before) in
+    let key = start .pre .1 .0 .1 in
+    omega (arith, is-record (start .args .levels) (start .args .a .now) (start .pre .1 .0 .0) key .deep)
+
+-- src/bound_writes.rt:137:53
+write-record-sub-write-attributes-2 : (t : ℕ) → write-record-lts.Need-sub-write-attributes-2 (write-record-callees t) (write-record-at t) write-record.Post
+write-record-sub-write-attributes-2 t c =
+    let start = (c .before .before .before .before .before .before .before .before .before .before .before .before .before) in
+    let key = start .pre .1 .0 .1 in
+    let same = key ∙ sym (start .pre .1 .1 .0 .1) in
+    let g = given (start .args .mode) (start .args .levels) (start .args .a .now) (start .args .b .now) (start .pre .1 .0 .0) (start .pre .1 .1 .0 .0) (λ i. (c .before .before .before .before .before .before .before .before .before .before .before .before) .shared-slice-known .given i .fits) (λ i. (c .before .before .before .before .before .before .before .before .before .before .before) .shared-slice-known2 .given i .fits) (start .pre .1 .1 .1) in
+    let kept = (c .before .before .before .before .before .before .before .before .before) .kept-count in
+    let cut = records-cut g same key (kept .result) ((c .before .before .before .before .before .before) .u16-at .result) ((c .before .before .before .before .before) .u16-at2 .result) ((c .before .before .before .before) .open-byte .result) (kept .ensures) ((c .before .before .before .before .before .before) .u16-at .ensures .0) ((c .before .before .before .before .before) .u16-at2 .ensures .0) ((c .before .before .before .before) .open-byte .ensures) in
+    let put = (c .before .before) .put-record in
+    omega (arith, behind-at cut (g .ready) (put .last .0) 4 (put .ensures) refl)
+
+-- src/bound_writes.rt:137:53
+write-record-part-write-attributes-start : (t : ℕ) → write-record-lts.Need-part-write-attributes-start (write-record-callees t) (write-record-at t) write-record.Post
+write-record-part-write-attributes-start t c =
+    let start = (c .before .before .before .before .before .before .before .before .before .before .before .before .before) in
+    let key = start .pre .1 .0 .1 in
+    let same = key ∙ sym (start .pre .1 .1 .0 .1) in
+    let g = given (start .args .mode) (start .args .levels) (start .args .a .now) (start .args .b .now) (start .pre .1 .0 .0) (start .pre .1 .1 .0 .0) (λ i. (c .before .before .before .before .before .before .before .before .before .before .before .before) .shared-slice-known .given i .fits) (λ i. (c .before .before .before .before .before .before .before .before .before .before .before) .shared-slice-known2 .given i .fits) (start .pre .1 .1 .1) in
+    let kept = (c .before .before .before .before .before .before .before .before .before) .kept-count in
+    let cut = records-cut g same key (kept .result) ((c .before .before .before .before .before .before) .u16-at .result) ((c .before .before .before .before .before) .u16-at2 .result) ((c .before .before .before .before) .open-byte .result) (kept .ensures) ((c .before .before .before .before .before .before) .u16-at .ensures .0) ((c .before .before .before .before .before) .u16-at2 .ensures .0) ((c .before .before .before .before) .open-byte .ensures) in
+    let put = (c .before .before) .put-record in
+    omega (arith, behind-at cut (g .ready) (put .last .0) 4 (put .ensures) refl)
+
+-- src/bound_writes.rt:137:53
+write-record-part-write-attributes-end : (t : ℕ) → write-record-lts.Need-part-write-attributes-end (write-record-callees t) (write-record-at t) write-record.Post
+write-record-part-write-attributes-end t c = search needs
+
+-- src/bound_writes.rt:137:5
+write-record-write-attributes-requires : (t : ℕ) → write-record-lts.Need-write-attributes-requires (write-record-callees t) (write-record-at t) write-record.Post
+write-record-write-attributes-requires t c κs =
+    let start = (c .before .before .before .before .before .before .before .before .before .before .before .before .before .before) in
+    let key = start .pre .1 .0 .1 in
+    let same = key ∙ sym (start .pre .1 .1 .0 .1) in
+    let g = given (start .args .mode) (start .args .levels) (start .args .a .now) (start .args .b .now) (start .pre .1 .0 .0) (start .pre .1 .1 .0 .0) (λ i. (c .before .before .before .before .before .before .before .before .before .before .before .before .before) .shared-slice-known .given i .fits) (λ i. (c .before .before .before .before .before .before .before .before .before .before .before .before) .shared-slice-known2 .given i .fits) (start .pre .1 .1 .1) in
+    let kept = (c .before .before .before .before .before .before .before .before .before .before) .kept-count in
+    let cut = records-cut g same key (kept .result) ((c .before .before .before .before .before .before .before) .u16-at .result) ((c .before .before .before .before .before .before) .u16-at2 .result) ((c .before .before .before .before .before) .open-byte .result) (kept .ensures) ((c .before .before .before .before .before .before .before) .u16-at .ensures .0) ((c .before .before .before .before .before .before) .u16-at2 .ensures .0) ((c .before .before .before .before .before) .open-byte .ensures) in
+    let put = (c .before .before .before) .put-record in
+    (omega (arith, start .pre .0, is-record (start .args .levels) (start .args .a .now) (start .pre .1 .0 .0) key .deep), (record-tabled (start .args .levels) (start .args .a .now) (start .pre .1 .0 .0) key, (record-tabled (start .args .levels) (start .args .b .now) (start .pre .1 .1 .0 .0) (start .pre .1 .1 .0 .1), (kept .ensures, behind-ready cut (g .ready) (put .last .0) 4 (put .ensures) refl))))
+
+-- src/bound_writes.rt:137:5
+write-record-add-result : (t : ℕ) → write-record-lts.Need-add-result (write-record-callees t) (write-record-at t) write-record.Post
+write-record-add-result t c =
+    let start = (c .before .before .before .before .before .before .before .before .before .before .before .before .before .before .before .before .before) in
+    let key = start .pre .1 .0 .1 in
+    let same = key ∙ sym (start .pre .1 .1 .0 .1) in
+    let g = given (start .args .mode) (start .args .levels) (start .args .a .now) (start .args .b .now) (start .pre .1 .0 .0) (start .pre .1 .1 .0 .0) (λ i. (c .before .before .before .before .before .before .before .before .before .before .before .before .before .before .before .before) .shared-slice-known .given i .fits) (λ i. (c .before .before .before .before .before .before .before .before .before .before .before .before .before .before .before) .shared-slice-known2 .given i .fits) (start .pre .1 .1 .1) in
+    let kept = (c .before .before .before .before .before .before .before .before .before .before .before .before .before) .kept-count in
+    let cut = records-cut g same key (kept .result) ((c .before .before .before .before .before .before .before .before .before .before) .u16-at .result) ((c .before .before .before .before .before .before .before .before .before) .u16-at2 .result) ((c .before .before .before .before .before .before .before .before) .open-byte .result) (kept .ensures) ((c .before .before .before .before .before .before .before .before .before .before) .u16-at .ensures .0) ((c .before .before .before .before .before .before .before .before .before) .u16-at2 .ensures .0) ((c .before .before .before .before .before .before .before .before) .open-byte .ensures) in
+    let put = (c .before .before .before .before .before .before) .put-record in
+    let rows = (c .before .before) .write-attributes in
+    omega (arith, behind-small cut (g .ready) (put .last .0) 4 (put .ensures) refl (rows .last .1 .1 .1 .1 .1 .1 .0) (rows .result) (rows .ensures))
+
+-- src/bound_writes.rt:120:1
+write-record-same-length : (t : ℕ) → write-record-lts.Need-same-length (write-record-callees t) (write-record-at t) write-record.Post
+write-record-same-length t c = search needs
+
+-- src/bound_writes.rt:120:1
+write-record-returns : (t : ℕ) → write-record-lts.Need-returns (write-record-callees t) (write-record-at t) write-record.Post
+write-record-returns t c =
+    let start = (c .before .before .before .before .before .before .before .before .before .before .before .before .before .before .before .before .before) in
+    let key = start .pre .1 .0 .1 in
+    let same = key ∙ sym (start .pre .1 .1 .0 .1) in
+    let g = given (start .args .mode) (start .args .levels) (start .args .a .now) (start .args .b .now) (start .pre .1 .0 .0) (start .pre .1 .1 .0 .0) (λ i. (c .before .before .before .before .before .before .before .before .before .before .before .before .before .before .before .before) .shared-slice-known .given i .fits) (λ i. (c .before .before .before .before .before .before .before .before .before .before .before .before .before .before .before) .shared-slice-known2 .given i .fits) (start .pre .1 .1 .1) in
+    let kept = (c .before .before .before .before .before .before .before .before .before .before .before .before .before) .kept-count in
+    let cut = records-cut g same key (kept .result) ((c .before .before .before .before .before .before .before .before .before .before) .u16-at .result) ((c .before .before .before .before .before .before .before .before .before) .u16-at2 .result) ((c .before .before .before .before .before .before .before .before) .open-byte .result) (kept .ensures) ((c .before .before .before .before .before .before .before .before .before .before) .u16-at .ensures .0) ((c .before .before .before .before .before .before .before .before .before) .u16-at2 .ensures .0) ((c .before .before .before .before .before .before .before .before) .open-byte .ensures) in
+    let put = (c .before .before .before .before .before .before) .put-record in
+    let rows = (c .before .before) .write-attributes in
+    behind-written cut (g .ready) (put .last .0) 4 (put .ensures) refl (rows .last .1 .1 .1 .1 .1 .1 .0) (rows .result) (rows .ensures)
+
+pub +write-action+write-attributes+write-bound+write-pair+write-record-spec :
+    {M : Type 1} → statement M
++write-action+write-attributes+write-bound+write-pair+write-record-spec =
+    close
+    μ-write-action
+    μ-write-attributes
+    μ-write-bound
+    μ-write-pair
+    μ-write-record
+    (λ t. write-action-lts.spec (write-action-callees t)
+    (write-action-at t)
+    write-action.Post
+    (write-action-sub-copy t)
+    (write-action-part-copy-start t)
+    (write-action-part-copy-end t)
+    (write-action-copy-requires t)
+    (write-action-u16-at-requires t)
+    (write-action-sub-write-attributes t)
+    (write-action-sub-write-attributes-2 t)
+    (write-action-part-write-attributes-start t)
+    (write-action-part-write-attributes-end t)
+    (write-action-write-attributes-requires t)
+    (write-action-add-result t)
+    (write-action-same-length t)
+    (write-action-returns t))
+    (λ t. write-attributes-lts.spec (write-attributes-callees t)
+    (write-attributes-at t)
+    write-attributes.Post
+    write-attributes-Inv-loop
+    write-attributes-μ-loop
+    (write-attributes-u16-at-requires t)
+    (write-attributes-entries-at-requires t)
+    (write-attributes-bodies-at-requires t)
+    (write-attributes-u16-at-requires-2 t)
+    (write-attributes-entries-at-requires-2 t)
+    (write-attributes-bodies-at-requires-2 t)
+    (write-attributes-mul-pos t)
+    (write-attributes-loop-holds t)
+    (write-attributes-u16-at-requires-3 t)
+    (write-attributes-shared-slice-read-required t)
+    (write-attributes-u16-at-requires-4 t)
+    (write-attributes-skip-below-requires t)
+    (write-attributes-mul-f t)
+    (write-attributes-sub-f t)
+    (write-attributes-part-f-start t)
+    (write-attributes-part-f-end t)
+    (write-attributes-sub-c t)
+    (write-attributes-part-c-start t)
+    (write-attributes-part-c-end t)
+    (write-attributes-sub-m t)
+    (write-attributes-sub-write-pair t)
+    (write-attributes-part-write-pair-start t)
+    (write-attributes-part-write-pair-end t)
+    (write-attributes-sub-write-pair-2 t)
+    (write-attributes-part-write-pair-start-2 t)
+    (write-attributes-part-write-pair-end-2 t)
+    (write-attributes-write-pair-requires t)
+    (write-attributes-sub-e t)
+    (write-attributes-part-e-start t)
+    (write-attributes-part-e-end t)
+    (write-attributes-sub-s t)
+    (write-attributes-part-s-start t)
+    (write-attributes-part-s-end t)
+    (write-attributes-sub-left t)
+    (write-attributes-loop-less t)
+    (write-attributes-loop-again t)
+    (write-attributes-shared-slice-read-both-required t)
+    (write-attributes-both-required-requires t)
+    (write-attributes-sub-put-attribute t)
+    (write-attributes-part-put-attribute-start t)
+    (write-attributes-part-put-attribute-end t)
+    (write-attributes-put-attribute-requires t)
+    (write-attributes-add-next t)
+    (write-attributes-add-pos t)
+    (write-attributes-loop-less-2 t)
+    (write-attributes-loop-again-2 t)
+    (write-attributes-same-length t)
+    (write-attributes-returns t))
+    (λ t. write-bound-lts.spec (write-bound-callees t)
+    (write-bound-at t)
+    write-bound.Post
+    (write-bound-shared-slice-read-j t)
+    (write-bound-shared-slice-read-k t)
+    (write-bound-write-form-requires t)
+    (write-bound-same-length t)
+    (write-bound-returns t)
+    (write-bound-write-form-requires-2 t)
+    (write-bound-same-length-2 t)
+    (write-bound-returns-2 t)
+    (write-bound-write-unlike-requires t)
+    (write-bound-same-length-3 t)
+    (write-bound-returns-3 t)
+    (write-bound-put-one-requires t)
+    (write-bound-sub-x t)
+    (write-bound-part-x-start t)
+    (write-bound-part-x-end t)
+    (write-bound-sub-y t)
+    (write-bound-part-y-start t)
+    (write-bound-part-y-end t)
+    (write-bound-sub-write-bound t)
+    (write-bound-sub-write-bound-2 t)
+    (write-bound-part-write-bound-start t)
+    (write-bound-part-write-bound-end t)
+    (write-bound-write-bound-requires t)
+    (write-bound-add-result t)
+    (write-bound-write-record-requires t)
+    (write-bound-write-entities-requires t)
+    (write-bound-same-length-4 t)
+    (write-bound-returns-4 t)
+    (write-bound-write-form-requires-3 t)
+    (write-bound-u16-at-requires t)
+    (write-bound-u16-at-requires-2 t)
+    (write-bound-write-unlike-requires-2 t)
+    (write-bound-same-length-5 t)
+    (write-bound-returns-5 t)
+    (write-bound-write-action-requires t)
+    (write-bound-write-form-requires-4 t)
+    (write-bound-same-length-6 t)
+    (write-bound-returns-6 t)
+    (write-bound-same-length-7 t)
+    (write-bound-returns-7 t)
+    (write-bound-same-length-8 t)
+    (write-bound-returns-8 t)
+    (write-bound-same-length-9 t)
+    (write-bound-returns-9 t)
+    (write-bound-same-length-10 t)
+    (write-bound-returns-10 t))
+    (λ t. write-pair-lts.spec (write-pair-callees t)
+    (write-pair-at t)
+    write-pair.Post
+    (write-pair-pair-kept-requires t)
+    (write-pair-returns t)
+    (write-pair-u16-at-requires t)
+    (write-pair-sub-write-bound t)
+    (write-pair-part-write-bound-start t)
+    (write-pair-part-write-bound-end t)
+    (write-pair-write-bound-requires t)
+    (write-pair-same-length t)
+    (write-pair-returns-2 t))
+    λ t. write-record-lts.spec (write-record-callees t)
+    (write-record-at t)
+    write-record.Post
+    (write-record-sub-kept-count t)
+    (write-record-kept-count-requires t)
+    (write-record-shared-slice-read-open-byte t)
+    (write-record-shared-slice-read-open-byte-2 t)
+    (write-record-u16-at-requires t)
+    (write-record-u16-at-requires-2 t)
+    (write-record-open-byte-requires t)
+    (write-record-put-record-requires t)
+    (write-record-sub-write-attributes t)
+    (write-record-sub-write-attributes-2 t)
+    (write-record-part-write-attributes-start t)
+    (write-record-part-write-attributes-end t)
+    (write-record-write-attributes-requires t)
+    (write-record-add-result t)
+    (write-record-same-length t)
+    (write-record-returns t)

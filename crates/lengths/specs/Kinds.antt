@@ -1,0 +1,38 @@
+-- Bounds by kinds alone. Assumes nothing: these are definitions.
+use Prim.Native.Nat.{ℕ}
+use mathlib.Core.Bool.{Bool, _&&_, cond}
+use lib.Dec.{eqb, leb}
+use Rattle.cedar.specs.Types.{Mode, strict, permissive, isPermissive, bool, anyset, anyent, Ty, atom, set, rec, act, ent, ext}
+use Rattle.cedar.specs.TypeForm.{atomCode}
+use Rattle.cedar.specs.Result.{Result, ok, err, entityType, entityRecord, noBound}
+use Rattle.lengths.specs.declared.kinds.Joined.{Joined}
+use Rattle.lengths.specs.declared.kinds.Joined.the-variants.{Kind, Not}
+
+-- The mode of a number, where it is 0 or 1.
+unfoldable pub asMode : ℕ → Mode
+asMode m = cond (eqb m 1) permissive strict
+
+-- The first byte of a type's form.
+abbrev pub code : Ty → ℕ
+code (atom k) = atomCode k
+code (set t) = 7
+code (rec o xs) = 8
+code (ent ns) = 10
+code (act n xs) = 11
+code (ext n) = 12
+
+-- Both are from low to high.
+abbrev pub bothIn : ℕ → ℕ → ℕ → ℕ → Bool
+bothIn low high j k = (leb low j && leb j high) && (leb low k && leb k high)
+
+-- The bound of two types of unlike kinds, neither of them Never.
+abbrev pub unlike : Mode → ℕ → ℕ → Result Ty
+unlike m j k =
+    cond (bothIn 1 3 j k) (ok (atom bool))
+    (cond (bothIn 6 7 j k) (ok (atom anyset))
+    (cond (bothIn 9 11 j k) (cond (isPermissive m) (ok (atom anyent)) (err entityType))
+    (cond (bothIn 8 11 j k) (err entityRecord) (err noBound))))
+
+abbrev pub joinedOf : Result Ty → Joined
+joinedOf (ok t) = Kind (code t)
+joinedOf (err e) = Not e

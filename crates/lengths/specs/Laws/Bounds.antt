@@ -1,0 +1,203 @@
+-- The bound of two forms by their kinds. Assumes nothing.
+use mathlib.Core.Path.{_≡_, refl, ap, sym, _∙_}
+use mathlib.Core.List.{List, [], _∷_}
+use mathlib.Core.Bool.{Bool, true, _||_}
+use Prim.Native.Nat.{ℕ, _+_, _-_, _≤_, _<_}
+use native.Mathlib.Omega.{arith}
+use lib.Dec.{eqb}
+use lib.ListN.{length, getD}
+use borrow.Author.Tests.{eq-eqb, ne-eqb}
+use Rattle.cedar.specs.Types.{Mode, strict, Atom, never, true′, false′, bool, long, string, anyset, anyent, Ty, atom, set, rec, act, ent, ext, Attrs, same}
+use Rattle.cedar.specs.Shape.{WF, Ordered}
+use Rattle.cedar.specs.TypeForm.{atomCode, enc, one, kindOf}
+use Rattle.cedar.specs.Result.{Result, ok, err, bind}
+use Rattle.cedar.specs.Subtype.{sub}
+use Rattle.cedar.specs.Bound.{bound, sameNames, joinRecord, lost}
+use Rattle.cedar.specs.Direct.{direct, directAttrs, directNames}
+use Rattle.cedar.specs.Laws.TypeForm.{parse-iff}
+use Rattle.forms.specs.Parts.{rest, rd, kind}
+use Rattle.forms.specs.TypeBytes.{whole, dec, namesOf}
+use Rattle.forms.specs.Laws.Bytes.{Bytes-index}
+use Rattle.forms.specs.Laws.Sure.{sure-yes}
+use Rattle.forms.specs.Laws.TypeTwin.{type-twin}
+use Rattle.forms.specs.Laws.Views.{see, seen-set, seen-record, seen-entity, seen-action, seen-extension, seen-atom, Seen, is-set, is-record, is-entity, is-action, is-extension, is-atom}
+use Rattle.lengths.specs.declared.extents.Extent.{Extent}
+use Rattle.lengths.specs.declared.extents.Extent.the-variants.{Of as ExtentOf}
+use Rattle.lengths.specs.declared.extents.Kept.{Kept}
+use Rattle.lengths.specs.Extents.{cap, table, extentOf}
+use Rattle.lengths.specs.Kinds.{asMode, code, unlike}
+use Rattle.lengths.specs.Pairs.{behind, keptOf, attrsAt, Tabled}
+use Rattle.lengths.specs.Laws.Extents.{Cut}
+use Rattle.lengths.specs.Laws.Tables.{atom-code, atom-at}
+use Rattle.lengths.specs.Laws.Kinds.{asMode-strict, unlike-is}
+
+-- What is read from bytes.
+module _ (l : ℕ) (b : List ℕ) (h : whole l b ≡ true) where
+  pub code-is : code (dec l b) ≡ kind b
+  code-is = go (see l b h)
+    where
+      go : Seen l b → code (dec l b) ≡ kind b
+      go (seen-set e i) = ap code (i .is) ∙ sym e
+      go (seen-record e i) = ap code (i .is) ∙ sym e
+      go (seen-entity e i) = ap code (i .is) ∙ sym e
+      go (seen-action e i) = ap code (i .is) ∙ sym e
+      go (seen-extension e i) = ap code (i .is) ∙ sym e
+      go (seen-atom i) = ap code (i .is) ∙ atom-code i
+
+  module _ (all : (i : ℕ) → getD b i 0 < 256) where
+    reads : (enc (dec l b) ≡ b) × WF l (dec l b)
+    reads = parse-iff l b (dec l b) (Bytes-index b all) .0 (sure-yes (type-twin l b) h)
+
+    pub form-is : enc (dec l b) ≡ b
+    form-is = reads .0
+
+    pub ordered : Ordered (dec l b)
+    ordered = reads .1 .1
+
+  pub record-tabled : kind b ≡ 8 → Tabled (l - 1) 2 b
+  record-tabled e = let i = is-record l b h e in record { front = omega arith; fit = i .fit; sound = i .sound }
+
+  pub action-tabled : kind b ≡ 11 → Tabled (l - 1) 3 b
+  action-tabled e = let i = is-action l b h e in record { front = omega arith; fit = i .fit; sound = i .sound }
+
+-- Never with a type, and a type with Never.
+never-join : (m : Mode) (v : Ty) → direct m (atom never) v ≡ ok v
+unfolding direct bound sub same
+never-join m (atom k) = refl
+never-join m (set t) = refl
+never-join m (rec o xs) = refl
+never-join m (act n xs) = refl
+never-join m (ent ns) = refl
+never-join m (ext n) = refl
+
+join-never : (m : Mode) (u : Ty) → direct m u (atom never) ≡ ok u
+unfolding direct bound sub same
+join-never m (atom never) = refl
+join-never m (atom true′) = refl
+join-never m (atom false′) = refl
+join-never m (atom bool) = refl
+join-never m (atom long) = refl
+join-never m (atom string) = refl
+join-never m (atom anyset) = refl
+join-never m (atom anyent) = refl
+join-never m (set t) = refl
+join-never m (rec o xs) = refl
+join-never m (act n xs) = refl
+join-never m (ent ns) = refl
+join-never m (ext n) = refl
+
+atom-join : (m : Mode) (a : Atom) → direct m (atom a) (atom a) ≡ ok (atom a)
+unfolding direct bound sub
+atom-join m never = refl
+atom-join m true′ = refl
+atom-join m false′ = refl
+atom-join m bool = refl
+atom-join m long = refl
+atom-join m string = refl
+atom-join m anyset = refl
+atom-join m anyent = refl
+
+-- A result that is known, and its length.
+pub known-extent : (r : Result Ty) (c : Ty) (w : List ℕ) (x : ℕ) → r ≡ ok c → enc c ≡ w → x ≡ cap (length w) → ExtentOf x ≡ extentOf enc r
+known-extent r c w x e f g = ap ExtentOf g ∙ sym (rw (e, f) refl)
+
+pub of-extent : (r : Result Ty) (c : Ty) (n : ℕ) → r ≡ ok c → length (enc c) ≡ n → n ≤ 4096 → ExtentOf n ≡ extentOf enc r
+of-extent r c n e f g = known-extent r c (enc c) n e refl (omega arith)
+
+-- A type made of attributes, with n bytes before them.
+pub behind-extent : (r : Result Attrs) (s : Result Ty) (make : Attrs → Ty) (n : ℕ) → ((cs : Attrs) → length (enc (make cs)) ≡ length (table cs) + n) → s ≡ bind r (λ cs. ok (make cs)) →
+    (k : Kept) (y : Extent) → k ≡ keptOf r → y ≡ behind n k → y ≡ extentOf enc s
+behind-extent r s make n l e k y p q = q ∙ ap (behind n) p ∙ go r ∙ sym (ap (extentOf enc) e)
+  where
+    go : (r : Result Attrs) → behind n (keptOf r) ≡ extentOf enc (bind r (λ cs. ok (make cs)))
+    go (ok cs) = ap ExtentOf (omega (arith, l cs))
+    go (err d) = refl
+
+pub record-long : (o : Bool) (xs : Attrs) → length (enc (rec o xs)) ≡ length (table xs) + 4
+unfolding enc
+record-long o xs = omega arith
+
+pub action-long : (n : ℕ) (xs : Attrs) → length (enc (act n xs)) ≡ length (table xs) + 5
+unfolding enc
+action-long n xs = omega arith
+
+pub extension-long : (n : ℕ) → length (enc (ext n)) ≡ 3
+unfolding enc
+extension-long n = refl
+
+pub atom-form : (k : Atom) → enc (atom k) ≡ atomCode k ∷ []
+unfolding enc
+atom-form k = refl
+
+module _ (m : Mode) (l : ℕ) (a b : List ℕ) (ha : whole l a ≡ true) (hb : whole l b ≡ true) where
+  abbrev pub joins : Result Ty
+  joins = direct m (dec l a) (dec l b)
+
+  pub never-left : kind a ≡ 0 → joins ≡ ok (dec l b)
+  never-left e = ap (λ (u : Ty). direct m u (dec l b)) (atom-at l a ha 0 e never refl) ∙ never-join m (dec l b)
+
+  pub never-right : kind b ≡ 0 → joins ≡ ok (dec l a)
+  never-right e = ap (λ (v : Ty). direct m (dec l a) v) (atom-at l b hb 0 e never refl) ∙ join-never m (dec l a)
+
+  pub unlike-join : (kind a ≡ kind b → ⊥) → (kind a ≡ 0 → ⊥) → (kind b ≡ 0 → ⊥) → joins ≡ unlike m (kind a) (kind b)
+  unlike-join p q r =
+      let ca = code-is l a ha in
+      let cb = code-is l b hb in
+      unlike-is m (dec l a) (dec l b) (λ e. p (sym ca ∙ e ∙ cb)) (λ e. q (sym ca ∙ e)) (λ e. r (sym cb ∙ e)) ∙ rw (ca, cb) refl
+
+  pub set-cut : kind a ≡ 7 → kind b ≡ 7 → Cut enc enc (7 ∷ []) (direct m (dec (l - 1) (rest 1 a)) (dec (l - 1) (rest 1 b))) joins
+  unfolding direct enc
+  set-cut e f = record { make = set; is = rw (is-set l a ha e .is, is-set l b hb f .is) refl; cut = λ c q. refl }
+
+  pub record-join : kind a ≡ 8 → kind b ≡ 8 →
+      joins ≡ bind (sameNames m (attrsAt (l - 1) 2 a) (attrsAt (l - 1) 2 b) (directAttrs m (attrsAt (l - 1) 2 a) (attrsAt (l - 1) 2 b)))
+      (λ cs. ok (joinRecord (eqb (getD a 1 0) 1) (eqb (getD b 1 0) 1) (attrsAt (l - 1) 2 a) (attrsAt (l - 1) 2 b) cs))
+  unfolding direct
+  record-join e f = rw (is-record l a ha e .is, is-record l b hb f .is) refl
+
+  pub record-extent : kind a ≡ 8 → kind b ≡ 8 → (k : Kept) (y : Extent) →
+      k ≡ keptOf (sameNames m (attrsAt (l - 1) 2 a) (attrsAt (l - 1) 2 b) (directAttrs m (attrsAt (l - 1) 2 a) (attrsAt (l - 1) 2 b))) → y ≡ behind 4 k → y ≡ extentOf enc joins
+  record-extent e f k y p q =
+      behind-extent (sameNames m (attrsAt (l - 1) 2 a) (attrsAt (l - 1) 2 b) (directAttrs m (attrsAt (l - 1) 2 a) (attrsAt (l - 1) 2 b))) joins
+      (λ cs. joinRecord (eqb (getD a 1 0) 1) (eqb (getD b 1 0) 1) (attrsAt (l - 1) 2 a) (attrsAt (l - 1) 2 b) cs) 4
+      (λ cs. record-long (eqb (getD a 1 0) 1 || eqb (getD b 1 0) 1 || lost cs (attrsAt (l - 1) 2 a) (attrsAt (l - 1) 2 b)) cs) (record-join e f) k y p q
+
+  module _ (e : kind a ≡ 11) (f : kind b ≡ 11) (n k : ℕ) (q : n ≡ rd a 1) (r : k ≡ rd b 1) where
+    pub action-join : n ≡ k →
+        joins ≡ bind (sameNames strict (attrsAt (l - 1) 3 a) (attrsAt (l - 1) 3 b) (directAttrs strict (attrsAt (l - 1) 3 a) (attrsAt (l - 1) 3 b))) (λ cs. ok (act (rd a 1) cs))
+    unfolding direct
+    action-join g = rw (is-action l a ha e .is, is-action l b hb f .is, eq-eqb (rd a 1) (rd b 1) (sym q ∙ g ∙ r)) refl
+
+    pub action-extent : n ≡ k → (x : Kept) (y : Extent) →
+        x ≡ keptOf (sameNames (asMode 0) (attrsAt (l - 1) 3 a) (attrsAt (l - 1) 3 b) (directAttrs (asMode 0) (attrsAt (l - 1) 3 a) (attrsAt (l - 1) 3 b))) → y ≡ behind 5 x → y ≡ extentOf enc joins
+    action-extent g x y p z =
+        behind-extent (sameNames strict (attrsAt (l - 1) 3 a) (attrsAt (l - 1) 3 b) (directAttrs strict (attrsAt (l - 1) 3 a) (attrsAt (l - 1) 3 b))) joins (act (rd a 1)) 5
+        (action-long (rd a 1)) (action-join g) x y (p ∙ rw (asMode-strict 0 (λ w. omega arith)) refl) z
+
+    pub action-apart : (n ≡ k → ⊥) → joins ≡ unlike m 11 11
+    unfolding direct
+    action-apart g = rw (is-action l a ha e .is, is-action l b hb f .is, ne-eqb (rd a 1) (rd b 1) (λ z. g (q ∙ z ∙ sym r))) refl
+
+  module _ (e : kind a ≡ 12) (f : kind b ≡ 12) (n k : ℕ) (q : n ≡ rd a 1) (r : k ≡ rd b 1) where
+    pub extension-join : n ≡ k → joins ≡ ok (ext (rd a 1))
+    unfolding direct bound sub same
+    extension-join g =
+        let z : rd b 1 ≡ rd a 1 = sym (sym q ∙ g ∙ r) in
+        rw (is-extension l a ha e .is, is-extension l b hb f .is, z, eq-eqb (rd a 1) (rd a 1) refl) refl
+
+    pub extension-apart : (n ≡ k → ⊥) → joins ≡ unlike m 12 12
+    unfolding direct bound sub same
+    extension-apart g =
+        rw (is-extension l a ha e .is, is-extension l b hb f .is, ne-eqb (rd a 1) (rd b 1) (λ z. g (q ∙ z ∙ sym r)), ne-eqb (rd b 1) (rd a 1) (λ z. g (q ∙ sym z ∙ sym r))) refl
+
+  pub entity-join : kind a ≡ 10 → kind b ≡ 10 → joins ≡ directNames m (namesOf (rd a 1) (rest 3 a)) (namesOf (rd b 1) (rest 3 b))
+  unfolding direct
+  entity-join e f = rw (is-entity l a ha e .is, is-entity l b hb f .is) refl
+
+  pub atoms-join : kind a ≡ kind b → (kind a ≡ 7 → ⊥) → (kind a ≡ 8 → ⊥) → (kind a ≡ 10 → ⊥) → (kind a ≡ 11 → ⊥) → (kind a ≡ 12 → ⊥) → (k : Atom) × ((joins ≡ ok (atom k)) × (atomCode k ≡ kind a))
+  atoms-join e p7 p8 p10 p11 p12 =
+      let i = is-atom l a ha p7 p8 p10 p11 p12 in
+      let j = is-atom l b hb (λ q. p7 (e ∙ q)) (λ q. p8 (e ∙ q)) (λ q. p10 (e ∙ q)) (λ q. p11 (e ∙ q)) (λ q. p12 (e ∙ q)) in
+      let s : one (j .kind-of) ≡ one (i .kind-of) = sym (j .kind-is) ∙ ap kindOf (sym e) ∙ i .kind-is in
+      let z : j .kind-of ≡ i .kind-of = cc in
+      (i .kind-of, (rw (i .is, j .is, z) (atom-join m (i .kind-of)), atom-code i))

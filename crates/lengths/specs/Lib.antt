@@ -1,0 +1,5 @@
+pub mod Extents
+pub mod Kinds
+pub mod Names
+pub mod Pairs
+pub mod Laws

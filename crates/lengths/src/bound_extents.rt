@@ -1,0 +1,184 @@
+// How long the least upper bound of two types is, or why there is none: one walk.
+use crate::extents::Extent;
+use crate::extents::Kept;
+use crate::extents::Pair;
+use crate::extents::capped;
+use crate::kinds::Joined;
+use crate::kinds::unlike_kinds;
+use crate::names::same_names;
+use crate::names::union_count;
+use crate::pairs::dropped;
+use crate::pairs::kept;
+use crate::pairs::names_allowed;
+use crate::tables::bodies_at;
+use crate::tables::entries_at;
+use forms::kinds::Kind;
+use forms::modes::Mode;
+use forms::numbers::u16_at;
+use forms::offsets::Offset;
+use forms::refusals::Refusal;
+use forms::search::Found;
+use forms::search::find;
+use forms::search::skip_below;
+use forms::widths::Width;
+ghost use mathlib.Core.Path.{_≡_};
+ghost use mathlib.Core.Bool.{true};
+ghost use Prim.Native.Nat.{_+_, _*_, _≤_, _-_};
+ghost use lib.Dec.{eqb};
+ghost use lib.ListN.{length, getD};
+ghost use Rattle.cedar.specs.Types.{find as findAttr};
+ghost use Rattle.cedar.specs.TypeForm.{enc};
+ghost use Rattle.cedar.specs.Bound.{sameNames};
+ghost use Rattle.cedar.specs.Direct.{direct, directAttrs, directNames};
+ghost use Rattle.forms.specs.Parts.{rd, rest};
+ghost use Rattle.forms.specs.TypeBytes.{whole, dec, decA, namesUp, namesOf};
+ghost use Rattle.lengths.specs.Extents.{extentOf};
+ghost use Rattle.lengths.specs.Kinds.{asMode, unlike};
+ghost use Rattle.lengths.specs.Pairs.{Front, Tabled, attrsAt, joined, pairOf, keptOf};
+
+// Of two unlike kinds, neither of them Never.
+fn unlike_extent(mode: u8, j: u8, k: u8) -> Extent
+    ensures { λ r. ⌜ r ≡ extentOf enc (unlike (asMode mode) j k) ⌝ }
+{
+    match unlike_kinds(mode, j, k) {
+        Joined::Kind(_) => Extent::Of(Offset::ELEMENT),
+        Joined::Not(e) => Extent::Not(e),
+    }
+}
+
+// Of two entities.
+fn names_extent(mode: u8, a: &[u8], b: &[u8]) -> Extent
+    requires { ⌜ (length (now a) ≡ 3 + 2 * rd (now a) 1) × (namesUp (rd (now a) 1) 0 (rest 3 (now a)) ≡ true) ⌝ }
+    requires { ⌜ (length (now b) ≡ 3 + 2 * rd (now b) 1) × (namesUp (rd (now b) 1) 0 (rest 3 (now b)) ≡ true) ⌝ }
+    ensures { λ r. ⌜ r ≡ extentOf enc (directNames (asMode mode) (namesOf (rd (now (a .entry)) 1) (rest 3 (now (a .entry)))) (namesOf (rd (now (b .entry)) 1) (rest 3 (now (b .entry))))) ⌝ }
+{
+    let n = u16_at(a, Offset::ENTITY_COUNT);
+    let m = u16_at(b, Offset::ENTITY_COUNT);
+    if mode == Mode::PERMISSIVE {
+        return Extent::Of(capped(
+            Offset::ENTITY_NAMES
+                + Width::NAME
+                    * union_count(&a[Offset::ENTITY_NAMES..], n, &b[Offset::ENTITY_NAMES..], m),
+        ));
+    }
+    if same_names(
+        Width::NAME,
+        &a[Offset::ENTITY_NAMES..],
+        n,
+        &b[Offset::ENTITY_NAMES..],
+        m,
+    ) {
+        return Extent::Of(capped(a.len()));
+    }
+    Extent::Not(Refusal::ENTITY_TYPE)
+}
+
+// Of two types.
+pub fn bound_extent(mode: u8, a: &[u8], b: &[u8], levels: usize) -> Extent
+    requires { ⌜ whole levels (now a) ≡ true ⌝ }
+    requires { ⌜ whole levels (now b) ≡ true ⌝ }
+    ensures { λ r. ⌜ r ≡ extentOf enc (direct (asMode mode) (dec levels (now (a .entry))) (dec levels (now (b .entry)))) ⌝ }
+{
+    let j = a[0];
+    let k = b[0];
+    if j == Kind::NEVER {
+        return Extent::Of(capped(b.len()));
+    }
+    if k == Kind::NEVER {
+        return Extent::Of(capped(a.len()));
+    }
+    if j != k {
+        return unlike_extent(mode, j, k);
+    }
+    match j {
+        Kind::SET => {
+            let x = &a[Offset::ELEMENT..];
+            let y = &b[Offset::ELEMENT..];
+            bound_extent(mode, x, y, levels - 1).plus(Offset::ELEMENT)
+        }
+        Kind::RECORD => attributes_extent(mode, a, b, Offset::RECORD_COUNT, levels - 1).behind(
+            Offset::RECORD_ENTRIES,
+        ),
+        Kind::ENTITY => names_extent(mode, a, b),
+        Kind::ACTION => {
+            if u16_at(a, Offset::ACTION_NAME) == u16_at(b, Offset::ACTION_NAME) {
+                let x = attributes_extent(Mode::STRICT, a, b, Offset::ACTION_COUNT, levels - 1);
+                return x.behind(Offset::ACTION_ENTRIES);
+            }
+            unlike_extent(mode, j, k)
+        }
+        Kind::EXTENSION => {
+            if u16_at(a, Offset::EXTENSION_NAME) == u16_at(b, Offset::EXTENSION_NAME) {
+                return Extent::Of(Offset::EXTENSION_END);
+            }
+            unlike_extent(mode, j, k)
+        }
+        _ => Extent::Of(Offset::ELEMENT),
+    }
+}
+
+// Of the attributes whose counts stand at `at`, and how many of them are kept.
+pub fn attributes_extent(mode: u8, a: &[u8], b: &[u8], at: usize, levels: usize) -> Kept
+    requires { ⌜ Tabled levels at (now a) ⌝ }
+    requires { ⌜ Tabled levels at (now b) ⌝ }
+    ensures { λ r. ⌜ r ≡ keptOf (sameNames (asMode mode) (attrsAt levels at (now (a .entry))) (attrsAt levels at (now (b .entry))) (directAttrs (asMode mode) (attrsAt levels at (now (a .entry))) (attrsAt levels at (now (b .entry))))) ⌝ }
+{
+    let mut left = u16_at(a, at);
+    let mut e = entries_at(a, at);
+    let mut s = bodies_at(a, at);
+    let mut m = u16_at(b, at);
+    let mut f = entries_at(b, at);
+    let mut c = bodies_at(b, at);
+    if !names_allowed(mode, e, left, f, m) {
+        return Kept::Not(Refusal::RECORD_WIDTH);
+    }
+    let mut count = 0;
+    let mut sum = 0;
+    while 0 < left {
+        let len = u16_at(e, Offset::BODY_LENGTH);
+        let passed = skip_below(Width::ATTRIBUTE, f, c, m, u16_at(e, 0));
+        let k = passed.entries;
+        let off = passed.bytes;
+        f = &f[Width::ATTRIBUTE * k..];
+        c = &c[off..];
+        m -= k;
+        let pair = pair_extent(mode, e, &s[0..len], f, c, m, levels);
+        e = &e[Width::ATTRIBUTE..];
+        s = &s[len..];
+        left -= 1;
+        match pair {
+            Pair::Kept(x) => {
+                count += 1;
+                sum = capped(sum + x + Width::ATTRIBUTE);
+            }
+            Pair::Dropped => continue,
+            Pair::Not(r) => return Kept::Not(r),
+        }
+    }
+    Kept::Of(count, sum)
+}
+
+// Of an attribute, its entry and its type, with the attribute of its name.
+pub fn pair_extent(
+    mode: u8,
+    e: &[u8],
+    t: &[u8],
+    f: &[u8],
+    c: &[u8],
+    m: usize,
+    levels: usize,
+) -> Pair
+    requires { ⌜ (5 ≤ length (now e)) × (getD (now e) 2 0 ≤ 1) ⌝ }
+    requires { ⌜ whole levels (now t) ≡ true ⌝ }
+    requires { ⌜ Front levels m (rd (now e) 0) (now f) (now c) ⌝ }
+    ensures { λ r. ⌜ r ≡ pairOf (joined (asMode mode) (eqb (getD (now (e .entry)) 2 0) 1) (dec levels (now (t .entry))) (findAttr (rd (now (e .entry)) 0) (decA (dec levels) m (now (f .entry)) (now (c .entry))))) ⌝ }
+{
+    let Found::At(_, _) = find(Width::ATTRIBUTE, f, c, m, u16_at(e, 0)) else {
+        return dropped(mode, Refusal::RECORD_WIDTH);
+    };
+    let len = u16_at(f, Offset::BODY_LENGTH);
+    match bound_extent(mode, t, &c[0..len], levels) {
+        Extent::Of(x) => kept(mode, e[Offset::REQUIRED], f[Offset::REQUIRED], x),
+        Extent::Not(r) => dropped(mode, r),
+    }
+}

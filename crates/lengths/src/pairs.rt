@@ -1,0 +1,50 @@
+// What two attributes of one name come to, and what the mode allows.
+use crate::extents::Pair;
+use crate::names::same_names;
+use forms::modes::Mode;
+use forms::refusals::Refusal;
+use forms::widths::Width;
+ghost use mathlib.Core.Path.{_≡_};
+ghost use mathlib.Core.Bool.{_||_, cond};
+ghost use Prim.Native.Nat.{_*_, _≤_};
+ghost use lib.Dec.{eqb};
+ghost use lib.ListN.{length};
+ghost use Rattle.cedar.specs.Types.{isPermissive, eqNames, eqFlag};
+ghost use Rattle.lengths.specs.declared.extents.Pair.the-variants.{Kept, Dropped, Not};
+ghost use Rattle.lengths.specs.Kinds.{asMode};
+ghost use Rattle.lengths.specs.Names.{namesBy};
+
+// Strict, two attribute lists need the same names.
+pub fn names_allowed(mode: u8, es: &[u8], n: usize, fs: &[u8], m: usize) -> bool
+    requires { ⌜ (length (now es) ≡ 5 * n) × (length (now fs) ≡ 5 * m) ⌝ }
+    ensures { λ r. ⌜ r ≡ (isPermissive (asMode mode) || eqNames (namesBy 5 n (now (es .entry))) (namesBy 5 m (now (fs .entry)))) ⌝ }
+{
+    if mode == Mode::PERMISSIVE {
+        return true;
+    }
+    same_names(Width::ATTRIBUTE, es, n, fs, m)
+}
+
+// No attribute: permissive it is dropped, strict that is a refusal.
+pub fn dropped(mode: u8, reason: u8) -> Pair
+    ensures { λ r. ⌜ r ≡ cond (isPermissive (asMode mode)) Dropped (Not reason) ⌝ }
+{
+    if mode == Mode::PERMISSIVE {
+        return Pair::Dropped;
+    }
+    Pair::Not(reason)
+}
+
+// An attribute with a type of so many bytes: strict, the flags are equal.
+pub fn kept(mode: u8, a: u8, b: u8, x: usize) -> Pair
+    requires { ⌜ (a ≤ 1) × (b ≤ 1) ⌝ }
+    ensures { λ r. ⌜ r ≡ cond (isPermissive (asMode mode) || eqFlag (eqb a 1) (eqb b 1)) (Kept x) (Not 11) ⌝ }
+{
+    if mode == Mode::PERMISSIVE {
+        return Pair::Kept(x);
+    }
+    if a == b {
+        return Pair::Kept(x);
+    }
+    Pair::Not(Refusal::ATTRIBUTE_QUALIFIER)
+}

@@ -1,0 +1,87 @@
+#!/usr/bin/env python3
+"""Runs the built programs (target/bin, after `rt check`) on pipes that are full, slow or cut short, and on what cannot be
+read or written. The gate does not run it: rt gives a program a file for standard input and looks at no message.
+"""
+import fcntl
+import os
+import subprocess
+import sys
+import time
+from pathlib import Path
+
+ROOT = Path(__file__).resolve().parent.parent
+BIN = ROOT / "target" / "bin"
+
+
+def file(crate, name):
+    return (ROOT / "crates" / crate / name).read_bytes()
+
+
+def without_waiting(end):
+    fcntl.fcntl(end, fcntl.F_SETFL, fcntl.fcntl(end, fcntl.F_GETFL) | os.O_NONBLOCK)
+
+
+def full_pipe():
+    """Standard output is a pipe that is full most of the time, and a write to it does not wait."""
+    out, into = os.pipe()
+    without_waiting(into)
+    with open(ROOT / "crates/edges/stdin", "rb") as batch:
+        program = subprocess.Popen([BIN / "replay"], stdin=batch, stdout=into)
+    os.close(into)
+    time.sleep(0.2)
+    got = b""
+    while piece := os.read(out, 199):
+        got += piece
+    program.wait()
+    return got == file("edges", "stdout")
+
+
+def slow_pipe():
+    """Standard input is a pipe that is empty most of the time, and a read from it does not wait."""
+    out, into = os.pipe()
+    without_waiting(out)
+    program = subprocess.Popen([BIN / "replay"], stdin=out, stdout=subprocess.PIPE)
+    batch = file("settled", "stdin")
+    for at in range(0, len(batch), 97):
+        os.write(into, batch[at:at + 97])
+        time.sleep(0.001)
+    os.close(into)
+    return program.communicate()[0] == file("settled", "stdout")
+
+
+def said(program, given, output=subprocess.PIPE):
+    """What a program writes and what it says on standard error."""
+    ended = subprocess.run([BIN / program], input=given, stdout=output, stderr=subprocess.PIPE)
+    return ended.stdout, ended.stderr.decode()
+
+
+def main():
+    batch, calls, job = file("settled", "stdin"), file("rooms", "stdin"), file("tirncheav", "stdin")
+    whole = int.from_bytes(batch[:4], "little") + 4
+    first = b"0 0 08010000\n1 15 -\n.\n"
+    with open("/dev/full", "wb") as nowhere:
+        unwritten = said("tirncheav", job, nowhere)[1]
+    unread = subprocess.run([BIN / "tirncheav"], stdin=os.open(ROOT, os.O_RDONLY), capture_output=True).stderr.decode()
+    tests = {
+        "a full pipe": full_pipe(),
+        "a slow pipe": slow_pipe(),
+        "no batch": said("replay", b"") == (b"", ""),
+        "one job": said("replay", batch[:whole]) == (first, ""),
+        "a length that is cut short": said("replay", batch[:whole + 2]) == (first, "standard input: a length is cut short\n"),
+        "a job that is cut short": said("replay", batch[:whole + 9]) == (first, "standard input: a job is cut short\n"),
+        "a job that is too long": said("replay", b"\1\0\1\0") == (b"", "standard input: a job is too long\n"),
+        "a call that is cut short": said("rooms", calls[:30]) == (b"", "standard input: a call is cut short\n"),
+        "a job with a byte over": said("tirncheav", job + b"\0") == (b"- 16 -\n", ""),
+        "a job of 40,000 bytes": said("tirncheav", bytes(40000)) == (b"- 16 -\n", ""),
+        "nowhere to write": unwritten == "standard output: No space left on device\n",
+        "nothing to read": unread == "standard input: Is a directory\n",
+    }
+    failed = [name for name, held in tests.items() if not held]
+    for name in failed:
+        print("FAILED:", name)
+    print(f"{len(tests) - len(failed)} passed, {len(failed)} failed")
+    sys.exit(bool(failed))
+
+
+if __name__ == "__main__":
+    main()
