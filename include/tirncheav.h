@@ -6,7 +6,7 @@
  * other or any form. A length of 0 still asks for a pointer that is not null.
  *
  * Every call answers one number. Its low byte is the kind; TIRNCHEAV_VALUE is the rest: the number of the question that
- * refused, or how many bytes were written.
+ * refused, or how many bytes were written. For a part of the caller's own form the rest is where it starts and ends.
  *
  * A refusal, yes, no and none leave `out` as it was. An answer fills the first bytes of `out` and no others. `work` is all
  * zero after every call that takes it.
@@ -28,11 +28,15 @@ enum tirncheav_kind {
     TIRNCHEAV_NONE = 3,
     TIRNCHEAV_WROTE = 4,    /* the value is how many bytes of `out` were written */
     TIRNCHEAV_OPTIONAL = 5, /* an optional attribute: its type's length, written to `out` */
-    TIRNCHEAV_REQUIRED = 6  /* a required attribute: its type's length, written to `out` */
+    TIRNCHEAV_REQUIRED = 6, /* a required attribute: its type's length, written to `out` */
+    TIRNCHEAV_OPTIONAL_PART = 7, /* an optional attribute: its type is a part of the form passed */
+    TIRNCHEAV_REQUIRED_PART = 8  /* a required attribute: its type is a part of the form passed */
 };
 
 #define TIRNCHEAV_KIND(answer) ((int)((answer) & 0xff))
 #define TIRNCHEAV_VALUE(answer) ((size_t)((answer) >> 8))
+#define TIRNCHEAV_PART_START(answer) ((size_t)((answer) >> 8 & 0xffff))
+#define TIRNCHEAV_PART_END(answer) ((size_t)((answer) >> 24))
 
 /* ---- Calls that check the schema each time. They ask nothing of their bytes. */
 
@@ -55,6 +59,10 @@ uint64_t tirncheav_reduce_to_least_upper_bound(uint8_t mode, const uint8_t *sche
 /* Writes the type of an attribute of t and says whether it is required, or none. */
 uint64_t tirncheav_lookup_attribute_type(const uint8_t *schema, size_t schema_len, uint16_t attr, const uint8_t *t,
                                          size_t t_len, uint8_t *out, size_t out_len, uint8_t *work, size_t work_len);
+
+/* Says which bytes of t, from start up to end, are the type of an attribute of the record or action t, or none. */
+uint64_t tirncheav_own_attribute_type(const uint8_t *schema, size_t schema_len, uint16_t attr, const uint8_t *t,
+                                      size_t t_len);
 
 /* Yes if a value of type t might have the attribute, else no. */
 uint64_t tirncheav_may_have_attr(const uint8_t *schema, size_t schema_len, uint16_t attr, const uint8_t *t,
@@ -107,6 +115,10 @@ uint64_t tirncheav_reduce_to_least_upper_bound_checked(const uint8_t *schema, si
 uint64_t tirncheav_lookup_attribute_type_checked(const uint8_t *schema, size_t schema_len, uint64_t check,
                                                  uint16_t attr, const uint8_t *t, size_t t_len, uint8_t *out,
                                                  size_t out_len, uint8_t *work, size_t work_len);
+
+/* tirncheav_own_attribute_type, without the check. */
+uint64_t tirncheav_own_attribute_type_checked(const uint8_t *schema, size_t schema_len, uint64_t check, uint16_t attr,
+                                              const uint8_t *t, size_t t_len);
 
 /* tirncheav_may_have_attr, without the check. */
 uint64_t tirncheav_may_have_attr_checked(const uint8_t *schema, size_t schema_len, uint64_t check, uint16_t attr,

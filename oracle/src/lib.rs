@@ -55,7 +55,6 @@ pub mod noted;
 pub mod programs;
 pub mod properties;
 pub mod published;
-pub mod published;
 pub mod questions;
 pub mod rooms;
 pub mod sample;

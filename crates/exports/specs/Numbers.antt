@@ -6,8 +6,11 @@ use mathlib.Core.Path.{_≡_}
 use lib.ListN.{length, replicate}
 use Rattle.cedar.specs.Outcome.{Outcome, resultAfter}
 use Rattle.validator.specs.Answers.{answerOf}
+use Rattle.validator.specs.Handed.{Within, Stands}
 use Rattle.validator.specs.declared.answers.Answer.{Answer}
 use Rattle.validator.specs.declared.answers.Answer.the-variants.{Refused, Yes, No, Nothing, Wrote, Attribute}
+use Rattle.validator.specs.declared.own_attribute_type.OwnPart.{OwnPart}
+use Rattle.validator.specs.declared.own_attribute_type.OwnPart.the-variants as parts
 
 -- Kinds 0 to 6: refused, yes, no, none, wrote, optional attribute, required attribute.
 abbrev pub answerNumber : Answer → ℕ
@@ -52,3 +55,39 @@ pub record NumberedIn (o : Outcome) (before after work workAfter : List ℕ) (r 
   pub number : r ≡ answerNumber (answerOf o)
   pub result : after ≡ resultAfter o before
   pub cleared : workAfter ≡ replicate (length work) 0
+
+-- A part of the caller's form: kind 7 if it is an optional attribute, 8 if required; above it the part's start, and 65,536 times its end.
+abbrev pub partNumber : OwnPart → ℕ
+partNumber (parts.Refused n) = 256 * n
+partNumber parts.Nothing = 3
+partNumber (parts.At s e false) = 7 + 256 * (s + 65536 * e)
+partNumber (parts.At s e true) = 8 + 256 * (s + 65536 * e)
+
+-- The part of a kind and what stands above it.
+abbrev pub partWith : ℕ → ℕ → OwnPart
+partWith zero v = parts.Refused v
+partWith (suc zero) v = parts.Nothing
+partWith (suc (suc zero)) v = parts.Nothing
+partWith (suc (suc (suc zero))) v = parts.Nothing
+partWith (suc (suc (suc (suc zero)))) v = parts.Nothing
+partWith (suc (suc (suc (suc (suc zero))))) v = parts.Nothing
+partWith (suc (suc (suc (suc (suc (suc zero)))))) v = parts.Nothing
+partWith (suc (suc (suc (suc (suc (suc (suc zero))))))) v = parts.At (v % 65536) (v / 65536) false
+partWith (suc (suc (suc (suc (suc (suc (suc (suc k)))))))) v = parts.At (v % 65536) (v / 65536) true
+
+-- The part that a number says.
+abbrev pub readPart : ℕ → OwnPart
+readPart x = partWith (x % 256) (x / 256)
+
+-- A part within the length of a form.
+abbrev pub Narrow : OwnPart → Type 0
+Narrow (parts.Refused n) = Unit {0}
+Narrow parts.Nothing = Unit {0}
+Narrow (parts.At s e q) = (s ≤ 4096) × (e ≤ 4096)
+
+-- A call that tells a part of the form b: the number of a place within b at which its outcome stands.
+pub record PartNumbered (o : Outcome) (b : List ℕ) (r : ℕ) : Type 0 where
+  pub place : OwnPart
+  pub within : Within b place
+  pub stands : Stands o b place
+  pub number : r ≡ partNumber place

@@ -1,5 +1,7 @@
 // The calls, each with the schema's bytes: it is checked in every call.
 use crate::numbers::answer_number;
+use crate::numbers::part_number;
+use schemas::whole::check_schema;
 use validator::all_attributes::all_attributes;
 use validator::are_types_disjoint::are_types_disjoint;
 use validator::convert::convert;
@@ -9,14 +11,15 @@ use validator::is_subtype::is_subtype;
 use validator::least_upper_bound::least_upper_bound;
 use validator::lookup_attribute_type::lookup_attribute_type;
 use validator::may_have_attr::may_have_attr;
+use validator::own_attribute_type::own_attribute_part_checked;
 use validator::reduce_to_least_upper_bound::reduce_to_least_upper_bound;
 use validator::typecheck_restricted_expr::typecheck_restricted_expr;
 ghost use mathlib.Core.Path.{_≡_};
 ghost use lib.ListN.{length};
 ghost use Rattle.cedar.specs.Limits.{standard};
-ghost use Rattle.cedar.specs.Calls.{subtypeCall, boundCall, foldCall, lookupCall, mayHaveCall, namesCall, literalCall, conformsCall, disjointCall, consistentCall, convertCall};
+ghost use Rattle.cedar.specs.Calls.{subtypeCall, boundCall, foldCall, lookupCall, ownAttributeCall, mayHaveCall, namesCall, literalCall, conformsCall, disjointCall, consistentCall, convertCall};
 ghost use Rattle.validator.specs.Answers.{answerOf};
-ghost use Rattle.exports.specs.Numbers.{answerNumber, Numbered, NumberedIn};
+ghost use Rattle.exports.specs.Numbers.{answerNumber, Numbered, NumberedIn, PartNumbered};
 
 // Whether no entity is of both types.
 #[no_mangle]
@@ -74,6 +77,14 @@ pub extern "C" fn tirncheav_lookup_attribute_type(
     ensures { λ r. ⌜ NumberedIn (lookupCall standard (now (schema .entry)) attr (now (t .entry)) (length (now (out .entry))) (length (now (work .entry)))) (now (out .entry)) (now (out .exit)) (now (work .entry)) (now (work .exit)) r ⌝ }
 {
     answer_number(lookup_attribute_type(schema, attr, t, out, work))
+}
+
+// The attribute of a record or an action, as a part of t.
+#[no_mangle]
+pub extern "C" fn tirncheav_own_attribute_type(schema: &[u8], attr: u16, t: &[u8]) -> u64
+    ensures { λ r. ⌜ PartNumbered (ownAttributeCall standard (now (schema .entry)) attr (now (t .entry))) (now (t .entry)) r ⌝ }
+{
+    part_number(own_attribute_part_checked(check_schema(schema), attr, t))
 }
 
 // Whether a value of a type might have an attribute.

@@ -1,22 +1,24 @@
 // The calls on a schema that was checked before: `check` is the number that `tirncheav_check_schema` gave for the same bytes.
 use crate::checks::check_again;
 use crate::numbers::answer_number;
+use crate::numbers::part_number;
 use validator::all_attributes::all_attributes_checked;
 use validator::euid_literal::euid_literal_checked;
 use validator::is_subtype::is_subtype_checked;
 use validator::least_upper_bound::least_upper_bound_checked;
 use validator::lookup_attribute_type::lookup_attribute_type_checked;
 use validator::may_have_attr::may_have_attr_checked;
+use validator::own_attribute_type::own_attribute_part_checked;
 use validator::reduce_to_least_upper_bound::reduce_to_least_upper_bound_checked;
 use validator::typecheck_restricted_expr::typecheck_restricted_expr_checked;
 ghost use mathlib.Core.Path.{_≡_};
 ghost use lib.ListN.{length};
 ghost use Rattle.cedar.specs.Limits.{standard};
-ghost use Rattle.cedar.specs.Calls.{subtypeCall, boundCall, foldCall, lookupCall, mayHaveCall, namesCall, literalCall, conformsCall};
+ghost use Rattle.cedar.specs.Calls.{subtypeCall, boundCall, foldCall, lookupCall, ownAttributeCall, mayHaveCall, namesCall, literalCall, conformsCall};
 ghost use Rattle.schemas.specs.SchemaBytes.{checked};
 ghost use Rattle.validator.specs.Answers.{answerOf};
 ghost use Rattle.exports.specs.Checks.{checkNumber};
-ghost use Rattle.exports.specs.Numbers.{answerNumber, Numbered, NumberedIn};
+ghost use Rattle.exports.specs.Numbers.{answerNumber, Numbered, NumberedIn, PartNumbered};
 
 // Whether a type is a subtype of another.
 #[no_mangle]
@@ -92,6 +94,20 @@ pub extern "C" fn tirncheav_lookup_attribute_type_checked(
         out,
         work,
     ))
+}
+
+// The attribute of a record or an action, as a part of t.
+#[no_mangle]
+pub extern "C" fn tirncheav_own_attribute_type_checked(
+    schema: &[u8],
+    check: u64,
+    attr: u16,
+    t: &[u8],
+) -> u64
+    requires { ⌜ check ≡ checkNumber (checked (now schema)) ⌝ }
+    ensures { λ r. ⌜ PartNumbered (ownAttributeCall standard (now (schema .entry)) attr (now (t .entry))) (now (t .entry)) r ⌝ }
+{
+    part_number(own_attribute_part_checked(check_again(schema, check), attr, t))
 }
 
 // Whether a value of a type might have an attribute.

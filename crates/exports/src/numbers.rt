@@ -1,7 +1,9 @@
-// One number for an answer.
+// One number for an answer, and one for a part of the caller's form.
+use crate::checks::Packed;
 use validator::answers::Answer;
+use validator::own_attribute_type::OwnPart;
 ghost use mathlib.Core.Path.{_≡_};
-ghost use Rattle.exports.specs.Numbers.{answerNumber, Brief};
+ghost use Rattle.exports.specs.Numbers.{answerNumber, Brief, partNumber, Narrow};
 
 // The kind of an answer, in the low byte of its number.
 pub struct Kind;
@@ -20,6 +22,10 @@ impl Kind {
     pub const OPTIONAL: u64 = 5;
 
     pub const REQUIRED: u64 = 6;
+
+    pub const OPTIONAL_PART: u64 = 7;
+
+    pub const REQUIRED_PART: u64 = 8;
 
     // What the number above the kind is multiplied by.
     pub const STEP: u64 = 256;
@@ -41,6 +47,24 @@ pub fn answer_number(a: Answer) -> u64
                 return Kind::REQUIRED + Kind::STEP * (n as u64);
             }
             Kind::OPTIONAL + Kind::STEP * (n as u64)
+        }
+    }
+}
+
+// A kind, with a refusal's number or a part's start and end above it.
+pub fn part_number(p: OwnPart) -> u64
+    requires { ⌜ Narrow p ⌝ }
+    ensures { λ r. ⌜ r ≡ partNumber p ⌝ }
+{
+    match p {
+        OwnPart::Refused(e) => Kind::REFUSED + Kind::STEP * (e as u64),
+        OwnPart::Nothing => Kind::NOTHING,
+        OwnPart::At(start, end, required) => {
+            let place = start + Packed::STEP * end;
+            if required {
+                return Kind::REQUIRED_PART + Kind::STEP * (place as u64);
+            }
+            Kind::OPTIONAL_PART + Kind::STEP * (place as u64)
         }
     }
 }

@@ -12,7 +12,7 @@ ghost use Prim.Native.Nat.{ℕ};
 ghost use Rattle.cedar.specs.Limits.{standard};
 ghost use Rattle.cedar.specs.Calls.{ownAttributeCall};
 ghost use Rattle.schemas.specs.SchemaBytes.{checked};
-ghost use Rattle.validator.specs.Handed.{Handed};
+ghost use Rattle.validator.specs.Handed.{Within, Stands, Handed};
 
 // What the entry says beside the part, where it is no refusal's number.
 pub struct Told;
@@ -25,6 +25,29 @@ impl Told {
     pub const REQUIRED: u8 = b'r';
 }
 
+// Where the attribute stands in the form that lists it: a refusal's number; none; its start and end, and whether it is required.
+pub enum OwnPart {
+    Refused(u8),
+    Nothing,
+    At(usize, usize, bool),
+}
+
+// The place under any schema that was checked before, with this outcome.
+pub fn own_attribute_part_checked(check: Checked, attr: u16, t: &[u8]) -> OwnPart
+    ensures { λ r. ⌜ Within (now (t .entry)) r × ((schema : List ℕ) → check ≡ checked schema → Stands (ownAttributeCall standard schema attr (now (t .entry))) (now (t .entry)) r) ⌝ }
+{
+    let Checked::Whole(_) = check else {
+        return OwnPart::Refused(Refusal::SCHEMA);
+    };
+    if !whole_type(t) {
+        return OwnPart::Refused(Refusal::FIRST);
+    }
+    let Place::At(start, end, required) = own_attribute(t, attr as usize, Limits::LEVELS) else {
+        return OwnPart::Nothing;
+    };
+    OwnPart::At(start, end, required)
+}
+
 // The answer under any schema that was checked before, with this outcome.
 pub fn own_attribute_type_checked<'a>(
     check: Checked,
@@ -34,24 +57,24 @@ pub fn own_attribute_type_checked<'a>(
 ) -> &'a [u8]
     ensures { λ r. ⌜ ((schema : List ℕ) → check ≡ checked schema → Handed (ownAttributeCall standard schema attr (now (t .entry))) (now r) (now (told .exit))) ⌝ }
 {
-    let Checked::Whole(_) = check else {
-        *told = Refusal::SCHEMA;
-        return &t[..0];
-    };
-    if !whole_type(t) {
-        *told = Refusal::FIRST;
-        return &t[..0];
+    match own_attribute_part_checked(check, attr, t) {
+        OwnPart::Refused(e) => {
+            *told = e;
+            &t[..0]
+        }
+        OwnPart::Nothing => {
+            *told = Told::NOTHING;
+            &t[..0]
+        }
+        OwnPart::At(start, end, required) => {
+            if required {
+                *told = Told::REQUIRED;
+                return &t[start..end];
+            }
+            *told = Told::OPTIONAL;
+            &t[start..end]
+        }
     }
-    let Place::At(start, end, required) = own_attribute(t, attr as usize, Limits::LEVELS) else {
-        *told = Told::NOTHING;
-        return &t[..0];
-    };
-    if required {
-        *told = Told::REQUIRED;
-        return &t[start..end];
-    }
-    *told = Told::OPTIONAL;
-    &t[start..end]
 }
 
 // The attribute's type, as a part of t: empty for none or a refusal. `told` is the refusal's number, none, optional or required.

@@ -8,7 +8,10 @@ use Rattle.cedar.specs.Outcome.{Outcome}
 use Rattle.validator.specs.declared.answers.Answer.{Answer}
 use Rattle.validator.specs.declared.answers.Answer.the-variants.{Refused, Yes, No, Nothing, Wrote, Attribute}
 use Rattle.validator.specs.Answers.{Answered, AnsweredIn}
-use Rattle.exports.specs.Numbers.{answerNumber, answerWith, readAnswer, Brief, Numbered, NumberedIn}
+use Rattle.validator.specs.Handed.{Within, Stands}
+use Rattle.validator.specs.declared.own_attribute_type.OwnPart.{OwnPart}
+use Rattle.validator.specs.declared.own_attribute_type.OwnPart.the-variants as places
+use Rattle.exports.specs.Numbers.{answerNumber, answerWith, readAnswer, Brief, Numbered, NumberedIn, partNumber, partWith, readPart, Narrow, PartNumbered}
 
 -- A kind, and what stands above it.
 parts : (k n : ℕ) → k < 256 → readAnswer (k + 256 * n) ≡ answerWith k n
@@ -61,3 +64,49 @@ module _ {o : Outcome} {a : Answer} {before after : List ℕ} (r : ℕ) (e : r �
 
   pub numbered-in : {work cleared : List ℕ} → AnsweredIn o before after work cleared a → NumberedIn o before after work cleared r
   numbered-in q = record { number = e ∙ ap answerNumber (q .answer); result = q .result; cleared = q .cleared }
+
+-- A part's number is read as the part that it was made of.
+located : (s e : ℕ) → s ≤ 4096 → ((s + 65536 * e) % 65536 ≡ s) × ((s + 65536 * e) / 65536 ≡ e)
+located s e l = (omega (arith, l), omega (arith, l))
+
+part-kind : (k n : ℕ) → k < 256 → readPart (k + 256 * n) ≡ partWith k n
+part-kind k n l =
+    let low : (k + 256 * n) % 256 ≡ k = omega (arith, l) in
+    let high : (k + 256 * n) / 256 ≡ n = omega (arith, l) in
+    rw (low, high) refl
+
+pub reads-part : (p : OwnPart) → Narrow p → readPart (partNumber p) ≡ p
+reads-part (places.Refused n) h =
+    let low : 256 * n % 256 ≡ 0 = omega arith in
+    let high : 256 * n / 256 ≡ n = omega arith in
+    rw (low, high) refl
+reads-part places.Nothing h = refl
+reads-part (places.At s e false) h = part-kind 7 (s + 65536 * e) (omega arith) ∙ rw (located s e (h .0) .0, located s e (h .0) .1) refl
+reads-part (places.At s e true) h = part-kind 8 (s + 65536 * e) (omega arith) ∙ rw (located s e (h .0) .0, located s e (h .0) .1) refl
+
+-- So no two parts within a form's length have one number.
+pub one-part : (p q : OwnPart) → Narrow p → Narrow q → partNumber p ≡ partNumber q → p ≡ q
+one-part p q hp hq e = sym (reads-part p hp) ∙ ap readPart e ∙ reads-part q hq
+
+-- A place within a whole form.
+pub narrow : (b : List ℕ) (p : OwnPart) → Within b p → Narrow p
+narrow b (places.Refused n) h = tt
+narrow b places.Nothing h = tt
+narrow b (places.At s e q) h = (omega (arith, h .0, h .1, h .2), omega (arith, h .1, h .2))
+
+pub at-narrow : (p : OwnPart) (s e : ℕ) (q : Bool) → Narrow p → p ≡ places.At s e q → (s ≤ 4096) × (e ≤ 4096)
+at-narrow p s e q h at = subst Narrow at h
+
+-- The number of a part, case by case.
+pub part-refused-number : (p : OwnPart) (n : ℕ) → p ≡ places.Refused n → 0 + 256 * n ≡ partNumber p
+part-refused-number p n e = omega arith ∙ sym (ap partNumber e)
+
+pub part-required-number : (p : OwnPart) (s e : ℕ) (q : Bool) → p ≡ places.At s e q → q ≡ true → 8 + 256 * (s + 65536 * e) ≡ partNumber p
+part-required-number p s e q at h = sym (ap partNumber (at ∙ ap (places.At s e) h))
+
+pub part-optional-number : (p : OwnPart) (s e : ℕ) (q : Bool) → p ≡ places.At s e q → q ≡ false → 7 + 256 * (s + 65536 * e) ≡ partNumber p
+part-optional-number p s e q at h = sym (ap partNumber (at ∙ ap (places.At s e) h))
+
+-- The number of where an outcome stands.
+pub part-numbered : {o : Outcome} (b : List ℕ) (p : OwnPart) (r : ℕ) → Within b p → Stands o b p → r ≡ partNumber p → PartNumbered o b r
+part-numbered b p r w s e = record { place = p; within = w; stands = s; number = e }

@@ -1,158 +1,121 @@
 -- `validator::own_attribute_type::own_attribute_type_checked` meets its contract. Assumes nothing.
 use native.Mathlib.Omega.{arith}
-use Rattle.cedar.specs.Attribute.{ownAttr}
-use Rattle.forms.specs.TypeBytes.{dec}
-use Rattle.attributes.specs.Laws.Place.{place-at, place-none}
-use Rattle.validator.specs.Laws.Questions.{type-missing, type-there, type-whole}
-use Rattle.validator.specs.Laws.Schemas.{checked-missing, checked-there}
-use Rattle.validator.specs.Laws.Handed.{handed-no-schema, handed-refused, handed-nothing, handed-required, handed-optional}
+use Rattle.cedar.specs.Limits.{standard}
+use Rattle.cedar.specs.Calls.{ownAttributeCall}
+use Rattle.validator.specs.Laws.Handed.{handed-refused, handed-nothing, handed-required, handed-optional, within-at}
 use borrow.Author.Needs.{needs}
 use Rattle.validator.proofs.own_attribute_type.own_attribute_type_checked.Statement.{
   statement,
 }
 use Rattle.validator.proofs.own_attribute_type.own_attribute_type_checked.Tie as tie
 
-enum-told : tie.Need-enum-told
-enum-told c = search needs
+own-attribute-part-checked-requires : tie.Need-own-attribute-part-checked-requires
+own-attribute-part-checked-requires c κs = search needs
 
-enum-told-2 : tie.Need-enum-told-2
-enum-told-2 c = search needs
+enum-known-e : tie.Need-enum-known-e
+enum-known-e c = search needs
 
 slice-aggregate-result : tie.Need-slice-aggregate-result
 slice-aggregate-result c = search needs
 
-returns : tie.Need-returns
-returns c =
-    let start = c .before .before .before .before in
-    let enum-told2 = c .before in
-    λ s q. handed-no-schema s (start .args .attr) (start .args .t .now) (checked-missing s (start .args .check) q (enum-told2 .enum-told2 .given .1))
-
-whole-type-requires : tie.Need-whole-type-requires
-whole-type-requires c κs = search needs
+enum-told : tie.Need-enum-told
+enum-told c = search needs
 
 slice-aggregate-result-2 : tie.Need-slice-aggregate-result-2
 slice-aggregate-result-2 c = search needs
 
-returns-2 : tie.Need-returns-2
-returns-2 c =
-    let start = c .before .before .before .before .before .before in
-    let at-enum-told = c .before .before .before in
-    let whole-type = c .before .before in
-    let then1 = c .before in
-    λ s q. handed-refused s _ (checked-there s (start .args .check) q (at-enum-told .enum-told .given .0 .0) (at-enum-told .enum-told .given .1)) (start .args .attr) (start .args .t .now) (type-missing (start .args .t .now) (whole-type .whole-type .result) (whole-type .whole-type .ensures) (then1 .if1 .taken))
-
-own-attribute-requires : tie.Need-own-attribute-requires
-own-attribute-requires c κs =
-    let start = c .before .before .before .before .before in
-    let whole-type = c .before in
-    type-whole (start .args .t .now) (whole-type .whole-type .result) (whole-type .whole-type .ensures) (c .if1 .left)
-
 enum-known-start : tie.Need-enum-known-start
 enum-known-start c = search needs
 
-enum-told-3 : tie.Need-enum-told-3
-enum-told-3 c = search needs
-
-slice-aggregate-result-3 : tie.Need-slice-aggregate-result-3
-slice-aggregate-result-3 c = search needs
-
-returns-3 : tie.Need-returns-3
-returns-3 c =
-    let start = c .before .before .before .before .before .before .before .before .before in
-    let at-enum-told = c .before .before .before .before .before .before in
-    let whole-type = c .before .before .before .before .before in
-    let else1 = c .before .before .before .before in
-    let own-attribute = c .before .before .before in
-    let enum-told3 = c .before in
-    λ s q. handed-nothing s _ (checked-there s (start .args .check) q (at-enum-told .enum-told .given .0 .0) (at-enum-told .enum-told .given .1)) (start .args .attr) (start .args .t .now) _ (type-there (start .args .t .now) (whole-type .whole-type .result) (whole-type .whole-type .ensures) (else1 .if1 .left)) (place-none 15 (start .args .t .now) (ownAttr (start .args .attr) (dec 16 (start .args .t .now))) (own-attribute .own-attribute .result) (enum-told3 .enum-told3 .given .1) (own-attribute .own-attribute .ensures))
-
 sub-result : tie.Need-sub-result
 sub-result c =
-    let start = c .before .before .before .before .before .before .before .before .before .before in
-    let own-attribute = c .before .before .before .before in
+    let start = c .before .before .before .before .before .before in
+    let own-attribute-part-checked = c .before .before .before .before in
     let place = c .before .before in
-    omega (arith, (place-at 15 (start .args .t .now) (ownAttr (start .args .attr) (dec 16 (start .args .t .now))) (own-attribute .own-attribute .result) (place .start .given .0 .0) (place .start .given .0 .1 .0) (place .start .given .0 .1 .1 .0) (place .start .given .1) (own-attribute .own-attribute .ensures)) .0, (place-at 15 (start .args .t .now) (ownAttr (start .args .attr) (dec 16 (start .args .t .now))) (own-attribute .own-attribute .result) (place .start .given .0 .0) (place .start .given .0 .1 .0) (place .start .given .0 .1 .1 .0) (place .start .given .1) (own-attribute .own-attribute .ensures)) .1)
+    omega (arith, within-at (start .args .t .now) (own-attribute-part-checked .own-attribute-part-checked .result) (place .start .given .0 .0) (place .start .given .0 .1 .0) (place .start .given .0 .1 .1 .0) (place .start .given .1) (own-attribute-part-checked .own-attribute-part-checked .ensures .0) .0, within-at (start .args .t .now) (own-attribute-part-checked .own-attribute-part-checked .result) (place .start .given .0 .0) (place .start .given .0 .1 .0) (place .start .given .0 .1 .1 .0) (place .start .given .1) (own-attribute-part-checked .own-attribute-part-checked .ensures .0) .1)
 
 part-result-start : tie.Need-part-result-start
 part-result-start c =
-    let start = c .before .before .before .before .before .before .before .before .before .before in
-    let own-attribute = c .before .before .before .before in
+    let start = c .before .before .before .before .before .before in
+    let own-attribute-part-checked = c .before .before .before .before in
     let place = c .before .before in
-    omega (arith, (place-at 15 (start .args .t .now) (ownAttr (start .args .attr) (dec 16 (start .args .t .now))) (own-attribute .own-attribute .result) (place .start .given .0 .0) (place .start .given .0 .1 .0) (place .start .given .0 .1 .1 .0) (place .start .given .1) (own-attribute .own-attribute .ensures)) .0, (place-at 15 (start .args .t .now) (ownAttr (start .args .attr) (dec 16 (start .args .t .now))) (own-attribute .own-attribute .result) (place .start .given .0 .0) (place .start .given .0 .1 .0) (place .start .given .0 .1 .1 .0) (place .start .given .1) (own-attribute .own-attribute .ensures)) .1)
+    omega (arith, within-at (start .args .t .now) (own-attribute-part-checked .own-attribute-part-checked .result) (place .start .given .0 .0) (place .start .given .0 .1 .0) (place .start .given .0 .1 .1 .0) (place .start .given .1) (own-attribute-part-checked .own-attribute-part-checked .ensures .0) .0, within-at (start .args .t .now) (own-attribute-part-checked .own-attribute-part-checked .result) (place .start .given .0 .0) (place .start .given .0 .1 .0) (place .start .given .0 .1 .1 .0) (place .start .given .1) (own-attribute-part-checked .own-attribute-part-checked .ensures .0) .1)
 
 part-result-end : tie.Need-part-result-end
 part-result-end c =
-    let start = c .before .before .before .before .before .before .before .before .before .before in
-    let own-attribute = c .before .before .before .before in
+    let start = c .before .before .before .before .before .before in
+    let own-attribute-part-checked = c .before .before .before .before in
     let place = c .before .before in
-    omega (arith, (place-at 15 (start .args .t .now) (ownAttr (start .args .attr) (dec 16 (start .args .t .now))) (own-attribute .own-attribute .result) (place .start .given .0 .0) (place .start .given .0 .1 .0) (place .start .given .0 .1 .1 .0) (place .start .given .1) (own-attribute .own-attribute .ensures)) .0, (place-at 15 (start .args .t .now) (ownAttr (start .args .attr) (dec 16 (start .args .t .now))) (own-attribute .own-attribute .result) (place .start .given .0 .0) (place .start .given .0 .1 .0) (place .start .given .0 .1 .1 .0) (place .start .given .1) (own-attribute .own-attribute .ensures)) .1)
+    omega (arith, within-at (start .args .t .now) (own-attribute-part-checked .own-attribute-part-checked .result) (place .start .given .0 .0) (place .start .given .0 .1 .0) (place .start .given .0 .1 .1 .0) (place .start .given .1) (own-attribute-part-checked .own-attribute-part-checked .ensures .0) .0, within-at (start .args .t .now) (own-attribute-part-checked .own-attribute-part-checked .result) (place .start .given .0 .0) (place .start .given .0 .1 .0) (place .start .given .0 .1 .1 .0) (place .start .given .1) (own-attribute-part-checked .own-attribute-part-checked .ensures .0) .1)
 
-returns-4 : tie.Need-returns-4
-returns-4 c =
-    let start = c .before .before .before .before .before .before .before .before .before .before .before in
-    let shared-slice-known = c .before .before .before .before .before .before .before .before .before .before in
-    let at-enum-told = c .before .before .before .before .before .before .before .before in
-    let whole-type = c .before .before .before .before .before .before .before in
-    let else1 = c .before .before .before .before .before .before in
-    let own-attribute = c .before .before .before .before .before in
+returns : tie.Need-returns
+returns c =
+    let start = c .before .before .before .before .before .before .before in
+    let own-attribute-part-checked = c .before .before .before .before .before in
     let place = c .before .before .before in
-    let then2 = c .before in
-    λ s q. handed-required s _ (checked-there s (start .args .check) q (at-enum-told .enum-told .given .0 .0) (at-enum-told .enum-told .given .1)) (start .args .attr) (start .args .t .now) (λ i. omega (arith, shared-slice-known .shared-slice-known .given i)) (type-there (start .args .t .now) (whole-type .whole-type .result) (whole-type .whole-type .ensures) (else1 .if1 .left)) (place .start .given .0 .0) (place .start .given .0 .1 .0) (place .start .given .0 .1 .1 .0) (place-at 15 (start .args .t .now) (ownAttr (start .args .attr) (dec 16 (start .args .t .now))) (own-attribute .own-attribute .result) (place .start .given .0 .0) (place .start .given .0 .1 .0) (place .start .given .0 .1 .1 .0) (place .start .given .1) (own-attribute .own-attribute .ensures)) (then2 .if2 .taken)
+    let then1 = c .before in
+    λ s q. handed-required (ownAttributeCall standard s (start .args .attr) (start .args .t .now)) (start .args .t .now) (own-attribute-part-checked .own-attribute-part-checked .result) (own-attribute-part-checked .own-attribute-part-checked .ensures .1 s q) (place .start .given .0 .0) (place .start .given .0 .1 .0) (place .start .given .0 .1 .1 .0) (place .start .given .1) (then1 .if1 .taken)
 
 sub-result-2 : tie.Need-sub-result-2
 sub-result-2 c =
-    let start = c .before .before .before .before .before .before .before .before .before .before in
-    let own-attribute = c .before .before .before .before in
+    let start = c .before .before .before .before .before .before in
+    let own-attribute-part-checked = c .before .before .before .before in
     let place = c .before .before in
-    omega (arith, (place-at 15 (start .args .t .now) (ownAttr (start .args .attr) (dec 16 (start .args .t .now))) (own-attribute .own-attribute .result) (place .start .given .0 .0) (place .start .given .0 .1 .0) (place .start .given .0 .1 .1 .0) (place .start .given .1) (own-attribute .own-attribute .ensures)) .0, (place-at 15 (start .args .t .now) (ownAttr (start .args .attr) (dec 16 (start .args .t .now))) (own-attribute .own-attribute .result) (place .start .given .0 .0) (place .start .given .0 .1 .0) (place .start .given .0 .1 .1 .0) (place .start .given .1) (own-attribute .own-attribute .ensures)) .1)
+    omega (arith, within-at (start .args .t .now) (own-attribute-part-checked .own-attribute-part-checked .result) (place .start .given .0 .0) (place .start .given .0 .1 .0) (place .start .given .0 .1 .1 .0) (place .start .given .1) (own-attribute-part-checked .own-attribute-part-checked .ensures .0) .0, within-at (start .args .t .now) (own-attribute-part-checked .own-attribute-part-checked .result) (place .start .given .0 .0) (place .start .given .0 .1 .0) (place .start .given .0 .1 .1 .0) (place .start .given .1) (own-attribute-part-checked .own-attribute-part-checked .ensures .0) .1)
 
 part-result-start-2 : tie.Need-part-result-start-2
 part-result-start-2 c =
-    let start = c .before .before .before .before .before .before .before .before .before .before in
-    let own-attribute = c .before .before .before .before in
+    let start = c .before .before .before .before .before .before in
+    let own-attribute-part-checked = c .before .before .before .before in
     let place = c .before .before in
-    omega (arith, (place-at 15 (start .args .t .now) (ownAttr (start .args .attr) (dec 16 (start .args .t .now))) (own-attribute .own-attribute .result) (place .start .given .0 .0) (place .start .given .0 .1 .0) (place .start .given .0 .1 .1 .0) (place .start .given .1) (own-attribute .own-attribute .ensures)) .0, (place-at 15 (start .args .t .now) (ownAttr (start .args .attr) (dec 16 (start .args .t .now))) (own-attribute .own-attribute .result) (place .start .given .0 .0) (place .start .given .0 .1 .0) (place .start .given .0 .1 .1 .0) (place .start .given .1) (own-attribute .own-attribute .ensures)) .1)
+    omega (arith, within-at (start .args .t .now) (own-attribute-part-checked .own-attribute-part-checked .result) (place .start .given .0 .0) (place .start .given .0 .1 .0) (place .start .given .0 .1 .1 .0) (place .start .given .1) (own-attribute-part-checked .own-attribute-part-checked .ensures .0) .0, within-at (start .args .t .now) (own-attribute-part-checked .own-attribute-part-checked .result) (place .start .given .0 .0) (place .start .given .0 .1 .0) (place .start .given .0 .1 .1 .0) (place .start .given .1) (own-attribute-part-checked .own-attribute-part-checked .ensures .0) .1)
 
 part-result-end-2 : tie.Need-part-result-end-2
 part-result-end-2 c =
-    let start = c .before .before .before .before .before .before .before .before .before .before in
-    let own-attribute = c .before .before .before .before in
+    let start = c .before .before .before .before .before .before in
+    let own-attribute-part-checked = c .before .before .before .before in
     let place = c .before .before in
-    omega (arith, (place-at 15 (start .args .t .now) (ownAttr (start .args .attr) (dec 16 (start .args .t .now))) (own-attribute .own-attribute .result) (place .start .given .0 .0) (place .start .given .0 .1 .0) (place .start .given .0 .1 .1 .0) (place .start .given .1) (own-attribute .own-attribute .ensures)) .0, (place-at 15 (start .args .t .now) (ownAttr (start .args .attr) (dec 16 (start .args .t .now))) (own-attribute .own-attribute .result) (place .start .given .0 .0) (place .start .given .0 .1 .0) (place .start .given .0 .1 .1 .0) (place .start .given .1) (own-attribute .own-attribute .ensures)) .1)
+    omega (arith, within-at (start .args .t .now) (own-attribute-part-checked .own-attribute-part-checked .result) (place .start .given .0 .0) (place .start .given .0 .1 .0) (place .start .given .0 .1 .1 .0) (place .start .given .1) (own-attribute-part-checked .own-attribute-part-checked .ensures .0) .0, within-at (start .args .t .now) (own-attribute-part-checked .own-attribute-part-checked .result) (place .start .given .0 .0) (place .start .given .0 .1 .0) (place .start .given .0 .1 .1 .0) (place .start .given .1) (own-attribute-part-checked .own-attribute-part-checked .ensures .0) .1)
 
-returns-5 : tie.Need-returns-5
-returns-5 c =
-    let start = c .before .before .before .before .before .before .before .before .before .before .before in
-    let shared-slice-known = c .before .before .before .before .before .before .before .before .before .before in
-    let at-enum-told = c .before .before .before .before .before .before .before .before in
-    let whole-type = c .before .before .before .before .before .before .before in
-    let else1 = c .before .before .before .before .before .before in
-    let own-attribute = c .before .before .before .before .before in
+returns-2 : tie.Need-returns-2
+returns-2 c =
+    let start = c .before .before .before .before .before .before in
+    let own-attribute-part-checked = c .before .before .before .before in
+    let at-e = c .before .before in
+    λ s q. handed-refused (ownAttributeCall standard s (start .args .attr) (start .args .t .now)) (start .args .t .now) (own-attribute-part-checked .own-attribute-part-checked .result) (own-attribute-part-checked .own-attribute-part-checked .ensures .1 s q) (at-e .e .given .0 .0) (at-e .e .given .1)
+
+returns-3 : tie.Need-returns-3
+returns-3 c =
+    let start = c .before .before .before .before .before in
+    let own-attribute-part-checked = c .before .before .before in
+    let at-enum-told = c .before in
+    λ s q. handed-nothing (ownAttributeCall standard s (start .args .attr) (start .args .t .now)) (start .args .t .now) (own-attribute-part-checked .own-attribute-part-checked .result) (own-attribute-part-checked .own-attribute-part-checked .ensures .1 s q) (at-enum-told .enum-told .given .1)
+
+returns-4 : tie.Need-returns-4
+returns-4 c =
+    let start = c .before .before .before .before .before .before .before in
+    let own-attribute-part-checked = c .before .before .before .before .before in
     let place = c .before .before .before in
-    let else2 = c .before in
-    λ s q. handed-optional s _ (checked-there s (start .args .check) q (at-enum-told .enum-told .given .0 .0) (at-enum-told .enum-told .given .1)) (start .args .attr) (start .args .t .now) (λ i. omega (arith, shared-slice-known .shared-slice-known .given i)) (type-there (start .args .t .now) (whole-type .whole-type .result) (whole-type .whole-type .ensures) (else1 .if1 .left)) (place .start .given .0 .0) (place .start .given .0 .1 .0) (place .start .given .0 .1 .1 .0) (place-at 15 (start .args .t .now) (ownAttr (start .args .attr) (dec 16 (start .args .t .now))) (own-attribute .own-attribute .result) (place .start .given .0 .0) (place .start .given .0 .1 .0) (place .start .given .0 .1 .1 .0) (place .start .given .1) (own-attribute .own-attribute .ensures)) (else2 .if2 .left)
+    let else1 = c .before in
+    λ s q. handed-optional (ownAttributeCall standard s (start .args .attr) (start .args .t .now)) (start .args .t .now) (own-attribute-part-checked .own-attribute-part-checked .result) (own-attribute-part-checked .own-attribute-part-checked .ensures .1 s q) (place .start .given .0 .0) (place .start .given .0 .1 .0) (place .start .given .0 .1 .1 .0) (place .start .given .1) (else1 .if1 .left)
 
 pub own-attribute-type-checked-spec : {M : Type 1} → statement M
 own-attribute-type-checked-spec =
     tie.close
     (tie.spec
-    enum-told
-    enum-told-2
+    own-attribute-part-checked-requires
+    enum-known-e
     slice-aggregate-result
-    returns
-    whole-type-requires
+    enum-told
     slice-aggregate-result-2
-    returns-2
-    own-attribute-requires
     enum-known-start
-    enum-told-3
-    slice-aggregate-result-3
-    returns-3
     sub-result
     part-result-start
     part-result-end
-    returns-4
+    returns
     sub-result-2
     part-result-start-2
     part-result-end-2
-    returns-5)
+    returns-2
+    returns-3
+    returns-4)
