@@ -34,7 +34,8 @@ ghost use Rattle.forms.specs.Parts.{rd, rest, kind};
 ghost use Rattle.forms.specs.TypeBytes.{whole, dec, decA, namesUp, namesOf};
 ghost use Rattle.lengths.specs.Extents.{table, formOf, Ready};
 ghost use Rattle.bounds.specs.Written.{Written};
-ghost use Rattle.lengths.specs.Kinds.{asMode, unlike};
+ghost use Rattle.forms.specs.Modes.{asMode};
+ghost use Rattle.lengths.specs.Kinds.{unlike};
 ghost use Rattle.lengths.specs.Pairs.{Front, Tabled, attrsAt, joined};
 ghost use Rattle.bounds.specs.Joins.{joinedAttrs, countOf, pairForm};
 

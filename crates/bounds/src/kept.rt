@@ -21,7 +21,7 @@ ghost use Rattle.cedar.specs.Types.{permissive, find as findAttr};
 ghost use Rattle.cedar.specs.Direct.{direct};
 ghost use Rattle.forms.specs.Parts.{rd};
 ghost use Rattle.forms.specs.TypeBytes.{whole, dec, decA};
-ghost use Rattle.lengths.specs.Kinds.{asMode};
+ghost use Rattle.forms.specs.Modes.{asMode};
 ghost use Rattle.lengths.specs.Pairs.{Front, Tabled, attrsAt, joined};
 ghost use Rattle.bounds.specs.Joins.{joinedAttrs, countOf, isOk, isKept};
 

@@ -30,7 +30,7 @@ ghost use Rattle.forms.specs.ValueBytes.{wholeVAs, wholeV, decV};
 ghost use Rattle.conformance.specs.Walks.{isOpen, attributesOf, membersOf, pairsOf, recordSaid};
 ghost use Rattle.conformance.specs.Verdicts.{verdictOf};
 
-// Whether v has the type t.
+// Whether v has the type t. Parts are handed on, not t and v as they came, which would be copied through memory at each call.
 pub fn conforms(schema: &[u8], sections: Sections, t: &[u8], v: &[u8], levels: usize) -> Verdict
     requires { ⌜ Kept (now schema) sections ⌝ }
     requires { ⌜ whole levels (now t) ≡ true ⌝ }
@@ -42,8 +42,8 @@ pub fn conforms(schema: &[u8], sections: Sections, t: &[u8], v: &[u8], levels: u
         return Verdict::Fails;
     }
     match k {
-        Kind::SET => members_conform(schema, sections, &t[1..], v, levels - 1),
-        Kind::RECORD => record_conforms(schema, sections, t, v, levels - 1),
+        Kind::SET => members_conform(schema, sections, &t[Offset::ELEMENT..], &v[0..], levels - 1),
+        Kind::RECORD => record_conforms(schema, sections, &t[0..], &v[0..], levels - 1),
         Kind::ENTITY => tested(stands(
             &t[Offset::ENTITY_NAMES..],
             u16_at(t, Offset::ENTITY_COUNT),
@@ -53,7 +53,10 @@ pub fn conforms(schema: &[u8], sections: Sections, t: &[u8], v: &[u8], levels: u
             u16_at(v, ValueOffset::UID_TYPE),
             u16_at(t, Offset::ACTION_NAME),
         )),
-        Kind::EXTENSION => call_returns(schema, sections, v, u16_at(t, 1), levels - 1),
+        Kind::EXTENSION => {
+            let name = u16_at(t, Offset::EXTENSION_NAME);
+            call_returns(schema, sections, &v[0..], name, levels - 1)
+        }
         _ => Verdict::Holds,
     }
 }
@@ -112,17 +115,8 @@ fn record_conforms(schema: &[u8], sections: Sections, t: &[u8], v: &[u8], levels
         c = &c[bytes..];
         ahead -= passed;
         let x = &b[0..len];
-        let said = pair_conforms(
-            schema,
-            sections,
-            t[Offset::OPEN],
-            f,
-            c,
-            ahead,
-            name,
-            x,
-            levels,
-        );
+        let openness = t[Offset::OPEN];
+        let said = pair_conforms(schema, sections, openness, f, c, ahead, name, x, levels);
         let Verdict::Holds = said else {
             return said;
         };

@@ -14,7 +14,7 @@ ghost use Rattle.cedar.specs.Calls.{stepFits};
 ghost use Rattle.forms.specs.Parts.{part};
 ghost use Rattle.forms.specs.TypeBytes.{dec};
 ghost use Rattle.forms.specs.ListBytes.{SoundTs, decTs, listOf};
-ghost use Rattle.lengths.specs.Kinds.{asMode};
+ghost use Rattle.forms.specs.Modes.{asMode};
 ghost use Rattle.folds.specs.Steps.{Held};
 ghost use Rattle.folds.specs.Lists.{Opened, FoldsTo};
 

@@ -4,13 +4,14 @@ use bounds::writers::copy;
 use forms::limits::Limits;
 use lengths::bound_extents::bound_extent;
 use lengths::extents::Extent;
+use relations::is_subtype::is_subtype;
 ghost use mathlib.Core.Path.{_≡_};
 ghost use mathlib.Core.Bool.{true};
 ghost use lib.ListN.{length};
 ghost use Rattle.cedar.specs.Bound.{bound};
 ghost use Rattle.forms.specs.Parts.{part};
 ghost use Rattle.forms.specs.TypeBytes.{whole, dec};
-ghost use Rattle.lengths.specs.Kinds.{asMode};
+ghost use Rattle.forms.specs.Modes.{asMode};
 ghost use Rattle.folds.specs.Steps.{Held, Stepped};
 
 // Where a step leads: to a bound of so many bytes, to none, by the number of its reason, or to one that is too long.
@@ -22,7 +23,7 @@ pub enum Step {
 
 // The bound of the type in the first bytes of `last` and another: written into a half of the workspace, then copied to `last`. The
 // halves cannot be lent at once, so each step reads a copy.
-pub fn join_step(
+fn write_step(
     mode: u8,
     last: &mut [u8],
     len: usize,
@@ -54,4 +55,27 @@ pub fn join_step(
     write_bound(mode, &last[0..len], t, levels, &mut work[..half]);
     copy(&work[0..n], last);
     Step::To(n)
+}
+
+// One step: the type in the first bytes of `last` stays where the other is under it; else their bound is written in its place.
+pub fn join_step(
+    mode: u8,
+    last: &mut [u8],
+    len: usize,
+    t: &[u8],
+    levels: usize,
+    second: bool,
+    work: &mut [u8],
+) -> Step
+    requires { ⌜ Held levels len (now last) ⌝ }
+    requires { ⌜ whole levels (now t) ≡ true ⌝ }
+    ensures { λ r. ⌜ Stepped levels (bound (asMode mode) (dec levels (part 0 len (now (last .entry)))) (dec levels (now (t .entry)))) (length (now (work .entry))) (now (last .exit)) r ⌝ }
+{
+    if !is_subtype(mode, t, &last[0..len], levels) {
+        return write_step(mode, last, len, t, levels, second, work);
+    }
+    if work.len() / 2 < len {
+        return Step::TooLong;
+    }
+    Step::To(len)
 }

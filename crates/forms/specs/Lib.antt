@@ -1,4 +1,5 @@
 pub mod Parts
+pub mod Modes
 pub mod Rows
 pub mod TypeBytes
 pub mod ValueBytes

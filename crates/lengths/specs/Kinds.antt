@@ -8,10 +8,6 @@ use Rattle.cedar.specs.Result.{Result, ok, err, entityType, entityRecord, noBou
 use Rattle.lengths.specs.declared.kinds.Joined.{Joined}
 use Rattle.lengths.specs.declared.kinds.Joined.the-variants.{Kind, Not}
 
--- The mode of a number, where it is 0 or 1.
-unfoldable pub asMode : ℕ → Mode
-asMode m = cond (eqb m 1) permissive strict
-
 -- The first byte of a type's form.
 abbrev pub code : Ty → ℕ
 code (atom k) = atomCode k

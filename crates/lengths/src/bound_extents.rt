@@ -33,7 +33,8 @@ ghost use Rattle.cedar.specs.Direct.{direct, directAttrs, directNames};
 ghost use Rattle.forms.specs.Parts.{rd, rest};
 ghost use Rattle.forms.specs.TypeBytes.{whole, dec, decA, namesUp, namesOf};
 ghost use Rattle.lengths.specs.Extents.{extentOf};
-ghost use Rattle.lengths.specs.Kinds.{asMode, unlike};
+ghost use Rattle.forms.specs.Modes.{asMode};
+ghost use Rattle.lengths.specs.Kinds.{unlike};
 ghost use Rattle.lengths.specs.Pairs.{Front, Tabled, attrsAt, joined, pairOf, keptOf};
 
 // Of two unlike kinds, neither of them Never.

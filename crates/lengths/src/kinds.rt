@@ -3,7 +3,8 @@ use forms::kinds::Kind;
 use forms::modes::Mode;
 use forms::refusals::Refusal;
 ghost use mathlib.Core.Path.{_≡_};
-ghost use Rattle.lengths.specs.Kinds.{bothIn, asMode, unlike, joinedOf};
+ghost use Rattle.forms.specs.Modes.{asMode};
+ghost use Rattle.lengths.specs.Kinds.{bothIn, unlike, joinedOf};
 
 // The kind of a bound that has one byte, or the number of a refusal.
 pub enum Joined {

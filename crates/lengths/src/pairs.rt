@@ -11,7 +11,7 @@ ghost use lib.Dec.{eqb};
 ghost use lib.ListN.{length};
 ghost use Rattle.cedar.specs.Types.{isPermissive, eqNames, eqFlag};
 ghost use Rattle.lengths.specs.declared.extents.Pair.the-variants.{Kept, Dropped, Not};
-ghost use Rattle.lengths.specs.Kinds.{asMode};
+ghost use Rattle.forms.specs.Modes.{asMode};
 ghost use Rattle.lengths.specs.Names.{namesBy};
 
 // Strict, two attribute lists need the same names.

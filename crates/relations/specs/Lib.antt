@@ -1,6 +1,5 @@
 pub mod Names
 pub mod TypeNames
-pub mod Modes
 pub mod Under
 pub mod Meets
 pub mod Laws

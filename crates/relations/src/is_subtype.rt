@@ -18,12 +18,12 @@ ghost use lib.ListN.{length};
 ghost use Rattle.cedar.specs.Subtype.{subFlag, subNames, sub, subAttrs};
 ghost use Rattle.forms.specs.TypeBytes.{whole, dec, decA, Sound};
 ghost use Rattle.relations.specs.Names.{EntityForm, entityNames, entryNames};
-ghost use Rattle.relations.specs.Modes.{modeAs};
+ghost use Rattle.forms.specs.Modes.{asMode};
 ghost use Rattle.relations.specs.Under.{kindUnder, recordUnder};
 
 // Whether a type of kind j stands under one of another kind k.
 fn kind_under(mode: u8, j: u8, k: u8) -> bool
-    ensures { λ r. ⌜ r ≡ kindUnder (modeAs mode) j k ⌝ }
+    ensures { λ r. ⌜ r ≡ kindUnder (asMode mode) j k ⌝ }
 {
     if j == Kind::NEVER {
         return true;
@@ -52,7 +52,7 @@ fn kind_under(mode: u8, j: u8, k: u8) -> bool
 // Whether an attribute's flag stands under another's: strict, they are equal; permissive, required also stands under optional.
 fn required_under(mode: u8, lower: u8, upper: u8) -> bool
     requires { ⌜ (lower ≤ 1) × (upper ≤ 1) ⌝ }
-    ensures { λ r. ⌜ r ≡ subFlag (modeAs mode) (eqb lower 1) (eqb upper 1) ⌝ }
+    ensures { λ r. ⌜ r ≡ subFlag (asMode mode) (eqb lower 1) (eqb upper 1) ⌝ }
 {
     if is_permissive(mode) {
         return upper <= lower;
@@ -64,7 +64,7 @@ fn required_under(mode: u8, lower: u8, upper: u8) -> bool
 fn entity_under(mode: u8, t0: &[u8], t1: &[u8]) -> bool
     requires { ⌜ EntityForm (now t0) ⌝ }
     requires { ⌜ EntityForm (now t1) ⌝ }
-    ensures { λ r. ⌜ r ≡ subNames (modeAs mode) (entityNames (now (t0 .entry))) (entityNames (now (t1 .entry))) ⌝ }
+    ensures { λ r. ⌜ r ≡ subNames (asMode mode) (entityNames (now (t0 .entry))) (entityNames (now (t1 .entry))) ⌝ }
 {
     let a = &t0[Offset::ENTITY_NAMES..];
     let b = &t1[Offset::ENTITY_NAMES..];
@@ -85,7 +85,7 @@ fn record_under(mode: u8, open0: u8, es: &[u8], n: usize, open1: u8, fs: &[u8], 
     requires { ⌜ (open0 ≤ 1) × (open1 ≤ 1) ⌝ }
     requires { ⌜ 5 * n ≤ length (now es) ⌝ }
     requires { ⌜ 5 * m ≤ length (now fs) ⌝ }
-    ensures { λ r. ⌜ r ≡ recordUnder (modeAs mode) (eqb open0 1) (entryNames n (now (es .entry))) (eqb open1 1) (entryNames m (now (fs .entry))) ⌝ }
+    ensures { λ r. ⌜ r ≡ recordUnder (asMode mode) (eqb open0 1) (entryNames n (now (es .entry))) (eqb open1 1) (entryNames m (now (fs .entry))) ⌝ }
 {
     if open1 < open0 {
         return false;
@@ -113,7 +113,7 @@ fn attributes_subtype(
 ) -> bool
     requires { ⌜ Sound levels n 0 (now es) (now bs) ⌝ }
     requires { ⌜ Sound levels m 0 (now fs) (now cs) ⌝ }
-    ensures { λ r. ⌜ r ≡ subAttrs (modeAs mode) (decA (dec levels) n (now (es .entry)) (now (bs .entry))) (decA (dec levels) m (now (fs .entry)) (now (cs .entry))) ⌝ }
+    ensures { λ r. ⌜ r ≡ subAttrs (asMode mode) (decA (dec levels) n (now (es .entry)) (now (bs .entry))) (decA (dec levels) m (now (fs .entry)) (now (cs .entry))) ⌝ }
 {
     let mut e = es;
     let mut b = bs;
@@ -149,7 +149,7 @@ fn attributes_subtype(
 pub fn is_subtype(mode: u8, t0: &[u8], t1: &[u8], levels: usize) -> bool
     requires { ⌜ whole levels (now t0) ≡ true ⌝ }
     requires { ⌜ whole levels (now t1) ≡ true ⌝ }
-    ensures { λ r. ⌜ r ≡ sub (modeAs mode) (dec levels (now (t0 .entry))) (dec levels (now (t1 .entry))) ⌝ }
+    ensures { λ r. ⌜ r ≡ sub (asMode mode) (dec levels (now (t0 .entry))) (dec levels (now (t1 .entry))) ⌝ }
 {
     let j = t0[0];
     let k = t1[0];

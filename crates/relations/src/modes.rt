@@ -3,7 +3,7 @@ use forms::modes::Mode;
 ghost use mathlib.Core.Path.{_≡_};
 ghost use Rattle.cedar.specs.Types.{isPermissive, present};
 ghost use Rattle.cedar.specs.Calls.{modeOf};
-ghost use Rattle.relations.specs.Modes.{modeAs};
+ghost use Rattle.forms.specs.Modes.{asMode};
 
 // Whether it is strict or permissive.
 pub fn is_mode(mode: u8) -> bool
@@ -13,7 +13,7 @@ pub fn is_mode(mode: u8) -> bool
 }
 
 pub fn is_permissive(mode: u8) -> bool
-    ensures { λ r. ⌜ r ≡ isPermissive (modeAs mode) ⌝ }
+    ensures { λ r. ⌜ r ≡ isPermissive (asMode mode) ⌝ }
 {
     mode == Mode::PERMISSIVE
 }

@@ -27,7 +27,7 @@ use Rattle.folds.specs.declared.steps.Step.{Step}
 use Rattle.folds.specs.declared.steps.Step.the-variants.{To, Not, TooLong}
 use Rattle.attributes.specs.declared.lookup_attribute_type.Looked.{Looked}
 use Rattle.attributes.specs.declared.lookup_attribute_type.Looked.the-variants as looks
-use Rattle.lengths.specs.Kinds.{asMode}
+use Rattle.forms.specs.Modes.{asMode}
 use Rattle.folds.specs.Steps.{Held, Stepped}
 use Rattle.attributes.specs.Lookup.{Named, Asked, LookedUp}
 use Rattle.folds.specs.Laws.Steps.{front-is}

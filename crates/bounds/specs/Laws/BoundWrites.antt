@@ -27,7 +27,8 @@ use Rattle.lengths.specs.declared.kinds.Joined.{Joined}
 use Rattle.lengths.specs.declared.kinds.Joined.the-variants.{Kind, Not}
 use Rattle.bounds.specs.Written.{Written}
 use Rattle.lengths.specs.Extents.{table, formOf, Ready}
-use Rattle.lengths.specs.Kinds.{asMode, code, unlike, joinedOf}
+use Rattle.forms.specs.Modes.{asMode}
+use Rattle.lengths.specs.Kinds.{code, unlike, joinedOf}
 use Rattle.lengths.specs.Pairs.{attrsAt}
 use Rattle.bounds.specs.Joins.{joinedAttrs, countOf, isOk}
 use Rattle.bounds.specs.Laws.Kept.{ok-bind, joined-direct, strict-many}

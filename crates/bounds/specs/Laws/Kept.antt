@@ -22,7 +22,7 @@ use Rattle.forms.specs.Laws.Attributes.{past, Past, found-at, found-not}
 use Rattle.lengths.specs.declared.extents.Extent.{Extent}
 use Rattle.lengths.specs.declared.extents.Extent.the-variants.{Of, Not}
 use Rattle.lengths.specs.Extents.{extentOf}
-use Rattle.lengths.specs.Kinds.{asMode}
+use Rattle.forms.specs.Modes.{asMode}
 use Rattle.lengths.specs.Pairs.{Front, Tabled, attrsAt, joined, joinedTo}
 use Rattle.lengths.specs.Laws.Extents.{of-ok, not-err}
 use Rattle.lengths.specs.Laws.Kinds.{asMode-strict, asMode-permissive}

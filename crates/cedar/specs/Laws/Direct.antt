@@ -81,7 +81,7 @@ mutual
   unfolding direct sub same bound Ordered
 
   -- Where the second is under the first, their join is the first.
-  direct-right : (a : Ty) (m : Mode) (b : Ty) → Ordered a → Ordered b → T (sub m b a) → direct m a b ≡ ok a
+  pub direct-right : (a : Ty) (m : Mode) (b : Ty) → Ordered a → Ordered b → T (sub m b a) → direct m a b ≡ ok a
   direct-right (atom k) m b oa ob h = upper-right m (atom k) b _ h (λ g. atom-anti m k b g h)
   direct-right (set t) m (atom j) oa ob h = never-right m (set t) j h refl
   direct-right (set t) m (set u) oa ob h = ap (λ r. bind r (λ c. ok (set c))) (direct-right t m u oa ob h)

@@ -4,12 +4,14 @@ use native.Mathlib.Omega.{arith}
 use mathlib.Core.List.{List, _++_, append-assoc}
 use mathlib.Core.Bool.{Bool, true, false}
 use mathlib.Core.Path.{_≡_, refl, ap, sym, subst, _∙_}
-use lib.Dec.{leb}
+use lib.Dec.{T, leb}
 use lib.ListN.{length, take, drop, length-take}
 use lib.Seq.{take-append-seam, drop-append-seam}
 use borrow.Author.Tests.{le-leb, lt-leb}
 use Rattle.cedar.specs.Types.{Mode, Ty}
 use Rattle.cedar.specs.Bytes.{Bytes}
+use Rattle.cedar.specs.Shape.{Ordered}
+use Rattle.cedar.specs.Subtype.{sub}
 use Rattle.cedar.specs.TypeForm.{enc}
 use Rattle.cedar.specs.Limits.{standard}
 use Rattle.cedar.specs.Result.{Result, ok, err}
@@ -18,12 +20,12 @@ use Rattle.cedar.specs.Direct.{direct}
 use Rattle.cedar.specs.Outcome.{over}
 use Rattle.cedar.specs.Calls.{stepFits}
 use Rattle.cedar.specs.Laws.TypeForm.{parse-iff}
-use Rattle.cedar.specs.Laws.Direct.{direct-bound}
+use Rattle.cedar.specs.Laws.Direct.{direct-bound, direct-right}
 use Rattle.cedar.specs.Laws.Join.{bound-WF}
 use Rattle.cedar.specs.Laws.JoinBytes.{bound-bytes}
 use Rattle.forms.specs.Parts.{part, rest}
 use Rattle.forms.specs.TypeBytes.{whole, dec}
-use Rattle.forms.specs.Laws.Parts.{rest-is, part-is}
+use Rattle.forms.specs.Laws.Parts.{part-is, length-part}
 use Rattle.forms.specs.Laws.Sure.{sure-yes, sure-some}
 use Rattle.forms.specs.Laws.TypeTwin.{type-twin}
 use Rattle.lengths.specs.declared.extents.Extent.{Extent}
@@ -33,7 +35,7 @@ use Rattle.lengths.specs.Laws.Extents.{of-ok, not-err, ready}
 use Rattle.bounds.specs.Laws.Writing.{back}
 use Rattle.forms.specs.Laws.Bytes.{enc-dec}
 use Rattle.folds.specs.declared.steps.Step.the-variants.{To, Not, TooLong}
-use Rattle.lengths.specs.Kinds.{asMode}
+use Rattle.forms.specs.Modes.{asMode}
 use Rattle.folds.specs.Steps.{Held, Stepped}
 
 -- What was written at the front of a list is there, whatever stands behind it.
@@ -71,9 +73,32 @@ module _ (mode l : ℕ) (a t : List ℕ) (p : Bytes a) (q : Bytes t) (u : whole 
   abbrev stepped : Result Ty
   stepped = bound (asMode mode) (dec l a) (dec l t)
 
+  one : Ordered (dec l a)
+  one = parse-iff l a (dec l a) p .0 (sure-yes (type-twin l a) u) .1 .1
+
+  other : Ordered (dec l t)
+  other = parse-iff l t (dec l t) q .0 (sure-yes (type-twin l t) v) .1 .1
+
   -- The passes go part by part.
   pub direct-is : direct (asMode mode) (dec l a) (dec l t) ≡ stepped
-  direct-is = direct-bound (dec l a) (asMode mode) (dec l t) (parse-iff l a (dec l a) p .0 (sure-yes (type-twin l a) u) .1 .1) (parse-iff l t (dec l t) q .0 (sure-yes (type-twin l t) v) .1 .1)
+  direct-is = direct-bound (dec l a) (asMode mode) (dec l t) one other
+
+  -- Where the other type is under the one at hand, that one is the bound.
+  under : sub (asMode mode) (dec l t) (dec l a) ≡ true → stepped ≡ ok (dec l a)
+  under h = sym direct-is ∙ direct-right (dec l a) (asMode mode) (dec l t) one other (subst T (sym h) tt)
+
+  pub step-stays : (last : List ℕ) (n : ℕ) → a ≡ part 0 n last → Held l n last → (work : ℕ) → n ≤ work / 2 → sub (asMode mode) (dec l t) (dec l a) ≡ true → Stepped l stepped work last (To n)
+  step-stays last n e i work h g =
+      let z : length (enc (dec l (part 0 n last))) ≡ n = ap length (i .exact) ∙ length-part 0 n last (omega (arith, i .fits, i .room)) ∙ omega arith in (
+        under g ∙ ap (λ (x : List ℕ). ok (dec l x)) e,
+        le-leb (length (enc (dec l (part 0 n last)))) (min (work / 2) 4096) (omega (arith, z, i .fits)),
+        i,
+      )
+
+  pub step-stays-long : (last : List ℕ) (n : ℕ) → a ≡ part 0 n last → Held l n last → (work : ℕ) → work / 2 < n → sub (asMode mode) (dec l t) (dec l a) ≡ true → Stepped l stepped work last TooLong
+  step-stays-long last n e i work h g =
+      let z : length (enc (dec l (part 0 n last))) ≡ n = ap length (i .exact) ∙ length-part 0 n last (omega (arith, i .fits, i .room)) ∙ omega arith in
+      (dec l (part 0 n last), (under g ∙ ap (λ (x : List ℕ). ok (dec l x)) e, lt-leb (length (enc (dec l (part 0 n last)))) (min (work / 2) 4096) (omega (arith, z))))
 
   module _ (x : Extent) (told : x ≡ extentOf enc (direct (asMode mode) (dec l a) (dec l t))) (work : ℕ) where
     told-is : x ≡ extentOf enc stepped

@@ -25,7 +25,8 @@ use Rattle.lengths.specs.declared.extents.Extent.{Extent}
 use Rattle.lengths.specs.declared.extents.Extent.the-variants.{Of as ExtentOf}
 use Rattle.lengths.specs.declared.extents.Kept.{Kept}
 use Rattle.lengths.specs.Extents.{cap, table, extentOf}
-use Rattle.lengths.specs.Kinds.{asMode, code, unlike}
+use Rattle.forms.specs.Modes.{asMode}
+use Rattle.lengths.specs.Kinds.{code, unlike}
 use Rattle.lengths.specs.Pairs.{behind, keptOf, attrsAt, Tabled}
 use Rattle.lengths.specs.Laws.Extents.{Cut}
 use Rattle.lengths.specs.Laws.Tables.{atom-code, atom-at}

@@ -17,7 +17,8 @@ use Rattle.lengths.specs.declared.extents.Extent.the-variants.{Of, Not}
 use Rattle.lengths.specs.declared.kinds.Joined.{Joined}
 use Rattle.lengths.specs.declared.kinds.Joined.the-variants.{Kind, Not as JoinedNot}
 use Rattle.lengths.specs.Extents.{extentOf}
-use Rattle.lengths.specs.Kinds.{asMode, code, bothIn, unlike, joinedOf}
+use Rattle.forms.specs.Modes.{asMode}
+use Rattle.lengths.specs.Kinds.{code, bothIn, unlike, joinedOf}
 
 pub asMode-permissive : (m : ℕ) → m ≡ 1 → asMode m ≡ permissive
 unfolding asMode

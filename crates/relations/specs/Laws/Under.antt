@@ -13,13 +13,13 @@ use Rattle.cedar.specs.Subtype.{subAtom, subFlag, sub}
 use Rattle.cedar.specs.TypeForm.{one, kindOf, atomCode}
 use Rattle.cedar.specs.Laws.Tests.{T-ext, not-T→false, eqb-equal}
 use Rattle.cedar.specs.Laws.Equality.{is→eq, is-refl, same→eq}
-use Rattle.relations.specs.Modes.{modeAs}
+use Rattle.forms.specs.Modes.{asMode}
 use Rattle.relations.specs.Under.{kindUnder, recordUnder}
 use Rattle.relations.specs.Laws.Kinds.{code}
 
 -- The mode's number.
-pub mode-test : (n : ℕ) → eqb n 1 ≡ isPermissive (modeAs n)
-unfolding modeAs
+pub mode-test : (n : ℕ) → eqb n 1 ≡ isPermissive (asMode n)
+unfolding asMode
 mode-test n = go (eqb n 1)
   where
     go : (b : Bool) → b ≡ isPermissive (cond b permissive strict)
@@ -31,8 +31,8 @@ mode-known zero = refl
 mode-known (suc zero) = refl
 mode-known (suc (suc n)) = lt-leb (suc (suc n)) 1 (omega arith)
 
-pub mode-is : (n : ℕ) → present (modeOf n) ≡ true → modeOf n ≡ some (modeAs n)
-unfolding modeAs
+pub mode-is : (n : ℕ) → present (modeOf n) ≡ true → modeOf n ≡ some (asMode n)
+unfolding asMode
 mode-is zero h = refl
 mode-is (suc zero) h = refl
 mode-is (suc (suc n)) h = absurd (let z : _≡_ {A = ℕ} 0 1 = cc in omega arith)

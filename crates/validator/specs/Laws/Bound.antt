@@ -20,18 +20,14 @@ use Rattle.cedar.specs.Calls.{modeOf, writeType, boundCall}
 use Rattle.cedar.specs.Laws.Whole.{wholeType-reads}
 use Rattle.cedar.specs.Laws.Direct.{direct-bound}
 use Rattle.forms.specs.TypeBytes.{dec}
-use Rattle.lengths.specs.Kinds.{asMode}
+use Rattle.forms.specs.Modes.{asMode}
+use Rattle.relations.specs.Laws.Under.{mode-is}
 use Rattle.forms.specs.Laws.Bytes.{Bytes-index}
 use Rattle.validator.specs.Laws.Questions.{there}
 
 -- A mode's number, read.
 pub mode-as : (n : ℕ) (r : Bool) → r ≡ present (modeOf n) → not r ≡ false → modeOf n ≡ some (asMode n)
-mode-as n r q h = go n (sym q ∙ not-false r h)
-  where
-    go : (n : ℕ) → present (modeOf n) ≡ true → modeOf n ≡ some (asMode n)
-    go zero e = unfold asMode in refl
-    go (suc zero) e = unfold asMode in refl
-    go (suc (suc n)) e = absurd (let z : _≡_ {A = ℕ} 0 1 = cc in omega arith)
+mode-as n r q h = mode-is n (sym q ∙ not-false r h)
 
 -- A whole type is in order.
 ordered : (b : List ℕ) (a : Ty) → ((i : ℕ) → getD b i 0 < 256) → wholeType standard b ≡ some a → Ordered a

@@ -22,7 +22,7 @@ use Rattle.forms.specs.ListBytes.{listFits, listOf}
 use Rattle.forms.specs.Laws.Parts.{and-r, length-part}
 use Rattle.forms.specs.Laws.Sure.{sure-present, sure-yes}
 use Rattle.forms.specs.Laws.Lists.{whole-list-twin}
-use Rattle.lengths.specs.Kinds.{asMode}
+use Rattle.forms.specs.Modes.{asMode}
 use Rattle.folds.specs.declared.lists.Folded.{Folded}
 use Rattle.folds.specs.declared.lists.Folded.the-variants.{To, Not}
 use Rattle.folds.specs.Lists.{Opened, FoldsTo}

@@ -1,6 +1,6 @@
 use Rattle.attributes.specs.Laws.Lookup.{in-at, in-none, Folding, folding-start, folding-end, folding-lacks, folding-unbounded, folding-too-long, folding-next}
 use Rattle.folds.specs.Steps.{Stepped}
-use Rattle.lengths.specs.Kinds.{asMode}
+use Rattle.forms.specs.Modes.{asMode}
 use Rattle.schemas.specs.SchemaBytes.{decS}
 use Rattle.forms.specs.TypeBytes.{dec, namesOf}
 use Rattle.forms.specs.Parts.{part}

@@ -5,7 +5,7 @@ use borrow.Author.Needs.{needs}
 use Rattle.forms.specs.TypeBytes.{dec}
 use Rattle.forms.specs.Laws.Attributes.{laid}
 use Rattle.forms.specs.Laws.Views.{not-empty, is-set, is-record, is-entity, is-action}
-use Rattle.lengths.specs.Kinds.{asMode}
+use Rattle.forms.specs.Modes.{asMode}
 use Rattle.lengths.specs.Pairs.{attrsAt}
 use Rattle.bounds.specs.Joins.{joinedAttrs}
 use Rattle.bounds.specs.Laws.Laying.{behind-front, behind-at, behind-ready, behind-small, behind-written}

@@ -1,4 +1,4 @@
-use Rattle.lengths.specs.Kinds.{asMode}
+use Rattle.forms.specs.Modes.{asMode}
 use Rattle.bounds.specs.Laws.BoundWrites.{unlike-refused, unlike-room, unlike-written}
 use borrow.Author.Needs.{needs}
 use Rattle.bounds.proofs.bound_writes.write_unlike.Statement.{statement}

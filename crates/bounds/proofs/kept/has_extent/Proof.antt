@@ -1,6 +1,6 @@
 use mathlib.Core.Path.{refl}
 use Rattle.forms.specs.TypeBytes.{dec}
-use Rattle.lengths.specs.Kinds.{asMode}
+use Rattle.forms.specs.Modes.{asMode}
 use Rattle.lengths.specs.Laws.Kinds.{asMode-permissive}
 use Rattle.bounds.specs.Laws.Kept.{extent-yes, extent-no}
 use borrow.Author.Needs.{needs}

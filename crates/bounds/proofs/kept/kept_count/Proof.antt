@@ -1,7 +1,7 @@
 use borrow.Author.Needs.{needs}
 use native.Mathlib.Omega.{arith}
 use Rattle.forms.specs.Laws.Attributes.{laid}
-use Rattle.lengths.specs.Kinds.{asMode}
+use Rattle.forms.specs.Modes.{asMode}
 use Rattle.lengths.specs.Pairs.{attrsAt}
 use Rattle.lengths.specs.Laws.Tables.{split}
 use Rattle.bounds.specs.Joins.{joinedAttrs}

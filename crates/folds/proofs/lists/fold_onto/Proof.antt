@@ -2,7 +2,7 @@ use mathlib.Core.Path.{refl, subst, _∙_}
 use borrow.Author.Needs.{needs}
 use Rattle.folds.specs.Laws.Lists.{Folding, folding-start, folding-end, folding-room, folding-fits, folding-type, folding-not, folding-too-long, folding-next}
 use Rattle.folds.specs.Steps.{Stepped}
-use Rattle.lengths.specs.Kinds.{asMode}
+use Rattle.forms.specs.Modes.{asMode}
 use Rattle.forms.specs.ListBytes.{decTs}
 use Rattle.forms.specs.TypeBytes.{dec}
 use Rattle.forms.specs.Parts.{part}

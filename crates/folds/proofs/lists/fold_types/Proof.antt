@@ -1,5 +1,5 @@
 use Rattle.folds.specs.Laws.Lists.{never-held, list-sound, list-folds}
-use Rattle.lengths.specs.Kinds.{asMode}
+use Rattle.forms.specs.Modes.{asMode}
 use lib.ListN.{length, length-set}
 use mathlib.Core.Path.{_∙_}
 use Rattle.forms.specs.Laws.Lists.{is-list}

@@ -12,7 +12,8 @@ use Rattle.forms.specs.Parts.{rd, part, rest, kind}
 use Rattle.forms.specs.TypeBytes.{dec, decA}
 use Rattle.forms.specs.Laws.Views.{not-empty, is-set, is-record, is-entity, is-action, is-extension}
 use Rattle.forms.specs.Laws.Attributes.{laid, past, found-at, found-not}
-use Rattle.lengths.specs.Kinds.{asMode, unlike}
+use Rattle.forms.specs.Modes.{asMode}
+use Rattle.lengths.specs.Kinds.{unlike}
 use Rattle.lengths.specs.Extents.{extentOf}
 use Rattle.lengths.specs.Pairs.{attrsAt}
 use Rattle.lengths.specs.Laws.Tables.{split}

@@ -1,4 +1,4 @@
-use Rattle.lengths.specs.Kinds.{asMode}
+use Rattle.forms.specs.Modes.{asMode}
 use mathlib.Core.Path.{ap, sym, _∙_}
 use Rattle.forms.specs.TypeBytes.{namesOf}
 use Rattle.forms.specs.Parts.{rest, rd}

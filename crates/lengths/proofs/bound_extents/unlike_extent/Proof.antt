@@ -1,4 +1,4 @@
-use Rattle.lengths.specs.Kinds.{asMode}
+use Rattle.forms.specs.Modes.{asMode}
 use Rattle.lengths.specs.Laws.Kinds.{unlike-one, unlike-not}
 use borrow.Author.Needs.{needs}
 use Rattle.lengths.proofs.bound_extents.unlike_extent.Statement.{statement}

@@ -6,7 +6,7 @@ use Rattle.forms.specs.TypeBytes.{dec, decA}
 use Rattle.forms.specs.Laws.Parts.{length-part}
 use Rattle.forms.specs.Laws.Views.{not-empty, is-set, is-record, is-entity}
 use Rattle.forms.specs.Laws.Attributes.{laid}
-use Rattle.relations.specs.Modes.{modeAs}
+use Rattle.forms.specs.Modes.{asMode}
 use Rattle.relations.specs.Laws.Names.{entity-form}
 use Rattle.forms.specs.Laws.Bytes.{Bytes-index}
 use Rattle.relations.specs.Laws.Walks.{Under, under-start, under-end, under-missing, under-here, under-next, under-upper, under-flag, under-type, under-again}
@@ -68,7 +68,7 @@ abbrev is-subtype-claims : ℕ → is-subtype-lts.Claims
 is-subtype-claims t = (kind-under-reads.Asked, kind-under-reads.Learnt, is-subtype-below t, is-subtype.Post, u16-at-reads.Asked, u16-at-reads.Learnt, record-under-reads.Asked, record-under-reads.Learnt, attributes-subtype-below t, attributes-subtype.Post, entity-under-reads.Asked, entity-under-reads.Learnt, same-bytes-reads.Asked, same-bytes-reads.Learnt)
 
 abbrev attributes-subtype-Inv-loop : attributes-subtype-lts.InvT-loop
-attributes-subtype-Inv-loop mode es bs n fs cs m levels e₀ b₀ left₀ f₀ c₀ more₀ e b left f c more = Under (modeAs mode) levels (decA (dec levels) n es bs) (decA (dec levels) m fs cs) n left e b more f c
+attributes-subtype-Inv-loop mode es bs n fs cs m levels e₀ b₀ left₀ f₀ c₀ more₀ e b left f c more = Under (asMode mode) levels (decA (dec levels) n es bs) (decA (dec levels) m fs cs) n left e b more f c
 
 abbrev attributes-subtype-μ-loop : attributes-subtype-lts.MeasureT-loop
 attributes-subtype-μ-loop mode es bs n fs cs m levels e₀ b₀ left₀ f₀ c₀ more₀ e b left f c more = more
@@ -76,7 +76,7 @@ attributes-subtype-μ-loop mode es bs n fs cs m levels e₀ b₀ left₀ f₀ c�
 attributes-subtype-loop-holds : (t : ℕ) → attributes-subtype-lts.Need-loop-holds (attributes-subtype-claims t) (attributes-subtype-at t) attributes-subtype.Post attributes-subtype-Inv-loop attributes-subtype-μ-loop
 attributes-subtype-loop-holds t c =
     let start = c .before .before .before .before in
-    under-start (modeAs (start .args .mode)) (start .pre .1 .0) (start .pre .1 .1)
+    under-start (asMode (start .args .mode)) (start .pre .1 .0) (start .pre .1 .1)
 
 attributes-subtype-u16-at-requires : (t : ℕ) → attributes-subtype-lts.Need-u16-at-requires (attributes-subtype-claims t) (attributes-subtype-at t) attributes-subtype.Post attributes-subtype-Inv-loop attributes-subtype-μ-loop
 attributes-subtype-u16-at-requires t c κs = omega arith
@@ -381,7 +381,7 @@ is-subtype-kind-under-requires t c κs = search needs
 is-subtype-returns : (t : ℕ) → is-subtype-lts.Need-returns (is-subtype-claims t) (is-subtype-at t) is-subtype.Post
 is-subtype-returns t c =
     let start = c .before .before .before .before .before .before in
-    unlike-kinds (modeAs (start .args .mode)) (start .args .levels) (start .args .t0 .now) (start .args .t1 .now) (start .pre .1 .0) (start .pre .1 .1) (c .before .if1 .taken) (c .kind-under .result) (c .kind-under .ensures)
+    unlike-kinds (asMode (start .args .mode)) (start .args .levels) (start .args .t0 .now) (start .args .t1 .now) (start .pre .1 .0) (start .pre .1 .1) (c .before .if1 .taken) (c .kind-under .result) (c .kind-under .ensures)
 
 is-subtype-sub-is-subtype : (t : ℕ) → is-subtype-lts.Need-sub-is-subtype (is-subtype-claims t) (is-subtype-at t) is-subtype.Post
 is-subtype-sub-is-subtype t c =
@@ -503,7 +503,7 @@ is-subtype-returns-2 t c =
     let after-u16-at = c .before .before .before .before .before .before .before in
     let after-u16-at2 = c .before .before .before .before .before .before in
     let after-record-under = c .before in
-    record-not (modeAs (start .args .mode)) (start .args .levels) (start .args .t0 .now) (start .args .t1 .now) (start .pre .1 .0) (start .pre .1 .1) (else1 .if1 .left) (at-match-keys2 .match .keys2) (after-u16-at .u16-at .result) (after-u16-at2 .u16-at2 .result) (after-u16-at .u16-at .ensures .0) (after-u16-at2 .u16-at2 .ensures .0) (after-record-under .record-under .result) (after-record-under .record-under .ensures) (c .if2 .taken)
+    record-not (asMode (start .args .mode)) (start .args .levels) (start .args .t0 .now) (start .args .t1 .now) (start .pre .1 .0) (start .pre .1 .1) (else1 .if1 .left) (at-match-keys2 .match .keys2) (after-u16-at .u16-at .result) (after-u16-at2 .u16-at2 .result) (after-u16-at .u16-at .ensures .0) (after-u16-at2 .u16-at2 .ensures .0) (after-record-under .record-under .result) (after-record-under .record-under .ensures) (c .if2 .taken)
 
 is-subtype-sub-attributes-subtype : (t : ℕ) → is-subtype-lts.Need-sub-attributes-subtype (is-subtype-claims t) (is-subtype-at t) is-subtype.Post
 is-subtype-sub-attributes-subtype t c =
@@ -575,7 +575,7 @@ is-subtype-returns-3 : (t : ℕ) → is-subtype-lts.Need-returns-3 (is-subtype-c
 is-subtype-returns-3 t c =
     let start = c .before .before .before .before .before .before .before .before .before in
     let else1 = c .before .before .before .before in
-    set-under (modeAs (start .args .mode)) (start .args .levels) (start .args .t0 .now) (start .args .t1 .now) (start .pre .1 .0) (start .pre .1 .1) (else1 .if1 .left) (c .before .before .before .match .keys1) (c .is-subtype .result) (c .is-subtype .ensures)
+    set-under (asMode (start .args .mode)) (start .args .levels) (start .args .t0 .now) (start .args .t1 .now) (start .pre .1 .0) (start .pre .1 .1) (else1 .if1 .left) (c .before .before .before .match .keys1) (c .is-subtype .result) (c .is-subtype .ensures)
 
 is-subtype-returns-4 : (t : ℕ) → is-subtype-lts.Need-returns-4 (is-subtype-claims t) (is-subtype-at t) is-subtype.Post
 is-subtype-returns-4 t c =
@@ -585,32 +585,32 @@ is-subtype-returns-4 t c =
     let after-u16-at = c .before .before .before .before .before .before .before .before .before .before in
     let after-u16-at2 = c .before .before .before .before .before .before .before .before .before in
     let after-record-under = c .before .before .before .before in
-    record-under (modeAs (start .args .mode)) (start .args .levels) (start .args .t0 .now) (start .args .t1 .now) (start .pre .1 .0) (start .pre .1 .1) (else1 .if1 .left) (at-match-keys2 .match .keys2) (after-u16-at .u16-at .result) (after-u16-at2 .u16-at2 .result) (after-u16-at .u16-at .ensures .0) (after-u16-at2 .u16-at2 .ensures .0) (after-record-under .record-under .result) (after-record-under .record-under .ensures) (c .before .before .before .if2 .left) (c .attributes-subtype .result) (c .attributes-subtype .ensures)
+    record-under (asMode (start .args .mode)) (start .args .levels) (start .args .t0 .now) (start .args .t1 .now) (start .pre .1 .0) (start .pre .1 .1) (else1 .if1 .left) (at-match-keys2 .match .keys2) (after-u16-at .u16-at .result) (after-u16-at2 .u16-at2 .result) (after-u16-at .u16-at .ensures .0) (after-u16-at2 .u16-at2 .ensures .0) (after-record-under .record-under .result) (after-record-under .record-under .ensures) (c .before .before .before .if2 .left) (c .attributes-subtype .result) (c .attributes-subtype .ensures)
 
 is-subtype-returns-5 : (t : ℕ) → is-subtype-lts.Need-returns-5 (is-subtype-claims t) (is-subtype-at t) is-subtype.Post
 is-subtype-returns-5 t c =
     let start = c .before .before .before .before .before .before .before in
-    c .entity-under .ensures ∙ entity-under (modeAs (start .args .mode)) (start .args .levels) (start .args .t0 .now) (start .args .t1 .now) (start .pre .1 .0) (start .pre .1 .1) (c .before .before .if1 .left) (c .before .match .keys3)
+    c .entity-under .ensures ∙ entity-under (asMode (start .args .mode)) (start .args .levels) (start .args .t0 .now) (start .args .t1 .now) (start .pre .1 .0) (start .pre .1 .1) (c .before .before .if1 .left) (c .before .match .keys3)
 
 is-subtype-returns-6 : (t : ℕ) → is-subtype-lts.Need-returns-6 (is-subtype-claims t) (is-subtype-at t) is-subtype.Post
 is-subtype-returns-6 t c =
     let start = c .before .before .before .before .before .before .before in
     let after-shared-slice-known = c .before .before .before .before .before .before in
     let after-shared-slice-known2 = c .before .before .before .before .before in
-    c .same-bytes .ensures ∙ action-under (modeAs (start .args .mode)) (start .args .levels) (start .args .t0 .now) (start .args .t1 .now) (start .pre .1 .0) (start .pre .1 .1) (c .before .before .if1 .left) (Bytes-index (start .args .t0 .now) (λ i. after-shared-slice-known .shared-slice-known .given i .fits)) (Bytes-index (start .args .t1 .now) (λ i. after-shared-slice-known2 .shared-slice-known2 .given i .fits)) (c .before .match .keys4)
+    c .same-bytes .ensures ∙ action-under (asMode (start .args .mode)) (start .args .levels) (start .args .t0 .now) (start .args .t1 .now) (start .pre .1 .0) (start .pre .1 .1) (c .before .before .if1 .left) (Bytes-index (start .args .t0 .now) (λ i. after-shared-slice-known .shared-slice-known .given i .fits)) (Bytes-index (start .args .t1 .now) (λ i. after-shared-slice-known2 .shared-slice-known2 .given i .fits)) (c .before .match .keys4)
 
 is-subtype-returns-7 : (t : ℕ) → is-subtype-lts.Need-returns-7 (is-subtype-claims t) (is-subtype-at t) is-subtype.Post
 is-subtype-returns-7 t c =
     let start = c .before .before .before .before .before .before .before in
     let after-shared-slice-known = c .before .before .before .before .before .before in
     let after-shared-slice-known2 = c .before .before .before .before .before in
-    c .same-bytes2 .ensures ∙ extension-under (modeAs (start .args .mode)) (start .args .levels) (start .args .t0 .now) (start .args .t1 .now) (start .pre .1 .0) (start .pre .1 .1) (c .before .before .if1 .left) (Bytes-index (start .args .t0 .now) (λ i. after-shared-slice-known .shared-slice-known .given i .fits)) (Bytes-index (start .args .t1 .now) (λ i. after-shared-slice-known2 .shared-slice-known2 .given i .fits)) (c .before .match .keys5)
+    c .same-bytes2 .ensures ∙ extension-under (asMode (start .args .mode)) (start .args .levels) (start .args .t0 .now) (start .args .t1 .now) (start .pre .1 .0) (start .pre .1 .1) (c .before .before .if1 .left) (Bytes-index (start .args .t0 .now) (λ i. after-shared-slice-known .shared-slice-known .given i .fits)) (Bytes-index (start .args .t1 .now) (λ i. after-shared-slice-known2 .shared-slice-known2 .given i .fits)) (c .before .match .keys5)
 
 is-subtype-returns-8 : (t : ℕ) → is-subtype-lts.Need-returns-8 (is-subtype-claims t) (is-subtype-at t) is-subtype.Post
 is-subtype-returns-8 t c =
     let start = c .before .before .before .before .before .before in
     let r = c .match .rest in
-    atoms-under (modeAs (start .args .mode)) (start .args .levels) (start .args .t0 .now) (start .args .t1 .now) (start .pre .1 .0) (start .pre .1 .1) (c .before .if1 .left) (r .0 .0 .0 .0 .1) (r .0 .0 .0 .1) (r .0 .0 .1) (r .0 .1) (r .1)
+    atoms-under (asMode (start .args .mode)) (start .args .levels) (start .args .t0 .now) (start .args .t1 .now) (start .pre .1 .0) (start .pre .1 .1) (c .before .if1 .left) (r .0 .0 .0 .0 .1) (r .0 .0 .0 .1) (r .0 .0 .1) (r .0 .1) (r .1)
 
 pub +attributes-subtype+is-subtype-spec : {M : Type 1} → statement M
 +attributes-subtype+is-subtype-spec =

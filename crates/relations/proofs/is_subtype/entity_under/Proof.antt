@@ -1,6 +1,6 @@
 -- `relations::is_subtype::entity_under` meets its contract. Assumes nothing.
 use mathlib.Core.Path.{sym, _∙_}
-use Rattle.relations.specs.Modes.{modeAs}
+use Rattle.forms.specs.Modes.{asMode}
 use Rattle.relations.specs.Laws.Names.{entity-names}
 use Rattle.relations.specs.Laws.SameForm.{names-permissive, names-strict}
 use Rattle.forms.specs.Laws.Bytes.{Bytes-index}
@@ -46,7 +46,7 @@ returns c =
     let after-is-permissive = c .before .before .before .before in
     let after-u16-at = c .before .before in
     let after-u16-at2 = c .before in
-    names-permissive (modeAs (start .args .mode)) (start .args .t0 .now) (start .args .t1 .now) (c .names-subset .result) (after-u16-at .u16-at .result) (after-u16-at2 .u16-at2 .result) (after-u16-at .u16-at .ensures .0) (after-u16-at2 .u16-at2 .ensures .0) (sym (after-is-permissive .is-permissive .ensures) ∙ c .before .before .before .if1 .taken) (c .names-subset .ensures)
+    names-permissive (asMode (start .args .mode)) (start .args .t0 .now) (start .args .t1 .now) (c .names-subset .result) (after-u16-at .u16-at .result) (after-u16-at2 .u16-at2 .result) (after-u16-at .u16-at .ensures .0) (after-u16-at2 .u16-at2 .ensures .0) (sym (after-is-permissive .is-permissive .ensures) ∙ c .before .before .before .if1 .taken) (c .names-subset .ensures)
 
 same-bytes-requires : tie.Need-same-bytes-requires
 same-bytes-requires c κs = search needs
@@ -56,7 +56,7 @@ returns-2 c =
     let start = c .before .before .before .before .before .before .before in
     let after-shared-slice-known = c .before .before .before .before .before .before in
     let after-shared-slice-known2 = c .before .before .before .before .before in
-    names-strict (modeAs (start .args .mode)) (start .args .t0 .now) (start .args .t1 .now) (c .same-bytes .result) (Bytes-index (start .args .t0 .now) (λ i. after-shared-slice-known .shared-slice-known .given i .fits)) (Bytes-index (start .args .t1 .now) (λ i. after-shared-slice-known2 .shared-slice-known2 .given i .fits)) (start .pre .0) (start .pre .1) (sym (c .before .before .is-permissive .ensures) ∙ c .before .if1 .left) (c .same-bytes .ensures)
+    names-strict (asMode (start .args .mode)) (start .args .t0 .now) (start .args .t1 .now) (c .same-bytes .result) (Bytes-index (start .args .t0 .now) (λ i. after-shared-slice-known .shared-slice-known .given i .fits)) (Bytes-index (start .args .t1 .now) (λ i. after-shared-slice-known2 .shared-slice-known2 .given i .fits)) (start .pre .0) (start .pre .1) (sym (c .before .before .is-permissive .ensures) ∙ c .before .if1 .left) (c .same-bytes .ensures)
 
 pub entity-under-spec : {M : Type 1} → statement M
 entity-under-spec =

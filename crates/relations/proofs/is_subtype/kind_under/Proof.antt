@@ -1,7 +1,7 @@
 -- `relations::is_subtype::kind_under` meets its contract. Assumes nothing.
 use mathlib.Core.Path.{refl, sym, _∙_}
 use borrow.Author.Tests.{eq-eqb, ne-eqb}
-use Rattle.relations.specs.Modes.{modeAs}
+use Rattle.forms.specs.Modes.{asMode}
 use Rattle.relations.specs.Laws.Under.{under-never, under-bool, under-set, under-entity, under-other}
 use borrow.Author.Needs.{needs}
 use Rattle.relations.proofs.is_subtype.kind_under.Statement.{statement}
@@ -10,12 +10,12 @@ use Rattle.relations.proofs.is_subtype.kind_under.Tie as tie
 returns : tie.Need-returns
 returns c =
     let start = c .before in
-    under-never (modeAs (start .args .mode)) (start .args .j) (start .args .k) (c .if1 .taken)
+    under-never (asMode (start .args .mode)) (start .args .j) (start .args .k) (c .if1 .taken)
 
 returns-2 : tie.Need-returns-2
 returns-2 c =
     let start = c .before .before .before in
-    sym (under-bool (modeAs (start .args .mode)) (start .args .j) (start .args .k) (c .before .before .if1 .left) (c .before .match .keys1) ∙ rw (eq-eqb (start .args .j) 1 (c .if2 .taken)) refl)
+    sym (under-bool (asMode (start .args .mode)) (start .args .j) (start .args .k) (c .before .before .if1 .left) (c .before .match .keys1) ∙ rw (eq-eqb (start .args .j) 1 (c .if2 .taken)) refl)
 
 is-permissive-requires : tie.Need-is-permissive-requires
 is-permissive-requires c κs = search needs
@@ -23,7 +23,7 @@ is-permissive-requires c κs = search needs
 returns-3 : tie.Need-returns-3
 returns-3 c =
     let start = c .before .before .before .before in
-    c .is-permissive .ensures ∙ sym (under-entity (modeAs (start .args .mode)) (start .args .j) (start .args .k) (c .before .before .before .if1 .left) (c .before .before .match .keys3) ∙ rw (eq-eqb (start .args .j) 10 (c .before .if3 .taken)) refl)
+    c .is-permissive .ensures ∙ sym (under-entity (asMode (start .args .mode)) (start .args .j) (start .args .k) (c .before .before .before .if1 .left) (c .before .before .match .keys3) ∙ rw (eq-eqb (start .args .j) 10 (c .before .if3 .taken)) refl)
 
 is-permissive-requires-2 : tie.Need-is-permissive-requires-2
 is-permissive-requires-2 c κs = search needs
@@ -32,28 +32,28 @@ returns-4 : tie.Need-returns-4
 returns-4 c =
     let start = c .before .before .before .before .before in
     let else1 = c .before .before .before .before in
-    c .is-permissive2 .ensures ∙ sym (under-entity (modeAs (start .args .mode)) (start .args .j) (start .args .k) (else1 .if1 .left) (c .before .before .before .match .keys3) ∙ rw (ne-eqb (start .args .j) 10 (c .before .before .if3 .left), eq-eqb (start .args .j) 11 (c .before .if4 .taken)) refl)
+    c .is-permissive2 .ensures ∙ sym (under-entity (asMode (start .args .mode)) (start .args .j) (start .args .k) (else1 .if1 .left) (c .before .before .before .match .keys3) ∙ rw (ne-eqb (start .args .j) 10 (c .before .before .if3 .left), eq-eqb (start .args .j) 11 (c .before .if4 .taken)) refl)
 
 returns-5 : tie.Need-returns-5
 returns-5 c =
     let start = c .before .before .before in
-    sym (under-bool (modeAs (start .args .mode)) (start .args .j) (start .args .k) (c .before .before .if1 .left) (c .before .match .keys1) ∙ rw (ne-eqb (start .args .j) 1 (c .if2 .left)) refl)
+    sym (under-bool (asMode (start .args .mode)) (start .args .j) (start .args .k) (c .before .before .if1 .left) (c .before .match .keys1) ∙ rw (ne-eqb (start .args .j) 1 (c .if2 .left)) refl)
 
 returns-6 : tie.Need-returns-6
 returns-6 c =
     let start = c .before .before in
-    sym (under-set (modeAs (start .args .mode)) (start .args .j) (start .args .k) (c .before .if1 .left) (c .match .keys2))
+    sym (under-set (asMode (start .args .mode)) (start .args .j) (start .args .k) (c .before .if1 .left) (c .match .keys2))
 
 returns-7 : tie.Need-returns-7
 returns-7 c =
     let start = c .before .before .before .before in
-    sym (under-entity (modeAs (start .args .mode)) (start .args .j) (start .args .k) (c .before .before .before .if1 .left) (c .before .before .match .keys3) ∙ rw (ne-eqb (start .args .j) 10 (c .before .if3 .left), ne-eqb (start .args .j) 11 (c .if4 .left)) refl)
+    sym (under-entity (asMode (start .args .mode)) (start .args .j) (start .args .k) (c .before .before .before .if1 .left) (c .before .before .match .keys3) ∙ rw (ne-eqb (start .args .j) 10 (c .before .if3 .left), ne-eqb (start .args .j) 11 (c .if4 .left)) refl)
 
 returns-8 : tie.Need-returns-8
 returns-8 c =
     let start = c .before .before in
     let r = c .match .rest in
-    under-other (modeAs (start .args .mode)) (start .args .j) (start .args .k) (c .before .if1 .left) (r .0 .0 .1) (r .0 .1) (r .1)
+    under-other (asMode (start .args .mode)) (start .args .j) (start .args .k) (c .before .if1 .left) (r .0 .0 .1) (r .0 .1) (r .1)
 
 pub kind-under-spec : {M : Type 1} → statement M
 kind-under-spec =

@@ -1,6 +1,6 @@
 -- `relations::is_subtype::required_under` meets its contract. Assumes nothing.
 use mathlib.Core.Path.{sym, _∙_}
-use Rattle.relations.specs.Modes.{modeAs}
+use Rattle.forms.specs.Modes.{asMode}
 use Rattle.relations.specs.Laws.Under.{flag-permissive, flag-strict}
 use borrow.Author.Needs.{needs}
 use Rattle.relations.proofs.is_subtype.required_under.Statement.{statement}
@@ -12,12 +12,12 @@ is-permissive-requires c κs = search needs
 returns : tie.Need-returns
 returns c =
     let start = c .before .before in
-    flag-permissive (modeAs (start .args .mode)) (start .args .lower) (start .args .upper) (start .pre .0) (start .pre .1) (sym (c .before .is-permissive .ensures) ∙ c .if1 .taken)
+    flag-permissive (asMode (start .args .mode)) (start .args .lower) (start .args .upper) (start .pre .0) (start .pre .1) (sym (c .before .is-permissive .ensures) ∙ c .if1 .taken)
 
 returns-2 : tie.Need-returns-2
 returns-2 c =
     let start = c .before .before in
-    flag-strict (modeAs (start .args .mode)) (start .args .lower) (start .args .upper) (start .pre .0) (start .pre .1) (sym (c .before .is-permissive .ensures) ∙ c .if1 .left)
+    flag-strict (asMode (start .args .mode)) (start .args .lower) (start .args .upper) (start .pre .0) (start .pre .1) (sym (c .before .is-permissive .ensures) ∙ c .if1 .left)
 
 pub required-under-spec : {M : Type 1} → statement M
 required-under-spec = tie.close (tie.spec is-permissive-requires returns returns-2)

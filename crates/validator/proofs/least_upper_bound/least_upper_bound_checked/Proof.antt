@@ -4,7 +4,7 @@ use lib.ListN.{length}
 use Rattle.cedar.specs.Direct.{direct}
 use Rattle.cedar.specs.Calls.{modeOf}
 use Rattle.forms.specs.TypeBytes.{dec}
-use Rattle.lengths.specs.Kinds.{asMode}
+use Rattle.forms.specs.Modes.{asMode}
 use Rattle.validator.specs.Laws.Questions.{missing, type-missing, type-there, type-whole}
 use Rattle.validator.specs.Laws.Schemas.{checked-missing, checked-there}
 use Rattle.validator.specs.Laws.Writing.{refuses, writes-not, writes-over, writes-ready, writes}

@@ -2,7 +2,7 @@ use Rattle.validator.specs.Laws.Fold.{list-there, list-opened, folds-not
 use Rattle.validator.specs.Laws.Bound.{mode-as}
 use Rattle.validator.specs.Laws.Schemas.{checked-missing, checked-there}
 use Rattle.validator.specs.Laws.Questions.{missing}
-use Rattle.lengths.specs.Kinds.{asMode}
+use Rattle.forms.specs.Modes.{asMode}
 use Rattle.forms.specs.ListBytes.{listOf}
 use Rattle.cedar.specs.Calls.{modeOf, stepFits}
 use Rattle.cedar.specs.Fold.{foldTypes}

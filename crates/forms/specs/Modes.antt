@@ -5,5 +5,5 @@ use lib.Dec.{eqb}
 use Rattle.cedar.specs.Types.{Mode, strict, permissive}
 
 -- 1 is permissive, all else strict.
-unfoldable pub modeAs : ℕ → Mode
-modeAs n = cond (eqb n 1) permissive strict
+unfoldable pub asMode : ℕ → Mode
+asMode n = cond (eqb n 1) permissive strict
