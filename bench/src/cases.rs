@@ -2,7 +2,7 @@
 //! the library from bytes.
 
 use crate::inputs::{self, Size, SIZES, SOUGHT};
-use crate::library::{self, Checked};
+use crate::library::{self, Checked, OWN};
 use crate::timing::{consuming, repeated, Timed};
 use oracle::cedar_policy_core::ast::RestrictedExpr;
 use oracle::forms::{plain, read_list, read_schema, read_type, read_value, Schema};
@@ -37,6 +37,12 @@ impl Case {
         }
     }
 
+    /// The same as the oracle knows it: its lookup has one entry.
+    pub fn asked(&self) -> Call<'_> {
+        let op = if self.op == OWN { LOOKUP } else { self.op };
+        Call { op, ..self.call() }
+    }
+
     fn decoded(&self) -> Decoded {
         Decoded {
             schema: read_schema(&self.schema).expect("a whole schema"),
@@ -62,7 +68,7 @@ impl Case {
                 let (a, b) = (first(), second());
                 repeated(move || published::are_types_disjoint(&a, &b))
             }
-            LOOKUP => {
+            LOOKUP | OWN => {
                 let a = first();
                 repeated(move || published::lookup_attribute_type(&schema, &a, &attr))
             }
@@ -205,6 +211,14 @@ fn of_size(size: Size) -> Vec<Case> {
             "lookup_attribute_type",
             "record",
             LOOKUP,
+            size.width - 1,
+            side(2),
+            none(),
+        ),
+        case(
+            "own_attribute_type",
+            "record",
+            OWN,
             size.width - 1,
             side(2),
             none(),

@@ -2,6 +2,9 @@
 
 use oracle::questions::{operation::*, Call, Outcome};
 
+/// The second entry of lookup, beside the operations of a job.
+pub const OWN: u8 = 11;
+
 /// A result buffer that holds any answer, a workspace that serves any step.
 pub const ROOM: usize = 4096;
 pub const WORK: usize = 8192;
@@ -23,6 +26,7 @@ extern "C" {
     fn tirncheav_least_upper_bound(mode: u8, s: P, n: usize, t0: P, n0: usize, t1: P, n1: usize, out: M, room: usize) -> u64;
     fn tirncheav_reduce_to_least_upper_bound(mode: u8, s: P, n: usize, list: P, n0: usize, out: M, room: usize, work: M, space: usize) -> u64;
     fn tirncheav_lookup_attribute_type(s: P, n: usize, attr: u16, t: P, n0: usize, out: M, room: usize, work: M, space: usize) -> u64;
+    fn tirncheav_own_attribute_type(s: P, n: usize, attr: u16, t: P, n0: usize) -> u64;
     fn tirncheav_may_have_attr(s: P, n: usize, attr: u16, t: P, n0: usize) -> u64;
     fn tirncheav_all_attributes(s: P, n: usize, t: P, n0: usize, out: M, room: usize, work: M, space: usize) -> u64;
     fn tirncheav_typecheck_restricted_expr(s: P, n: usize, t: P, n0: usize, v: P, n1: usize) -> u64;
@@ -32,6 +36,7 @@ extern "C" {
     fn tirncheav_least_upper_bound_checked(s: P, n: usize, check: u64, mode: u8, t0: P, n0: usize, t1: P, n1: usize, out: M, room: usize) -> u64;
     fn tirncheav_reduce_to_least_upper_bound_checked(s: P, n: usize, check: u64, mode: u8, list: P, n0: usize, out: M, room: usize, work: M, space: usize) -> u64;
     fn tirncheav_lookup_attribute_type_checked(s: P, n: usize, check: u64, attr: u16, t: P, n0: usize, out: M, room: usize, work: M, space: usize) -> u64;
+    fn tirncheav_own_attribute_type_checked(s: P, n: usize, check: u64, attr: u16, t: P, n0: usize) -> u64;
     fn tirncheav_may_have_attr_checked(s: P, n: usize, check: u64, attr: u16, t: P, n0: usize) -> u64;
     fn tirncheav_all_attributes_checked(s: P, n: usize, check: u64, t: P, n0: usize, out: M, room: usize, work: M, space: usize) -> u64;
     fn tirncheav_typecheck_restricted_expr_checked(s: P, n: usize, check: u64, t: P, n0: usize, v: P, n1: usize) -> u64;
@@ -63,6 +68,7 @@ pub fn entry(call: &Call<'_>, out: &mut [u8], work: &mut [u8]) -> u64 {
             SUBTYPE => tirncheav_is_subtype(mode, s, n, a, an, b, bn),
             BOUND => tirncheav_least_upper_bound(mode, s, n, a, an, b, bn, o, on),
             DISJOINT => tirncheav_are_types_disjoint(a, an, b, bn),
+            OWN => tirncheav_own_attribute_type(s, n, attr, a, an),
             LOOKUP => tirncheav_lookup_attribute_type(s, n, attr, a, an, o, on, w, wn),
             MAY_HAVE => tirncheav_may_have_attr(s, n, attr, a, an),
             NAMES => tirncheav_all_attributes(s, n, a, an, o, on, w, wn),
@@ -89,6 +95,7 @@ pub fn through(check: Checked, call: &Call<'_>, out: &mut [u8], work: &mut [u8])
             SUBTYPE => tirncheav_is_subtype_checked(s, n, c, mode, a, an, b, bn),
             BOUND => tirncheav_least_upper_bound_checked(s, n, c, mode, a, an, b, bn, o, on),
             DISJOINT => tirncheav_are_types_disjoint(a, an, b, bn),
+            OWN => tirncheav_own_attribute_type_checked(s, n, c, attr, a, an),
             LOOKUP => tirncheav_lookup_attribute_type_checked(s, n, c, attr, a, an, o, on, w, wn),
             MAY_HAVE => tirncheav_may_have_attr_checked(s, n, c, attr, a, an),
             NAMES => tirncheav_all_attributes_checked(s, n, c, a, an, o, on, w, wn),
@@ -103,8 +110,8 @@ pub fn through(check: Checked, call: &Call<'_>, out: &mut [u8], work: &mut [u8])
     }
 }
 
-/// An answer's number as the oracle says it.
-pub fn outcome(number: u64, out: &[u8]) -> Outcome {
+/// An answer's number as the oracle says it; a part is one of the type t.
+pub fn outcome(number: u64, t: &[u8], out: &[u8]) -> Outcome {
     let value = (number >> 8) as usize;
     match number & 0xff {
         0 => Outcome::Refused(value as u8),
@@ -112,6 +119,8 @@ pub fn outcome(number: u64, out: &[u8]) -> Outcome {
         2 => Outcome::No,
         3 => Outcome::Nothing,
         4 => Outcome::Wrote(out[..value].to_vec()),
-        kind => Outcome::Attribute(kind == 6, out[..value].to_vec()),
+        5 => Outcome::Attribute(false, out[..value].to_vec()),
+        6 => Outcome::Attribute(true, out[..value].to_vec()),
+        kind => Outcome::Attribute(kind == 8, t[value & 0xffff..value >> 16].to_vec()),
     }
 }

@@ -11,14 +11,14 @@ use cases::Case;
 
 /// The answers must be the same before anything is timed.
 fn same_answer(case: &Case) {
-    let told = oracle::questions::answer(&case.call());
+    let call = case.call();
+    let told = oracle::questions::answer(&case.asked());
     let (mut out, mut work) = library::buffers();
-    let entry = library::outcome(library::entry(&case.call(), &mut out, &mut work), &out);
+    let number = library::entry(&call, &mut out, &mut work);
+    let entry = library::outcome(number, call.t0, &out);
     let check = library::Checked::of(&case.schema);
-    let through = library::outcome(
-        library::through(check, &case.call(), &mut out, &mut work),
-        &out,
-    );
+    let number = library::through(check, &call, &mut out, &mut work);
+    let through = library::outcome(number, call.t0, &out);
     assert_eq!(told, entry, "{} {}", case.operation, case.input);
     assert_eq!(told, through, "{} {}", case.operation, case.input);
 }

@@ -9,6 +9,7 @@ enum Answer {
     Nothing,
     Wrote(usize),
     Attribute(bool, usize),
+    Part(bool, usize, usize),
 }
 
 /// The kind in the low byte, a refusal's number or a length above it.
@@ -22,6 +23,7 @@ fn answer(number: u64) -> Result<Answer, Refusal> {
         4 => Ok(Answer::Wrote(value)),
         5 => Ok(Answer::Attribute(false, value)),
         6 => Ok(Answer::Attribute(true, value)),
+        kind @ (7 | 8) => Ok(Answer::Part(kind == 8, value & 0xffff, value >> 16)),
         kind => unreachable!("no answer is of kind {kind}"),
     }
 }
@@ -31,7 +33,7 @@ fn answer(number: u64) -> Result<Answer, Refusal> {
 pub struct Attribute<'a> {
     /// Whether each value of the type has it.
     pub required: bool,
-    /// The form of its type, in the result buffer.
+    /// The form of its type, in the result buffer or in the form that was asked.
     pub form: &'a [u8],
 }
 
@@ -66,5 +68,16 @@ pub(crate) fn attribute(number: u64, out: &[u8]) -> Result<Option<Attribute<'_>>
         })),
         Answer::Nothing => Ok(None),
         _ => unreachable!("the call finds an attribute or nothing"),
+    }
+}
+
+pub(crate) fn part(number: u64, t: &[u8]) -> Result<Option<Attribute<'_>>, Refusal> {
+    match answer(number)? {
+        Answer::Part(required, start, end) => Ok(Some(Attribute {
+            required,
+            form: &t[start..end],
+        })),
+        Answer::Nothing => Ok(None),
+        _ => unreachable!("the call finds a part or nothing"),
     }
 }

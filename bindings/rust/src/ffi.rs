@@ -24,6 +24,9 @@ extern "C" {
         schema: P, n: usize, check: u64, attr: u16, t: P, n0: usize, out: M, room: usize,
         work: M, space: usize,
     ) -> u64;
+    pub fn tirncheav_own_attribute_type_checked(
+        schema: P, n: usize, check: u64, attr: u16, t: P, n0: usize,
+    ) -> u64;
     pub fn tirncheav_may_have_attr_checked(
         schema: P, n: usize, check: u64, attr: u16, t: P, n0: usize,
     ) -> u64;

@@ -1,6 +1,6 @@
 //! A schema that is checked once and kept with its block.
 
-use crate::answers::{attribute, written, written_or_none, yes_or_no, Attribute};
+use crate::answers::{attribute, part, written, written_or_none, yes_or_no, Attribute};
 use crate::ffi;
 use crate::{Mode, Refusal};
 
@@ -141,6 +141,35 @@ impl<'a> Schema<'a> {
             )
         };
         attribute(number, out)
+    }
+
+    /// The attribute of a record or an action, its type as the part of the
+    /// form that was passed: nothing is copied.
+    ///
+    /// ```
+    /// use tirncheav::Schema;
+    /// let schema = Schema::check(&[0; 6]).unwrap();
+    /// // {1: Long}, required.
+    /// let t = [8, 0, 1, 0, 1, 0, 1, 1, 0, 4];
+    /// let found = schema.own_attribute_type(1, &t).unwrap().unwrap();
+    /// assert_eq!((found.required, found.form), (true, &t[9..]));
+    /// ```
+    pub fn own_attribute_type<'t>(
+        &self,
+        attr: u16,
+        t: &'t [u8],
+    ) -> Result<Option<Attribute<'t>>, Refusal> {
+        let number = unsafe {
+            ffi::tirncheav_own_attribute_type_checked(
+                self.block.as_ptr(),
+                self.block.len(),
+                self.check,
+                attr,
+                t.as_ptr(),
+                t.len(),
+            )
+        };
+        part(number, t)
     }
 
     /// Whether a value of a type may have an attribute.
