@@ -114,8 +114,15 @@ impl Candidate for Library {
     }
 }
 
-impl Candidate for CheckedLibrary {
-    fn call(&mut self, call: &Call<'_>, out: &mut [u8], work: &mut [u8]) -> Reply {
+impl CheckedLibrary {
+    /// The number of a schema.
+    pub fn check(&self, schema: &[u8]) -> u64 {
+        // The pointer stands with the length of its slice.
+        unsafe { (self.1.check_schema)(schema.as_ptr(), schema.len()) }
+    }
+
+    /// One entry, with the number of the call's schema.
+    pub fn call_with(&self, c: u64, call: &Call<'_>, out: &mut [u8], work: &mut [u8]) -> Reply {
         if matches!(call.op, DISJOINT | CONSISTENT | CONVERT) {
             return Library(self.0).call(call, out, work);
         }
@@ -128,7 +135,6 @@ impl Candidate for CheckedLibrary {
         let (mode, attr) = (call.mode, call.attr);
         // As above, and the number is that of the same schema.
         reply(unsafe {
-            let c = (e.check_schema)(s, sn);
             match call.op {
                 SUBTYPE => (e.is_subtype)(s, sn, c, mode, a, an, b, bn),
                 BOUND => (e.least_upper_bound)(s, sn, c, mode, a, an, b, bn, o, on),
@@ -142,12 +148,21 @@ impl Candidate for CheckedLibrary {
         })
     }
 
-    fn part(&mut self, schema: &[u8], form: &[u8], attr: u16) -> Option<Part> {
+    /// The second entry of lookup, with the number of the schema.
+    pub fn part_with(&self, c: u64, schema: &[u8], form: &[u8], attr: u16) -> Part {
         let (s, sn) = (schema.as_ptr(), schema.len());
-        let (check, entry) = (self.1.check_schema, self.1.own_attribute_type);
-        Some(part(unsafe {
-            entry(s, sn, check(s, sn), attr, form.as_ptr(), form.len())
-        }))
+        let entry = self.1.own_attribute_type;
+        part(unsafe { entry(s, sn, c, attr, form.as_ptr(), form.len()) })
+    }
+}
+
+impl Candidate for CheckedLibrary {
+    fn call(&mut self, call: &Call<'_>, out: &mut [u8], work: &mut [u8]) -> Reply {
+        self.call_with(self.check(call.schema), call, out, work)
+    }
+
+    fn part(&mut self, schema: &[u8], form: &[u8], attr: u16) -> Option<Part> {
+        Some(self.part_with(self.check(schema), schema, form, attr))
     }
 }
 
