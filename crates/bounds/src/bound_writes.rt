@@ -103,7 +103,7 @@ pub fn write_bound(mode: u8, a: &[u8], b: &[u8], levels: usize, out: &mut [u8]) 
         Kind::RECORD => write_record(mode, a, b, levels, out),
         Kind::ENTITY => {
             if mode == Mode::PERMISSIVE {
-                return write_entities(a, b, out);
+                return write_entities(&a[0..], &b[0..], out);
             }
             write_form(a, out)
         }
@@ -111,7 +111,7 @@ pub fn write_bound(mode: u8, a: &[u8], b: &[u8], levels: usize, out: &mut [u8]) 
             if u16_at(a, Offset::ACTION_NAME) != u16_at(b, Offset::ACTION_NAME) {
                 return write_unlike(mode, j, k, out);
             }
-            write_action(a, b, levels, out)
+            write_action(&a[0..], &b[0..], levels, out)
         }
         _ => write_form(a, out),
     }
@@ -124,18 +124,19 @@ fn write_record(mode: u8, a: &[u8], b: &[u8], levels: usize, out: &mut [u8]) -> 
     requires { ⌜ Ready enc (direct (asMode mode) (dec levels (now a)) (dec levels (now b))) (now out) ⌝ }
     ensures { λ r. ⌜ Written (formOf enc (direct (asMode mode) (dec levels (now (a .entry))) (dec levels (now (b .entry))))) (now (out .entry)) (now (out .exit)) r ⌝ }
 {
-    let at = Offset::RECORD_COUNT;
-    let n = kept_count(mode, a, b, at, levels - 1);
+    let x = &a[Offset::RECORD_COUNT..];
+    let y = &b[Offset::RECORD_COUNT..];
+    let n = kept_count(mode, x, y, levels - 1);
     let is_open = open_byte(
         a[Offset::OPEN],
         b[Offset::OPEN],
         n,
-        u16_at(a, at),
-        u16_at(b, at),
+        u16_at(x, 0),
+        u16_at(y, 0),
     );
     put_record(out, is_open, n);
     let behind = Offset::RECORD_ENTRIES;
-    write_attributes(mode, a, b, at, n, levels - 1, &mut out[behind..]) + behind
+    write_attributes(mode, x, y, n, levels - 1, &mut out[behind..]) + behind
 }
 
 // Writes the bound of two actions of one name, and says how long it is.
@@ -146,35 +147,28 @@ fn write_action(a: &[u8], b: &[u8], levels: usize, out: &mut [u8]) -> usize
     requires { ⌜ Ready enc (direct (asMode 0) (dec levels (now a)) (dec levels (now b))) (now out) ⌝ }
     ensures { λ r. ⌜ Written (formOf enc (direct (asMode 0) (dec levels (now (a .entry))) (dec levels (now (b .entry))))) (now (out .entry)) (now (out .exit)) r ⌝ }
 {
-    let at = Offset::ACTION_COUNT;
     let behind = Offset::ACTION_ENTRIES;
     copy(&a[0..behind], out);
-    let n = u16_at(a, at);
-    write_attributes(Mode::STRICT, a, b, at, n, levels - 1, &mut out[behind..]) + behind
+    let x = &a[Offset::ACTION_COUNT..];
+    let y = &b[Offset::ACTION_COUNT..];
+    let n = u16_at(x, 0);
+    write_attributes(Mode::STRICT, x, y, n, levels - 1, &mut out[behind..]) + behind
 }
 
-// Writes the n attributes of the bound of two lists whose counts stand at `at`, and says how long they are.
-fn write_attributes(
-    mode: u8,
-    a: &[u8],
-    b: &[u8],
-    at: usize,
-    n: usize,
-    levels: usize,
-    out: &mut [u8],
-) -> usize
-    requires { ⌜ Tabled levels at (now a) ⌝ }
-    requires { ⌜ Tabled levels at (now b) ⌝ }
-    requires { ⌜ n ≡ countOf (joinedAttrs (asMode mode) (attrsAt levels at (now a)) (attrsAt levels at (now b))) ⌝ }
-    requires { ⌜ Ready table (joinedAttrs (asMode mode) (attrsAt levels at (now a)) (attrsAt levels at (now b))) (now out) ⌝ }
-    ensures { λ r. ⌜ Written (formOf table (joinedAttrs (asMode mode) (attrsAt levels at (now (a .entry))) (attrsAt levels at (now (b .entry))))) (now (out .entry)) (now (out .exit)) r ⌝ }
+// Writes the n attributes of the bound of two tables, each from its count on, and says how long they are.
+fn write_attributes(mode: u8, a: &[u8], b: &[u8], n: usize, levels: usize, out: &mut [u8]) -> usize
+    requires { ⌜ Tabled levels 0 (now a) ⌝ }
+    requires { ⌜ Tabled levels 0 (now b) ⌝ }
+    requires { ⌜ n ≡ countOf (joinedAttrs (asMode mode) (attrsAt levels 0 (now a)) (attrsAt levels 0 (now b))) ⌝ }
+    requires { ⌜ Ready table (joinedAttrs (asMode mode) (attrsAt levels 0 (now a)) (attrsAt levels 0 (now b))) (now out) ⌝ }
+    ensures { λ r. ⌜ Written (formOf table (joinedAttrs (asMode mode) (attrsAt levels 0 (now (a .entry))) (attrsAt levels 0 (now (b .entry))))) (now (out .entry)) (now (out .exit)) r ⌝ }
 {
-    let mut left = u16_at(a, at);
-    let mut e = entries_at(a, at);
-    let mut s = bodies_at(a, at);
-    let mut m = u16_at(b, at);
-    let mut f = entries_at(b, at);
-    let mut c = bodies_at(b, at);
+    let mut left = u16_at(a, 0);
+    let mut e = entries_at(a, 0);
+    let mut s = bodies_at(a, 0);
+    let mut m = u16_at(b, 0);
+    let mut f = entries_at(b, 0);
+    let mut c = bodies_at(b, 0);
     let mut next = 0;
     let mut pos = Width::ATTRIBUTE * n;
     while 0 < left {

@@ -83,22 +83,22 @@ fn one_if(yes: bool) -> usize
     0
 }
 
-// How many attributes the bound of two lists has.
-pub fn kept_count(mode: u8, a: &[u8], b: &[u8], at: usize, levels: usize) -> usize
-    requires { ⌜ Tabled levels at (now a) ⌝ }
-    requires { ⌜ Tabled levels at (now b) ⌝ }
-    requires { ⌜ isOk (joinedAttrs (asMode mode) (attrsAt levels at (now a)) (attrsAt levels at (now b))) ≡ true ⌝ }
-    ensures { λ r. ⌜ r ≡ countOf (joinedAttrs (asMode mode) (attrsAt levels at (now (a .entry))) (attrsAt levels at (now (b .entry)))) ⌝ }
+// How many attributes the bound of two tables has, each from its count on.
+pub fn kept_count(mode: u8, a: &[u8], b: &[u8], levels: usize) -> usize
+    requires { ⌜ Tabled levels 0 (now a) ⌝ }
+    requires { ⌜ Tabled levels 0 (now b) ⌝ }
+    requires { ⌜ isOk (joinedAttrs (asMode mode) (attrsAt levels 0 (now a)) (attrsAt levels 0 (now b))) ≡ true ⌝ }
+    ensures { λ r. ⌜ r ≡ countOf (joinedAttrs (asMode mode) (attrsAt levels 0 (now (a .entry))) (attrsAt levels 0 (now (b .entry)))) ⌝ }
 {
-    let mut left = u16_at(a, at);
+    let mut left = u16_at(a, 0);
     if mode != Mode::PERMISSIVE {
         return left;
     }
-    let mut e = entries_at(a, at);
-    let mut s = bodies_at(a, at);
-    let mut m = u16_at(b, at);
-    let mut f = entries_at(b, at);
-    let mut c = bodies_at(b, at);
+    let mut e = entries_at(a, 0);
+    let mut s = bodies_at(a, 0);
+    let mut m = u16_at(b, 0);
+    let mut f = entries_at(b, 0);
+    let mut c = bodies_at(b, 0);
     let mut count = 0;
     while 0 < left {
         let len = u16_at(e, Offset::BODY_LENGTH);

@@ -30,7 +30,7 @@ ghost use Rattle.cedar.specs.Types.{find as findAttr};
 ghost use Rattle.cedar.specs.TypeForm.{enc};
 ghost use Rattle.cedar.specs.Bound.{sameNames};
 ghost use Rattle.cedar.specs.Direct.{direct, directAttrs, directNames};
-ghost use Rattle.forms.specs.Parts.{rd, rest};
+ghost use Rattle.forms.specs.Parts.{rd, rest, kind};
 ghost use Rattle.forms.specs.TypeBytes.{whole, dec, decA, namesUp, namesOf};
 ghost use Rattle.lengths.specs.Extents.{extentOf};
 ghost use Rattle.forms.specs.Modes.{asMode};
@@ -97,14 +97,14 @@ pub fn bound_extent(mode: u8, a: &[u8], b: &[u8], levels: usize) -> Extent
             let y = &b[Offset::ELEMENT..];
             bound_extent(mode, x, y, levels - 1).plus(Offset::ELEMENT)
         }
-        Kind::RECORD => attributes_extent(mode, a, b, Offset::RECORD_COUNT, levels - 1).behind(
-            Offset::RECORD_ENTRIES,
-        ),
+        Kind::RECORD => record_extent(mode, a, b, levels),
         Kind::ENTITY => names_extent(mode, a, b),
         Kind::ACTION => {
             if u16_at(a, Offset::ACTION_NAME) == u16_at(b, Offset::ACTION_NAME) {
-                let x = attributes_extent(Mode::STRICT, a, b, Offset::ACTION_COUNT, levels - 1);
-                return x.behind(Offset::ACTION_ENTRIES);
+                let x = &a[Offset::ACTION_COUNT..];
+                let y = &b[Offset::ACTION_COUNT..];
+                let kept = attributes_extent(Mode::STRICT, x, y, levels - 1);
+                return kept.behind(Offset::ACTION_ENTRIES);
             }
             unlike_extent(mode, j, k)
         }
@@ -118,18 +118,29 @@ pub fn bound_extent(mode: u8, a: &[u8], b: &[u8], levels: usize) -> Extent
     }
 }
 
-// Of the attributes whose counts stand at `at`, and how many of them are kept.
-pub fn attributes_extent(mode: u8, a: &[u8], b: &[u8], at: usize, levels: usize) -> Kept
-    requires { ⌜ Tabled levels at (now a) ⌝ }
-    requires { ⌜ Tabled levels at (now b) ⌝ }
-    ensures { λ r. ⌜ r ≡ keptOf (sameNames (asMode mode) (attrsAt levels at (now (a .entry))) (attrsAt levels at (now (b .entry))) (directAttrs (asMode mode) (attrsAt levels at (now (a .entry))) (attrsAt levels at (now (b .entry))))) ⌝ }
+// Of two records.
+fn record_extent(mode: u8, a: &[u8], b: &[u8], levels: usize) -> Extent
+    requires { ⌜ (whole levels (now a) ≡ true) × (kind (now a) ≡ 8) ⌝ }
+    requires { ⌜ (whole levels (now b) ≡ true) × (kind (now b) ≡ 8) ⌝ }
+    ensures { λ r. ⌜ r ≡ extentOf enc (direct (asMode mode) (dec levels (now (a .entry))) (dec levels (now (b .entry)))) ⌝ }
 {
-    let mut left = u16_at(a, at);
-    let mut e = entries_at(a, at);
-    let mut s = bodies_at(a, at);
-    let mut m = u16_at(b, at);
-    let mut f = entries_at(b, at);
-    let mut c = bodies_at(b, at);
+    let x = &a[Offset::RECORD_COUNT..];
+    let y = &b[Offset::RECORD_COUNT..];
+    attributes_extent(mode, x, y, levels - 1).behind(Offset::RECORD_ENTRIES)
+}
+
+// Of two tables of attributes, each from its count on, and how many of them are kept.
+fn attributes_extent(mode: u8, a: &[u8], b: &[u8], levels: usize) -> Kept
+    requires { ⌜ Tabled levels 0 (now a) ⌝ }
+    requires { ⌜ Tabled levels 0 (now b) ⌝ }
+    ensures { λ r. ⌜ r ≡ keptOf (sameNames (asMode mode) (attrsAt levels 0 (now (a .entry))) (attrsAt levels 0 (now (b .entry))) (directAttrs (asMode mode) (attrsAt levels 0 (now (a .entry))) (attrsAt levels 0 (now (b .entry))))) ⌝ }
+{
+    let mut left = u16_at(a, 0);
+    let mut e = entries_at(a, 0);
+    let mut s = bodies_at(a, 0);
+    let mut m = u16_at(b, 0);
+    let mut f = entries_at(b, 0);
+    let mut c = bodies_at(b, 0);
     if !names_allowed(mode, e, left, f, m) {
         return Kept::Not(Refusal::RECORD_WIDTH);
     }
@@ -160,15 +171,7 @@ pub fn attributes_extent(mode: u8, a: &[u8], b: &[u8], at: usize, levels: usize)
 }
 
 // Of an attribute, its entry and its type, with the attribute of its name.
-pub fn pair_extent(
-    mode: u8,
-    e: &[u8],
-    t: &[u8],
-    f: &[u8],
-    c: &[u8],
-    m: usize,
-    levels: usize,
-) -> Pair
+fn pair_extent(mode: u8, e: &[u8], t: &[u8], f: &[u8], c: &[u8], m: usize, levels: usize) -> Pair
     requires { ⌜ (5 ≤ length (now e)) × (getD (now e) 2 0 ≤ 1) ⌝ }
     requires { ⌜ whole levels (now t) ≡ true ⌝ }
     requires { ⌜ Front levels m (rd (now e) 0) (now f) (now c) ⌝ }

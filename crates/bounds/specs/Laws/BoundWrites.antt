@@ -1,5 +1,5 @@
 -- The write pass over two whole forms whose bound has room, by their kinds. Assumes nothing.
-use mathlib.Core.Path.{_≡_, refl, ap, sym, _∙_}
+use mathlib.Core.Path.{_≡_, refl, ap, ap₂, sym, _∙_}
 use mathlib.Core.List.{List, [], _∷_, _++_}
 use mathlib.Core.Bool.{Bool, true, false, not, _&&_, _||_, cond}
 use mathlib.Core.Option.{Option, none, some}
@@ -36,7 +36,7 @@ use Rattle.lengths.specs.Laws.Extents.{length-entries, Cut}
 use Rattle.lengths.specs.Laws.Kinds.{asMode-strict, asMode-permissive, unlike-of}
 use Rattle.bounds.specs.Laws.Laying.{ready-room, written-known}
 use Rattle.lengths.specs.Laws.Tables.{attrs-count}
-use Rattle.lengths.specs.Laws.Bounds.{form-is, ordered, never-left, never-right, unlike-join, set-cut, record-join, action-join, action-apart, extension-join, extension-apart, entity-join, atoms-join, atom-form}
+use Rattle.lengths.specs.Laws.Bounds.{count-from, attrs-from, form-is, ordered, never-left, never-right, unlike-join, set-cut, record-join, action-join, action-apart, extension-join, extension-apart, entity-join, atoms-join, atom-form}
 
 first-code : (t : Ty) → kind (enc t) ≡ code t
 unfolding enc
@@ -146,8 +146,12 @@ module _ {mode l : ℕ} {a b o : List ℕ} (g : Given mode l a b o) where
   abbrev Both : Result Ty
   Both = direct m (dec l a) (dec l b)
 
+  -- The attributes of both, from their counts on.
   abbrev pub Tables : ℕ → ℕ → Result Attrs
-  Tables d at = joinedAttrs (asMode d) (attrsAt (l - 1) at a) (attrsAt (l - 1) at b)
+  Tables d at = joinedAttrs (asMode d) (attrsAt (l - 1) 0 (rest at a)) (attrsAt (l - 1) 0 (rest at b))
+
+  tables-are : (d at : ℕ) → Tables d at ≡ joinedAttrs (asMode d) (attrsAt (l - 1) at a) (attrsAt (l - 1) at b)
+  tables-are d at = ap₂ (λ (xs ys : Attrs). joinedAttrs (asMode d) xs ys) (attrs-from (l - 1) at a) (attrs-from (l - 1) at b)
 
   own : enc (dec l a) ≡ a
   own = form-is l a (g .first) (g .bytes)
@@ -194,10 +198,11 @@ module _ {mode l : ℕ} {a b o : List ℕ} (g : Given mode l a b o) where
     -- Records: their attributes have a bound, and n of them are kept.
     pub records-known : kind a ≡ 8 → isOk (Tables mode 2) ≡ true
     records-known e =
-        sym (ok-bind (Tables mode 2) (joinRecord (eqb (getD a 1 0) 1) (eqb (getD b 1 0) 1) (attrsAt (l - 1) 2 a) (attrsAt (l - 1) 2 b)))
+        ap isOk (tables-are mode 2)
+        ∙ sym (ok-bind (joinedAttrs m (attrsAt (l - 1) 2 a) (attrsAt (l - 1) 2 b)) (joinRecord (eqb (getD a 1 0) 1) (eqb (getD b 1 0) 1) (attrsAt (l - 1) 2 a) (attrsAt (l - 1) 2 b)))
         ∙ sym (ap isOk (record-join m l a b (g .first) (g .second) e (sym k ∙ e))) ∙ ap isOk (g .ready .is)
 
-    pub records-cut : kind a ≡ 8 → (n i j x : ℕ) → n ≡ countOf (Tables mode 2) → i ≡ rd a 2 → j ≡ rd b 2 → x ≡ flag (eqb (getD a 1 0) 1 || eqb (getD b 1 0) 1 || not (eqb n i && eqb n j)) →
+    pub records-cut : kind a ≡ 8 → (n i j x : ℕ) → n ≡ countOf (Tables mode 2) → i ≡ rd (rest 2 a) 0 → j ≡ rd (rest 2 b) 0 → x ≡ flag (eqb (getD a 1 0) 1 || eqb (getD b 1 0) 1 || not (eqb n i && eqb n j)) →
         Cut table enc (8 ∷ x ∷ u16 n) (Tables mode 2) Both
     unfolding enc Ordered
     records-cut e n i j x nn ni nj nx =
@@ -206,9 +211,11 @@ module _ {mode l : ℕ} {a b o : List ℕ} (g : Given mode l a b o) where
         let ob : Ordered (dec l b) = ordered l b (g .second) (g .bytes′) in
         record {
           make = joinRecord (eqb (getD a 1 0) 1) (eqb (getD b 1 0) 1) (attrsAt (l - 1) 2 a) (attrsAt (l - 1) 2 b);
-          is = record-join m l a b (g .first) (g .second) e f;
-          cut = λ cs z. front (attrsAt (l - 1) 2 a) (attrsAt (l - 1) 2 b) cs z (rw (is-record l a (g .first) e .is) at oa) (rw (is-record l b (g .second) f .is) at ob)
-              (nn ∙ rw z refl) (ni ∙ sym (attrs-count (dec (l - 1)) (rd a 2) _ _)) (nj ∙ sym (attrs-count (dec (l - 1)) (rd b 2) _ _));
+          is =
+              record-join m l a b (g .first) (g .second) e f
+              ∙ ap (λ (r : Result Attrs). bind r (λ cs. ok (joinRecord (eqb (getD a 1 0) 1) (eqb (getD b 1 0) 1) (attrsAt (l - 1) 2 a) (attrsAt (l - 1) 2 b) cs))) (sym (tables-are mode 2));
+          cut = λ cs z. front (attrsAt (l - 1) 2 a) (attrsAt (l - 1) 2 b) cs (sym (tables-are mode 2) ∙ z) (rw (is-record l a (g .first) e .is) at oa) (rw (is-record l b (g .second) f .is) at ob)
+              (nn ∙ ap countOf z) (ni ∙ count-from 2 a ∙ sym (attrs-count (dec (l - 1)) (rd a 2) _ _)) (nj ∙ count-from 2 b ∙ sym (attrs-count (dec (l - 1)) (rd b 2) _ _));
         }
       where
         front : (xs ys cs : Attrs) → joinedAttrs m xs ys ≡ ok cs → Ordered (rec (eqb (getD a 1 0) 1) xs) → Ordered (rec (eqb (getD b 1 0) 1) ys) → n ≡ count cs → i ≡ count xs → j ≡ count ys →
@@ -238,8 +245,8 @@ module _ {mode l : ℕ} {a b o : List ℕ} (g : Given mode l a b o) where
       actions-cut h =
           record {
             make = act (rd a 1);
-            is = action-join m l a b (g .first) (g .second) e (sym k ∙ e) n i q r h ∙ rw (asMode-strict 0 (λ z. omega arith)) refl;
-            cut = λ cs z. rw (front (attrsAt (l - 1) 3 a) (sym own ∙ ap enc (is-action l a (g .first) e .is)), strict-many 0 (λ z. omega arith) (attrsAt (l - 1) 3 a) (attrsAt (l - 1) 3 b) cs z) refl;
+            is = action-join m l a b (g .first) (g .second) e (sym k ∙ e) n i q r h ∙ rw (asMode-strict 0 (λ z. omega arith)) refl ∙ ap (λ (r : Result Attrs). bind r (λ cs. ok (act (rd a 1) cs))) (sym (tables-are 0 3));
+            cut = λ cs z. rw (front (attrsAt (l - 1) 3 a) (sym own ∙ ap enc (is-action l a (g .first) e .is)), strict-many 0 (λ z. omega arith) (attrsAt (l - 1) 3 a) (attrsAt (l - 1) 3 b) cs (sym (tables-are 0 3) ∙ z)) refl;
           }
         where
           front : (xs : Attrs) → a ≡ enc (act (rd a 1) xs) → part 0 5 a ≡ 11 ∷ u16 (rd a 1) ++ u16 (count xs)
@@ -248,6 +255,6 @@ module _ {mode l : ℕ} {a b o : List ℕ} (g : Given mode l a b o) where
       pub actions-front : 5 ≡ length (part 0 5 a)
       actions-front = sym (length-part 0 5 a (is-action l a (g .first) e .some))
 
-      pub actions-many : {o′ : List ℕ} → Ready table (Tables 0 3) o′ → (c : ℕ) → c ≡ rd a 3 → c ≡ countOf (Tables 0 3)
+      pub actions-many : {o′ : List ℕ} → Ready table (Tables 0 3) o′ → (c : ℕ) → c ≡ rd (rest 3 a) 0 → c ≡ countOf (Tables 0 3)
       actions-many t c z =
-          z ∙ sym (attrs-count (dec (l - 1)) (rd a 3) _ _) ∙ strict-many 0 (λ z. omega arith) (attrsAt (l - 1) 3 a) (attrsAt (l - 1) 3 b) (t .result) (t .is) ∙ sym (ap countOf (t .is))
+          z ∙ count-from 3 a ∙ sym (attrs-count (dec (l - 1)) (rd a 3) _ _) ∙ strict-many 0 (λ z. omega arith) (attrsAt (l - 1) 3 a) (attrsAt (l - 1) 3 b) (t .result) (sym (tables-are 0 3) ∙ t .is) ∙ sym (ap countOf (t .is))

@@ -1,11 +1,12 @@
 -- The bound of two forms by their kinds. Assumes nothing.
-use mathlib.Core.Path.{_≡_, refl, ap, sym, _∙_}
+use mathlib.Core.Path.{_≡_, refl, ap, ap₂, sym, _∙_}
 use mathlib.Core.List.{List, [], _∷_}
 use mathlib.Core.Bool.{Bool, true, _||_}
-use Prim.Native.Nat.{ℕ, _+_, _-_, _≤_, _<_}
+use Prim.Native.Nat.{ℕ, _+_, _*_, _-_, _≤_, _<_}
 use native.Mathlib.Omega.{arith}
 use lib.Dec.{eqb}
 use lib.ListN.{length, getD}
+use lib.Seq.{drop-drop}
 use borrow.Author.Tests.{eq-eqb, ne-eqb}
 use Rattle.cedar.specs.Types.{Mode, strict, Atom, never, true′, false′, bool, long, string, anyset, anyent, Ty, atom, set, rec, act, ent, ext, Attrs, same}
 use Rattle.cedar.specs.Shape.{WF, Ordered}
@@ -15,10 +16,11 @@ use Rattle.cedar.specs.Subtype.{sub}
 use Rattle.cedar.specs.Bound.{bound, sameNames, joinRecord, lost}
 use Rattle.cedar.specs.Direct.{direct, directAttrs, directNames}
 use Rattle.cedar.specs.Laws.TypeForm.{parse-iff}
-use Rattle.forms.specs.Parts.{rest, rd, kind}
-use Rattle.forms.specs.TypeBytes.{whole, dec, namesOf}
+use Rattle.forms.specs.Parts.{part, rest, rd, kind}
+use Rattle.forms.specs.TypeBytes.{whole, dec, decA, namesOf}
 use Rattle.forms.specs.Laws.Bytes.{Bytes-index}
-use Rattle.forms.specs.Laws.Sure.{sure-yes}
+use Rattle.forms.specs.Laws.Parts.{length-rest, rest-is, rest-rest}
+use Rattle.forms.specs.Laws.Sure.{sure-yes, rd-drop}
 use Rattle.forms.specs.Laws.TypeTwin.{type-twin}
 use Rattle.forms.specs.Laws.Views.{see, seen-set, seen-record, seen-entity, seen-action, seen-extension, seen-atom, Seen, is-set, is-record, is-entity, is-action, is-extension, is-atom}
 use Rattle.lengths.specs.declared.extents.Extent.{Extent}
@@ -31,6 +33,33 @@ use Rattle.lengths.specs.Pairs.{behind, keptOf, attrsAt, Tabled}
 use Rattle.lengths.specs.Laws.Extents.{Cut}
 use Rattle.lengths.specs.Laws.Tables.{atom-code, atom-at}
 use Rattle.lengths.specs.Laws.Kinds.{asMode-strict, unlike-is}
+
+-- A table whose count stands at c, from its count on.
+module _ (c : ℕ) (b : List ℕ) where
+  pub count-from : rd (rest c b) 0 ≡ rd b c
+  count-from = let e : c + 0 ≡ c = omega arith in ap (λ (z : List ℕ). rd z 0) (rest-is c b) ∙ rd-drop c b 0 ∙ ap (λ (j : ℕ). rd b j) e
+
+  entries-from : (n : ℕ) → part 2 (2 + 5 * n) (rest c b) ≡ part (c + 2) (c + 2 + 5 * n) b
+  entries-from n =
+      let e : 2 + 5 * n - 2 ≡ 5 * n = omega arith in
+      let f : c + 2 + 5 * n - (c + 2) ≡ 5 * n = omega arith in
+      rw (e, f, rest-is c b, drop-drop 2 c b) refl
+
+  bodies-from : (n : ℕ) → rest (2 + 5 * n) (rest c b) ≡ rest (c + 2 + 5 * n) b
+  bodies-from n = let e : c + (2 + 5 * n) ≡ c + 2 + 5 * n = omega arith in rest-rest c (2 + 5 * n) b ∙ ap (λ (k : ℕ). rest k b) e
+
+pub attrs-from : (l c : ℕ) (b : List ℕ) → attrsAt l 0 (rest c b) ≡ attrsAt l c b
+attrs-from l c b =
+    ap (λ (n : ℕ). decA (dec l) n (part 2 (2 + 5 * n) (rest c b)) (rest (2 + 5 * n) (rest c b))) (count-from c b)
+    ∙ ap₂ (λ (es bs : List ℕ). decA (dec l) (rd b c) es bs) (entries-from c b (rd b c)) (bodies-from c b (rd b c))
+
+tabled-from : {l c : ℕ} {b : List ℕ} → Tabled l c b → Tabled l 0 (rest c b)
+tabled-from {l} {c} {b} t =
+    record {
+      front = omega arith;
+      fit = omega (arith, t .fit, length-rest c b, count-from c b);
+      sound = rw (count-from c b, entries-from c b (rd b c), bodies-from c b (rd b c)) (t .sound);
+    }
 
 -- What is read from bytes.
 module _ (l : ℕ) (b : List ℕ) (h : whole l b ≡ true) where
@@ -55,11 +84,11 @@ module _ (l : ℕ) (b : List ℕ) (h : whole l b ≡ true) where
     pub ordered : Ordered (dec l b)
     ordered = reads .1 .1
 
-  pub record-tabled : kind b ≡ 8 → Tabled (l - 1) 2 b
-  record-tabled e = let i = is-record l b h e in record { front = omega arith; fit = i .fit; sound = i .sound }
+  pub record-tabled : kind b ≡ 8 → Tabled (l - 1) 0 (rest 2 b)
+  record-tabled e = let i = is-record l b h e in tabled-from {c = 2} {b = b} record { front = omega arith; fit = i .fit; sound = i .sound }
 
-  pub action-tabled : kind b ≡ 11 → Tabled (l - 1) 3 b
-  action-tabled e = let i = is-action l b h e in record { front = omega arith; fit = i .fit; sound = i .sound }
+  pub action-tabled : kind b ≡ 11 → Tabled (l - 1) 0 (rest 3 b)
+  action-tabled e = let i = is-action l b h e in tabled-from {c = 3} {b = b} record { front = omega arith; fit = i .fit; sound = i .sound }
 
 -- Never with a type, and a type with Never.
 never-join : (m : Mode) (v : Ty) → direct m (atom never) v ≡ ok v
@@ -156,12 +185,13 @@ module _ (m : Mode) (l : ℕ) (a b : List ℕ) (ha : whole l a ≡ true) (hb : w
   unfolding direct
   record-join e f = rw (is-record l a ha e .is, is-record l b hb f .is) refl
 
-  pub record-extent : kind a ≡ 8 → kind b ≡ 8 → (k : Kept) (y : Extent) →
-      k ≡ keptOf (sameNames m (attrsAt (l - 1) 2 a) (attrsAt (l - 1) 2 b) (directAttrs m (attrsAt (l - 1) 2 a) (attrsAt (l - 1) 2 b))) → y ≡ behind 4 k → y ≡ extentOf enc joins
-  record-extent e f k y p q =
+  pub records-extent : kind a ≡ 8 → kind b ≡ 8 → (k : Kept) (y : Extent) →
+      k ≡ keptOf (sameNames m (attrsAt (l - 1) 0 (rest 2 a)) (attrsAt (l - 1) 0 (rest 2 b)) (directAttrs m (attrsAt (l - 1) 0 (rest 2 a)) (attrsAt (l - 1) 0 (rest 2 b)))) → y ≡ behind 4 k → y ≡ extentOf enc joins
+  records-extent e f k y p q =
       behind-extent (sameNames m (attrsAt (l - 1) 2 a) (attrsAt (l - 1) 2 b) (directAttrs m (attrsAt (l - 1) 2 a) (attrsAt (l - 1) 2 b))) joins
       (λ cs. joinRecord (eqb (getD a 1 0) 1) (eqb (getD b 1 0) 1) (attrsAt (l - 1) 2 a) (attrsAt (l - 1) 2 b) cs) 4
-      (λ cs. record-long (eqb (getD a 1 0) 1 || eqb (getD b 1 0) 1 || lost cs (attrsAt (l - 1) 2 a) (attrsAt (l - 1) 2 b)) cs) (record-join e f) k y p q
+      (λ cs. record-long (eqb (getD a 1 0) 1 || eqb (getD b 1 0) 1 || lost cs (attrsAt (l - 1) 2 a) (attrsAt (l - 1) 2 b)) cs) (record-join e f) k y
+      (p ∙ ap₂ (λ (xs ys : Attrs). keptOf (sameNames m xs ys (directAttrs m xs ys))) (attrs-from (l - 1) 2 a) (attrs-from (l - 1) 2 b)) q
 
   module _ (e : kind a ≡ 11) (f : kind b ≡ 11) (n k : ℕ) (q : n ≡ rd a 1) (r : k ≡ rd b 1) where
     pub action-join : n ≡ k →
@@ -169,11 +199,12 @@ module _ (m : Mode) (l : ℕ) (a b : List ℕ) (ha : whole l a ≡ true) (hb : w
     unfolding direct
     action-join g = rw (is-action l a ha e .is, is-action l b hb f .is, eq-eqb (rd a 1) (rd b 1) (sym q ∙ g ∙ r)) refl
 
-    pub action-extent : n ≡ k → (x : Kept) (y : Extent) →
-        x ≡ keptOf (sameNames (asMode 0) (attrsAt (l - 1) 3 a) (attrsAt (l - 1) 3 b) (directAttrs (asMode 0) (attrsAt (l - 1) 3 a) (attrsAt (l - 1) 3 b))) → y ≡ behind 5 x → y ≡ extentOf enc joins
-    action-extent g x y p z =
+    pub actions-extent : n ≡ k → (x : Kept) (y : Extent) →
+        x ≡ keptOf (sameNames (asMode 0) (attrsAt (l - 1) 0 (rest 3 a)) (attrsAt (l - 1) 0 (rest 3 b)) (directAttrs (asMode 0) (attrsAt (l - 1) 0 (rest 3 a)) (attrsAt (l - 1) 0 (rest 3 b)))) → y ≡ behind 5 x → y ≡ extentOf enc joins
+    actions-extent g x y p z =
         behind-extent (sameNames strict (attrsAt (l - 1) 3 a) (attrsAt (l - 1) 3 b) (directAttrs strict (attrsAt (l - 1) 3 a) (attrsAt (l - 1) 3 b))) joins (act (rd a 1)) 5
-        (action-long (rd a 1)) (action-join g) x y (p ∙ rw (asMode-strict 0 (λ w. omega arith)) refl) z
+        (action-long (rd a 1)) (action-join g) x y
+        (p ∙ ap₂ (λ (xs ys : Attrs). keptOf (sameNames (asMode 0) xs ys (directAttrs (asMode 0) xs ys))) (attrs-from (l - 1) 3 a) (attrs-from (l - 1) 3 b) ∙ rw (asMode-strict 0 (λ w. omega arith)) refl) z
 
     pub action-apart : (n ≡ k → ⊥) → joins ≡ unlike m 11 11
     unfolding direct

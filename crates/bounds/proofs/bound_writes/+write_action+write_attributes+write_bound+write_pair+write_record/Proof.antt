@@ -4,6 +4,7 @@ use native.Mathlib.Omega.{arith}
 use borrow.Author.Needs.{needs}
 use Rattle.forms.specs.TypeBytes.{dec}
 use Rattle.forms.specs.Laws.Attributes.{laid}
+use Rattle.forms.specs.Laws.Parts.{length-rest, rest-0}
 use Rattle.forms.specs.Laws.Views.{not-empty, is-set, is-record, is-entity, is-action}
 use Rattle.forms.specs.Modes.{asMode}
 use Rattle.lengths.specs.Pairs.{attrsAt}
@@ -58,7 +59,7 @@ abbrev μ-write-action : Measures 3 write-action-kinds.ps ℕ
 μ-write-action κs a = 4 * a .1 .1 .0 - 1
 
 abbrev μ-write-attributes : Measures 3 write-attributes-kinds.ps ℕ
-μ-write-attributes κs a = 4 * a .1 .1 .1 .1 .1 .0 + 2
+μ-write-attributes κs a = 4 * a .1 .1 .1 .1 .0 + 2
 
 abbrev μ-write-bound : Measures 3 write-bound-kinds.ps ℕ
 μ-write-bound κs a = 4 * a .1 .1 .1 .0
@@ -160,96 +161,130 @@ write-action-copy-requires t c κs =
     let cut = actions-cut g same key _ _ refl refl (start .pre .1 .1 .1 .0) in
     behind-front cut (g .ready)
 
--- src/bound_writes.rt:151:9
-write-action-u16-at-requires : (t : ℕ) → write-action-lts.Need-u16-at-requires (write-action-callees t) (write-action-at t) write-action.Post
-write-action-u16-at-requires t c κs =
+-- src/bound_writes.rt:151:13
+write-action-sub-x : (t : ℕ) → write-action-lts.Need-sub-x (write-action-callees t) (write-action-at t) write-action.Post
+write-action-sub-x t c =
     let start = (c .before .before .before .before .before .before .before .before) in
     let key = start .pre .1 .0 .1 in
     omega (arith, is-action (start .args .levels) (start .args .a .now) (start .pre .1 .0 .0) key .some)
 
--- src/bound_writes.rt:152:49
+-- src/bound_writes.rt:151:13
+write-action-part-x-start : (t : ℕ) → write-action-lts.Need-part-x-start (write-action-callees t) (write-action-at t) write-action.Post
+write-action-part-x-start t c =
+    let start = (c .before .before .before .before .before .before .before .before) in
+    let key = start .pre .1 .0 .1 in
+    omega (arith, is-action (start .args .levels) (start .args .a .now) (start .pre .1 .0 .0) key .some)
+
+-- src/bound_writes.rt:151:13
+write-action-part-x-end : (t : ℕ) → write-action-lts.Need-part-x-end (write-action-callees t) (write-action-at t) write-action.Post
+write-action-part-x-end t c = search needs
+
+-- src/bound_writes.rt:152:13
+write-action-sub-y : (t : ℕ) → write-action-lts.Need-sub-y (write-action-callees t) (write-action-at t) write-action.Post
+write-action-sub-y t c =
+    let start = (c .before .before .before .before .before .before .before .before .before) in
+    omega (arith, is-action (start .args .levels) (start .args .b .now) (start .pre .1 .1 .0 .0) (start .pre .1 .1 .0 .1) .some)
+
+-- src/bound_writes.rt:152:13
+write-action-part-y-start : (t : ℕ) → write-action-lts.Need-part-y-start (write-action-callees t) (write-action-at t) write-action.Post
+write-action-part-y-start t c =
+    let start = (c .before .before .before .before .before .before .before .before .before) in
+    omega (arith, is-action (start .args .levels) (start .args .b .now) (start .pre .1 .1 .0 .0) (start .pre .1 .1 .0 .1) .some)
+
+-- src/bound_writes.rt:152:13
+write-action-part-y-end : (t : ℕ) → write-action-lts.Need-part-y-end (write-action-callees t) (write-action-at t) write-action.Post
+write-action-part-y-end t c = search needs
+
+-- src/bound_writes.rt:153:9
+write-action-u16-at-requires : (t : ℕ) → write-action-lts.Need-u16-at-requires (write-action-callees t) (write-action-at t) write-action.Post
+write-action-u16-at-requires t c κs =
+    let start = (c .before .before .before .before .before .before .before .before .before .before) in
+    let key = start .pre .1 .0 .1 in
+    omega (arith, is-action (start .args .levels) (start .args .a .now) (start .pre .1 .0 .0) key .some, length-rest 3 (start .args .a .now))
+
+-- src/bound_writes.rt:154:45
 write-action-sub-write-attributes : (t : ℕ) → write-action-lts.Need-sub-write-attributes (write-action-callees t) (write-action-at t) write-action.Post
 write-action-sub-write-attributes t c =
-    let start = (c .before .before .before .before .before .before .before .before .before) in
+    let start = (c .before .before .before .before .before .before .before .before .before .before .before) in
     let key = start .pre .1 .0 .1 in
     omega (arith, is-action (start .args .levels) (start .args .a .now) (start .pre .1 .0 .0) key .deep)
 
--- src/bound_writes.rt:152:61
+-- src/bound_writes.rt:154:57
 write-action-sub-write-attributes-2 : (t : ℕ) → write-action-lts.Need-sub-write-attributes-2 (write-action-callees t) (write-action-at t) write-action.Post
 write-action-sub-write-attributes-2 t c =
-    let start = (c .before .before .before .before .before .before .before .before .before) in
+    let start = (c .before .before .before .before .before .before .before .before .before .before .before) in
     let key = start .pre .1 .0 .1 in
     let same = key ∙ sym (start .pre .1 .1 .0 .1) in
-    let g = given 0 (start .args .levels) (start .args .a .now) (start .args .b .now) (start .pre .1 .0 .0) (start .pre .1 .1 .0 .0) (λ i. (c .before .before .before .before .before .before .before .before) .shared-slice-known .given i .fits) (λ i. (c .before .before .before .before .before .before .before) .shared-slice-known2 .given i .fits) (start .pre .1 .1 .1 .1) in
+    let g = given 0 (start .args .levels) (start .args .a .now) (start .args .b .now) (start .pre .1 .0 .0) (start .pre .1 .1 .0 .0) (λ i. (c .before .before .before .before .before .before .before .before .before .before) .shared-slice-known .given i .fits) (λ i. (c .before .before .before .before .before .before .before .before .before) .shared-slice-known2 .given i .fits) (start .pre .1 .1 .1 .1) in
     let cut = actions-cut g same key _ _ refl refl (start .pre .1 .1 .1 .0) in
-    let put = (c .before .before .before) .copy in
+    let put = (c .before .before .before .before .before) .copy in
     let front = actions-front g same key _ _ refl refl in
     omega (arith, behind-at cut (g .ready) (put .last .1 .0) 5 (put .ensures) front)
 
--- src/bound_writes.rt:152:61
+-- src/bound_writes.rt:154:57
 write-action-part-write-attributes-start : (t : ℕ) → write-action-lts.Need-part-write-attributes-start (write-action-callees t) (write-action-at t) write-action.Post
 write-action-part-write-attributes-start t c =
-    let start = (c .before .before .before .before .before .before .before .before .before) in
+    let start = (c .before .before .before .before .before .before .before .before .before .before .before) in
     let key = start .pre .1 .0 .1 in
     let same = key ∙ sym (start .pre .1 .1 .0 .1) in
-    let g = given 0 (start .args .levels) (start .args .a .now) (start .args .b .now) (start .pre .1 .0 .0) (start .pre .1 .1 .0 .0) (λ i. (c .before .before .before .before .before .before .before .before) .shared-slice-known .given i .fits) (λ i. (c .before .before .before .before .before .before .before) .shared-slice-known2 .given i .fits) (start .pre .1 .1 .1 .1) in
+    let g = given 0 (start .args .levels) (start .args .a .now) (start .args .b .now) (start .pre .1 .0 .0) (start .pre .1 .1 .0 .0) (λ i. (c .before .before .before .before .before .before .before .before .before .before) .shared-slice-known .given i .fits) (λ i. (c .before .before .before .before .before .before .before .before .before) .shared-slice-known2 .given i .fits) (start .pre .1 .1 .1 .1) in
     let cut = actions-cut g same key _ _ refl refl (start .pre .1 .1 .1 .0) in
-    let put = (c .before .before .before) .copy in
+    let put = (c .before .before .before .before .before) .copy in
     let front = actions-front g same key _ _ refl refl in
     omega (arith, behind-at cut (g .ready) (put .last .1 .0) 5 (put .ensures) front)
 
--- src/bound_writes.rt:152:61
+-- src/bound_writes.rt:154:57
 write-action-part-write-attributes-end : (t : ℕ) → write-action-lts.Need-part-write-attributes-end (write-action-callees t) (write-action-at t) write-action.Post
 write-action-part-write-attributes-end t c = search needs
 
--- src/bound_writes.rt:152:5
+-- src/bound_writes.rt:154:5
 write-action-write-attributes-requires : (t : ℕ) → write-action-lts.Need-write-attributes-requires (write-action-callees t) (write-action-at t) write-action.Post
 write-action-write-attributes-requires t c κs =
-    let start = (c .before .before .before .before .before .before .before .before .before .before) in
+    let start = (c .before .before .before .before .before .before .before .before .before .before .before .before) in
     let key = start .pre .1 .0 .1 in
     let same = key ∙ sym (start .pre .1 .1 .0 .1) in
-    let g = given 0 (start .args .levels) (start .args .a .now) (start .args .b .now) (start .pre .1 .0 .0) (start .pre .1 .1 .0 .0) (λ i. (c .before .before .before .before .before .before .before .before .before) .shared-slice-known .given i .fits) (λ i. (c .before .before .before .before .before .before .before .before) .shared-slice-known2 .given i .fits) (start .pre .1 .1 .1 .1) in
+    let g = given 0 (start .args .levels) (start .args .a .now) (start .args .b .now) (start .pre .1 .0 .0) (start .pre .1 .1 .0 .0) (λ i. (c .before .before .before .before .before .before .before .before .before .before .before) .shared-slice-known .given i .fits) (λ i. (c .before .before .before .before .before .before .before .before .before .before) .shared-slice-known2 .given i .fits) (start .pre .1 .1 .1 .1) in
     let cut = actions-cut g same key _ _ refl refl (start .pre .1 .1 .1 .0) in
-    let put = (c .before .before .before .before) .copy in
+    let put = (c .before .before .before .before .before .before) .copy in
     let front = actions-front g same key _ _ refl refl in
     let ready = behind-ready cut (g .ready) (put .last .1 .0) 5 (put .ensures) front in
     (omega (arith, start .pre .0, is-action (start .args .levels) (start .args .a .now) (start .pre .1 .0 .0) key .deep), (action-tabled (start .args .levels) (start .args .a .now) (start .pre .1 .0 .0) key, (action-tabled (start .args .levels) (start .args .b .now) (start .pre .1 .1 .0 .0) (start .pre .1 .1 .0 .1), (actions-many g same key _ _ refl refl ready ((c .before) .u16-at .result) ((c .before) .u16-at .ensures .0), ready))))
 
--- src/bound_writes.rt:152:5
+-- src/bound_writes.rt:154:5
 write-action-add-result : (t : ℕ) → write-action-lts.Need-add-result (write-action-callees t) (write-action-at t) write-action.Post
 write-action-add-result t c =
-    let start = (c .before .before .before .before .before .before .before .before .before .before .before .before .before) in
+    let start = (c .before .before .before .before .before .before .before .before .before .before .before .before .before .before .before) in
     let key = start .pre .1 .0 .1 in
     let same = key ∙ sym (start .pre .1 .1 .0 .1) in
-    let g = given 0 (start .args .levels) (start .args .a .now) (start .args .b .now) (start .pre .1 .0 .0) (start .pre .1 .1 .0 .0) (λ i. (c .before .before .before .before .before .before .before .before .before .before .before .before) .shared-slice-known .given i .fits) (λ i. (c .before .before .before .before .before .before .before .before .before .before .before) .shared-slice-known2 .given i .fits) (start .pre .1 .1 .1 .1) in
+    let g = given 0 (start .args .levels) (start .args .a .now) (start .args .b .now) (start .pre .1 .0 .0) (start .pre .1 .1 .0 .0) (λ i. (c .before .before .before .before .before .before .before .before .before .before .before .before .before .before) .shared-slice-known .given i .fits) (λ i. (c .before .before .before .before .before .before .before .before .before .before .before .before .before) .shared-slice-known2 .given i .fits) (start .pre .1 .1 .1 .1) in
     let cut = actions-cut g same key _ _ refl refl (start .pre .1 .1 .1 .0) in
-    let put = (c .before .before .before .before .before .before .before) .copy in
+    let put = (c .before .before .before .before .before .before .before .before .before) .copy in
     let front = actions-front g same key _ _ refl refl in
     let rows = (c .before .before) .write-attributes in
-    omega (arith, behind-small cut (g .ready) (put .last .1 .0) 5 (put .ensures) front (rows .last .1 .1 .1 .1 .1 .1 .0) (rows .result) (rows .ensures))
+    omega (arith, behind-small cut (g .ready) (put .last .1 .0) 5 (put .ensures) front (rows .last .1 .1 .1 .1 .1 .0) (rows .result) (rows .ensures))
 
--- src/bound_writes.rt:141:1
+-- src/bound_writes.rt:142:1
 write-action-same-length : (t : ℕ) → write-action-lts.Need-same-length (write-action-callees t) (write-action-at t) write-action.Post
 write-action-same-length t c = search needs
 
--- src/bound_writes.rt:141:1
+-- src/bound_writes.rt:142:1
 write-action-returns : (t : ℕ) → write-action-lts.Need-returns (write-action-callees t) (write-action-at t) write-action.Post
 write-action-returns t c =
-    let start = (c .before .before .before .before .before .before .before .before .before .before .before .before .before) in
+    let start = (c .before .before .before .before .before .before .before .before .before .before .before .before .before .before .before) in
     let key = start .pre .1 .0 .1 in
     let same = key ∙ sym (start .pre .1 .1 .0 .1) in
-    let g = given 0 (start .args .levels) (start .args .a .now) (start .args .b .now) (start .pre .1 .0 .0) (start .pre .1 .1 .0 .0) (λ i. (c .before .before .before .before .before .before .before .before .before .before .before .before) .shared-slice-known .given i .fits) (λ i. (c .before .before .before .before .before .before .before .before .before .before .before) .shared-slice-known2 .given i .fits) (start .pre .1 .1 .1 .1) in
+    let g = given 0 (start .args .levels) (start .args .a .now) (start .args .b .now) (start .pre .1 .0 .0) (start .pre .1 .1 .0 .0) (λ i. (c .before .before .before .before .before .before .before .before .before .before .before .before .before .before) .shared-slice-known .given i .fits) (λ i. (c .before .before .before .before .before .before .before .before .before .before .before .before .before) .shared-slice-known2 .given i .fits) (start .pre .1 .1 .1 .1) in
     let cut = actions-cut g same key _ _ refl refl (start .pre .1 .1 .1 .0) in
-    let put = (c .before .before .before .before .before .before .before) .copy in
+    let put = (c .before .before .before .before .before .before .before .before .before) .copy in
     let front = actions-front g same key _ _ refl refl in
     let rows = (c .before .before) .write-attributes in
-    behind-written cut (g .ready) (put .last .1 .0) 5 (put .ensures) front (rows .last .1 .1 .1 .1 .1 .1 .0) (rows .result) (rows .ensures)
+    behind-written cut (g .ready) (put .last .1 .0) 5 (put .ensures) front (rows .last .1 .1 .1 .1 .1 .0) (rows .result) (rows .ensures)
 
 abbrev write-attributes-Inv-loop : write-attributes-lts.InvT-loop
-write-attributes-Inv-loop mode a b at n levels out₀ left₀ e₀ s₀ m₀ f₀ c₀ next₀ pos₀ out left e s m f c next pos = Joining (asMode mode) (joinedAttrs (asMode mode) (attrsAt levels at a) (attrsAt levels at b)) levels out₀ left e s m f c next pos out
+write-attributes-Inv-loop mode a b n levels out₀ left₀ e₀ s₀ m₀ f₀ c₀ next₀ pos₀ out left e s m f c next pos = Joining (asMode mode) (joinedAttrs (asMode mode) (attrsAt levels 0 a) (attrsAt levels 0 b)) levels out₀ left e s m f c next pos out
 
 abbrev write-attributes-μ-loop : write-attributes-lts.MeasureT-loop
-write-attributes-μ-loop mode a b at n levels out₀ left₀ e₀ s₀ m₀ f₀ c₀ next₀ pos₀ out left e s m f c next pos = left
+write-attributes-μ-loop mode a b n levels out₀ left₀ e₀ s₀ m₀ f₀ c₀ next₀ pos₀ out left e s m f c next pos = left
 
 abbrev write-attributes-callees : ℕ → write-attributes-lts.Claims
 write-attributes-callees t = (
@@ -269,37 +304,37 @@ write-attributes-callees t = (
   put-attribute-reads.Learnt,
 )
 
--- src/bound_writes.rt:171:9
+-- src/bound_writes.rt:165:9
 write-attributes-u16-at-requires : (t : ℕ) → write-attributes-lts.Need-u16-at-requires (write-attributes-callees t) (write-attributes-at t) write-attributes.Post write-attributes-Inv-loop write-attributes-μ-loop
 write-attributes-u16-at-requires t c κs = omega (arith, (c .before .before .before) .pre .1 .0 .fit)
 
--- src/bound_writes.rt:172:9
+-- src/bound_writes.rt:166:9
 write-attributes-entries-at-requires : (t : ℕ) → write-attributes-lts.Need-entries-at-requires (write-attributes-callees t) (write-attributes-at t) write-attributes.Post write-attributes-Inv-loop write-attributes-μ-loop
 write-attributes-entries-at-requires t c κs = ((c .before .before .before .before) .pre .1 .0 .front, (c .before .before .before .before) .pre .1 .0 .fit)
 
--- src/bound_writes.rt:173:9
+-- src/bound_writes.rt:167:9
 write-attributes-bodies-at-requires : (t : ℕ) → write-attributes-lts.Need-bodies-at-requires (write-attributes-callees t) (write-attributes-at t) write-attributes.Post write-attributes-Inv-loop write-attributes-μ-loop
 write-attributes-bodies-at-requires t c κs = ((c .before .before .before .before .before) .pre .1 .0 .front, (c .before .before .before .before .before) .pre .1 .0 .fit)
 
--- src/bound_writes.rt:174:9
+-- src/bound_writes.rt:168:9
 write-attributes-u16-at-requires-2 : (t : ℕ) → write-attributes-lts.Need-u16-at-requires-2 (write-attributes-callees t) (write-attributes-at t) write-attributes.Post write-attributes-Inv-loop write-attributes-μ-loop
 write-attributes-u16-at-requires-2 t c κs = omega (arith, (c .before .before .before .before .before .before) .pre .1 .1 .0 .fit)
 
--- src/bound_writes.rt:175:9
+-- src/bound_writes.rt:169:9
 write-attributes-entries-at-requires-2 : (t : ℕ) → write-attributes-lts.Need-entries-at-requires-2 (write-attributes-callees t) (write-attributes-at t) write-attributes.Post write-attributes-Inv-loop write-attributes-μ-loop
 write-attributes-entries-at-requires-2 t c κs = ((c .before .before .before .before .before .before .before) .pre .1 .1 .0 .front, (c .before .before .before .before .before .before .before) .pre .1 .1 .0 .fit)
 
--- src/bound_writes.rt:176:9
+-- src/bound_writes.rt:170:9
 write-attributes-bodies-at-requires-2 : (t : ℕ) → write-attributes-lts.Need-bodies-at-requires-2 (write-attributes-callees t) (write-attributes-at t) write-attributes.Post write-attributes-Inv-loop write-attributes-μ-loop
 write-attributes-bodies-at-requires-2 t c κs = ((c .before .before .before .before .before .before .before .before) .pre .1 .1 .0 .front, (c .before .before .before .before .before .before .before .before) .pre .1 .1 .0 .fit)
 
--- src/bound_writes.rt:178:19
+-- src/bound_writes.rt:172:19
 write-attributes-mul-pos : (t : ℕ) → write-attributes-lts.Need-mul-pos (write-attributes-callees t) (write-attributes-at t) write-attributes.Post write-attributes-Inv-loop write-attributes-μ-loop
 write-attributes-mul-pos t c =
     let start = (c .before .before .before .before .before .before .before .before .before) in
     omega (arith, kept-few (start .pre .1 .1 .1 .1) (start .args .n) (start .pre .1 .1 .1 .0))
 
--- src/bound_writes.rt:179:5
+-- src/bound_writes.rt:173:5
 write-attributes-loop-holds : (t : ℕ) → write-attributes-lts.Need-loop-holds (write-attributes-callees t) (write-attributes-at t) write-attributes.Post write-attributes-Inv-loop write-attributes-μ-loop
 write-attributes-loop-holds t c =
     let start = (c .before .before .before .before .before .before .before .before .before) in
@@ -307,23 +342,23 @@ write-attributes-loop-holds t c =
     let second = split ((c .before .before) .u16-at2 .ensures .0) ((c .before) .entries-at2 .ensures) (c .bodies-at2 .ensures) in
     joining-start (start .pre .1 .0) (start .pre .1 .1 .0) first second ((c .before .before) .u16-at2 .ensures .1) (asMode (start .args .mode)) (start .args .n) (start .pre .1 .1 .1 .0) (start .pre .1 .1 .1 .1)
 
--- src/bound_writes.rt:180:13
+-- src/bound_writes.rt:174:13
 write-attributes-u16-at-requires-3 : (t : ℕ) → write-attributes-lts.Need-u16-at-requires-3 (write-attributes-callees t) (write-attributes-at t) write-attributes.Post write-attributes-Inv-loop write-attributes-μ-loop
 write-attributes-u16-at-requires-3 t c κs = omega (arith, joining-entry ((c .before) .loop .inv) (c .loop-test .taken))
 
--- src/bound_writes.rt:181:24
+-- src/bound_writes.rt:175:24
 write-attributes-shared-slice-read-required : (t : ℕ) → write-attributes-lts.Need-shared-slice-read-required (write-attributes-callees t) (write-attributes-at t) write-attributes.Post write-attributes-Inv-loop write-attributes-μ-loop
 write-attributes-shared-slice-read-required t c = omega (arith, joining-entry ((c .before .before .before) .loop .inv) ((c .before .before) .loop-test .taken))
 
--- src/bound_writes.rt:182:13
+-- src/bound_writes.rt:176:13
 write-attributes-u16-at-requires-4 : (t : ℕ) → write-attributes-lts.Need-u16-at-requires-4 (write-attributes-callees t) (write-attributes-at t) write-attributes.Post write-attributes-Inv-loop write-attributes-μ-loop
 write-attributes-u16-at-requires-4 t c κs = omega (arith, joining-entry ((c .before .before .before) .loop .inv) ((c .before .before) .loop-test .taken))
 
--- src/bound_writes.rt:183:13
+-- src/bound_writes.rt:177:13
 write-attributes-skip-below-requires : (t : ℕ) → write-attributes-lts.Need-skip-below-requires (write-attributes-callees t) (write-attributes-at t) write-attributes.Post write-attributes-Inv-loop write-attributes-μ-loop
 write-attributes-skip-below-requires t c κs = laid ((c .before .before .before .before) .loop .inv .walk .second)
 
--- src/bound_writes.rt:185:16
+-- src/bound_writes.rt:179:16
 write-attributes-mul-f : (t : ℕ) → write-attributes-lts.Need-mul-f (write-attributes-callees t) (write-attributes-at t) write-attributes.Post write-attributes-Inv-loop write-attributes-μ-loop
 write-attributes-mul-f t c =
     let w = (c .before .before .before .before .before .before) .loop .inv in
@@ -332,7 +367,7 @@ write-attributes-mul-f t c =
     let skipped = (c .before) .skip-below in
     omega (arith, joining-past w p (name .result) (name .ensures .0) (skipped .result .entries) (skipped .result .bytes) (skipped .ensures) .most, w .few)
 
--- src/bound_writes.rt:185:13
+-- src/bound_writes.rt:179:13
 write-attributes-sub-f : (t : ℕ) → write-attributes-lts.Need-sub-f (write-attributes-callees t) (write-attributes-at t) write-attributes.Post write-attributes-Inv-loop write-attributes-μ-loop
 write-attributes-sub-f t c =
     let w = (c .before .before .before .before .before .before) .loop .inv in
@@ -341,7 +376,7 @@ write-attributes-sub-f t c =
     let skipped = (c .before) .skip-below in
     omega (arith, joining-past w p (name .result) (name .ensures .0) (skipped .result .entries) (skipped .result .bytes) (skipped .ensures) .room)
 
--- src/bound_writes.rt:185:13
+-- src/bound_writes.rt:179:13
 write-attributes-part-f-start : (t : ℕ) → write-attributes-lts.Need-part-f-start (write-attributes-callees t) (write-attributes-at t) write-attributes.Post write-attributes-Inv-loop write-attributes-μ-loop
 write-attributes-part-f-start t c =
     let w = (c .before .before .before .before .before .before) .loop .inv in
@@ -350,11 +385,11 @@ write-attributes-part-f-start t c =
     let skipped = (c .before) .skip-below in
     omega (arith, joining-past w p (name .result) (name .ensures .0) (skipped .result .entries) (skipped .result .bytes) (skipped .ensures) .room)
 
--- src/bound_writes.rt:185:13
+-- src/bound_writes.rt:179:13
 write-attributes-part-f-end : (t : ℕ) → write-attributes-lts.Need-part-f-end (write-attributes-callees t) (write-attributes-at t) write-attributes.Post write-attributes-Inv-loop write-attributes-μ-loop
 write-attributes-part-f-end t c = search needs
 
--- src/bound_writes.rt:186:13
+-- src/bound_writes.rt:180:13
 write-attributes-sub-c : (t : ℕ) → write-attributes-lts.Need-sub-c (write-attributes-callees t) (write-attributes-at t) write-attributes.Post write-attributes-Inv-loop write-attributes-μ-loop
 write-attributes-sub-c t c =
     let w = (c .before .before .before .before .before .before .before) .loop .inv in
@@ -363,7 +398,7 @@ write-attributes-sub-c t c =
     let skipped = (c .before .before) .skip-below in
     omega (arith, joining-past w p (name .result) (name .ensures .0) (skipped .result .entries) (skipped .result .bytes) (skipped .ensures) .inside)
 
--- src/bound_writes.rt:186:13
+-- src/bound_writes.rt:180:13
 write-attributes-part-c-start : (t : ℕ) → write-attributes-lts.Need-part-c-start (write-attributes-callees t) (write-attributes-at t) write-attributes.Post write-attributes-Inv-loop write-attributes-μ-loop
 write-attributes-part-c-start t c =
     let w = (c .before .before .before .before .before .before .before) .loop .inv in
@@ -372,11 +407,11 @@ write-attributes-part-c-start t c =
     let skipped = (c .before .before) .skip-below in
     omega (arith, joining-past w p (name .result) (name .ensures .0) (skipped .result .entries) (skipped .result .bytes) (skipped .ensures) .inside)
 
--- src/bound_writes.rt:186:13
+-- src/bound_writes.rt:180:13
 write-attributes-part-c-end : (t : ℕ) → write-attributes-lts.Need-part-c-end (write-attributes-callees t) (write-attributes-at t) write-attributes.Post write-attributes-Inv-loop write-attributes-μ-loop
 write-attributes-part-c-end t c = search needs
 
--- src/bound_writes.rt:187:9
+-- src/bound_writes.rt:181:9
 write-attributes-sub-m : (t : ℕ) → write-attributes-lts.Need-sub-m (write-attributes-callees t) (write-attributes-at t) write-attributes.Post write-attributes-Inv-loop write-attributes-μ-loop
 write-attributes-sub-m t c =
     let w = (c .before .before .before .before .before .before .before .before .before) .loop .inv in
@@ -385,15 +420,15 @@ write-attributes-sub-m t c =
     let skipped = (c .before .before .before .before) .skip-below in
     omega (arith, joining-past w p (name .result) (name .ensures .0) (skipped .result .entries) (skipped .result .bytes) (skipped .ensures) .most)
 
--- src/bound_writes.rt:188:37
+-- src/bound_writes.rt:182:37
 write-attributes-sub-write-pair : (t : ℕ) → write-attributes-lts.Need-sub-write-pair (write-attributes-callees t) (write-attributes-at t) write-attributes.Post write-attributes-Inv-loop write-attributes-μ-loop
 write-attributes-sub-write-pair t c = search needs
 
--- src/bound_writes.rt:188:37
+-- src/bound_writes.rt:182:37
 write-attributes-part-write-pair-start : (t : ℕ) → write-attributes-lts.Need-part-write-pair-start (write-attributes-callees t) (write-attributes-at t) write-attributes.Post write-attributes-Inv-loop write-attributes-μ-loop
 write-attributes-part-write-pair-start t c = search needs
 
--- src/bound_writes.rt:188:37
+-- src/bound_writes.rt:182:37
 write-attributes-part-write-pair-end : (t : ℕ) → write-attributes-lts.Need-part-write-pair-end (write-attributes-callees t) (write-attributes-at t) write-attributes.Post write-attributes-Inv-loop write-attributes-μ-loop
 write-attributes-part-write-pair-end t c =
     let w = (c .before .before .before .before .before .before .before .before .before) .loop .inv in
@@ -403,7 +438,7 @@ write-attributes-part-write-pair-end t c =
     let skipped = (c .before .before .before .before) .skip-below in
     omega (arith, joining-body w p (name .result) (name .ensures .0) (skipped .result .entries) (skipped .result .bytes) (skipped .ensures) (len .result) (len .ensures .0) .0)
 
--- src/bound_writes.rt:188:66
+-- src/bound_writes.rt:182:66
 write-attributes-sub-write-pair-2 : (t : ℕ) → write-attributes-lts.Need-sub-write-pair-2 (write-attributes-callees t) (write-attributes-at t) write-attributes.Post write-attributes-Inv-loop write-attributes-μ-loop
 write-attributes-sub-write-pair-2 t c =
     let w = (c .before .before .before .before .before .before .before .before .before .before) .loop .inv in
@@ -413,7 +448,7 @@ write-attributes-sub-write-pair-2 t c =
     let skipped = (c .before .before .before .before .before) .skip-below in
     omega (arith, attach-pos (joining-turn w p (name .result) (name .ensures .0) (skipped .result .entries) (skipped .result .bytes) (skipped .ensures) (len .result) (len .ensures .0)))
 
--- src/bound_writes.rt:188:66
+-- src/bound_writes.rt:182:66
 write-attributes-part-write-pair-start-2 : (t : ℕ) → write-attributes-lts.Need-part-write-pair-start-2 (write-attributes-callees t) (write-attributes-at t) write-attributes.Post write-attributes-Inv-loop write-attributes-μ-loop
 write-attributes-part-write-pair-start-2 t c =
     let w = (c .before .before .before .before .before .before .before .before .before .before) .loop .inv in
@@ -423,11 +458,11 @@ write-attributes-part-write-pair-start-2 t c =
     let skipped = (c .before .before .before .before .before) .skip-below in
     omega (arith, attach-pos (joining-turn w p (name .result) (name .ensures .0) (skipped .result .entries) (skipped .result .bytes) (skipped .ensures) (len .result) (len .ensures .0)))
 
--- src/bound_writes.rt:188:66
+-- src/bound_writes.rt:182:66
 write-attributes-part-write-pair-end-2 : (t : ℕ) → write-attributes-lts.Need-part-write-pair-end-2 (write-attributes-callees t) (write-attributes-at t) write-attributes.Post write-attributes-Inv-loop write-attributes-μ-loop
 write-attributes-part-write-pair-end-2 t c = search needs
 
--- src/bound_writes.rt:188:13
+-- src/bound_writes.rt:182:13
 write-attributes-write-pair-requires : (t : ℕ) → write-attributes-lts.Need-write-pair-requires (write-attributes-callees t) (write-attributes-at t) write-attributes.Post write-attributes-Inv-loop write-attributes-μ-loop
 write-attributes-write-pair-requires t c κs =
     let w = (c .before .before .before .before .before .before .before .before .before .before .before) .loop .inv in
@@ -437,19 +472,19 @@ write-attributes-write-pair-requires t c κs =
     let skipped = (c .before .before .before .before .before .before) .skip-below in
     (omega (arith, (c .before .before .before .before .before .before .before .before .before .before .before .before .before .before .before .before .before .before .before .before .before) .pre .0), (joining-entry w p, (joining-body w p (name .result) (name .ensures .0) (skipped .result .entries) (skipped .result .bytes) (skipped .ensures) (len .result) (len .ensures .0) .1, (joining-front w p (name .result) (name .ensures .0) (skipped .result .entries) (skipped .result .bytes) (skipped .ensures) (len .result) (len .ensures .0), attach-ready (joining-turn w p (name .result) (name .ensures .0) (skipped .result .entries) (skipped .result .bytes) (skipped .ensures) (len .result) (len .ensures .0))))))
 
--- src/bound_writes.rt:189:13
+-- src/bound_writes.rt:183:13
 write-attributes-sub-e : (t : ℕ) → write-attributes-lts.Need-sub-e (write-attributes-callees t) (write-attributes-at t) write-attributes.Post write-attributes-Inv-loop write-attributes-μ-loop
 write-attributes-sub-e t c = omega (arith, joining-entry ((c .before .before .before .before .before .before .before .before .before .before .before .before .before .before) .loop .inv) ((c .before .before .before .before .before .before .before .before .before .before .before .before .before) .loop-test .taken))
 
--- src/bound_writes.rt:189:13
+-- src/bound_writes.rt:183:13
 write-attributes-part-e-start : (t : ℕ) → write-attributes-lts.Need-part-e-start (write-attributes-callees t) (write-attributes-at t) write-attributes.Post write-attributes-Inv-loop write-attributes-μ-loop
 write-attributes-part-e-start t c = omega (arith, joining-entry ((c .before .before .before .before .before .before .before .before .before .before .before .before .before .before) .loop .inv) ((c .before .before .before .before .before .before .before .before .before .before .before .before .before) .loop-test .taken))
 
--- src/bound_writes.rt:189:13
+-- src/bound_writes.rt:183:13
 write-attributes-part-e-end : (t : ℕ) → write-attributes-lts.Need-part-e-end (write-attributes-callees t) (write-attributes-at t) write-attributes.Post write-attributes-Inv-loop write-attributes-μ-loop
 write-attributes-part-e-end t c = search needs
 
--- src/bound_writes.rt:190:13
+-- src/bound_writes.rt:184:13
 write-attributes-sub-s : (t : ℕ) → write-attributes-lts.Need-sub-s (write-attributes-callees t) (write-attributes-at t) write-attributes.Post write-attributes-Inv-loop write-attributes-μ-loop
 write-attributes-sub-s t c =
     let w = (c .before .before .before .before .before .before .before .before .before .before .before .before .before .before .before) .loop .inv in
@@ -459,7 +494,7 @@ write-attributes-sub-s t c =
     let skipped = (c .before .before .before .before .before .before .before .before .before .before) .skip-below in
     omega (arith, joining-body w p (name .result) (name .ensures .0) (skipped .result .entries) (skipped .result .bytes) (skipped .ensures) (len .result) (len .ensures .0) .0)
 
--- src/bound_writes.rt:190:13
+-- src/bound_writes.rt:184:13
 write-attributes-part-s-start : (t : ℕ) → write-attributes-lts.Need-part-s-start (write-attributes-callees t) (write-attributes-at t) write-attributes.Post write-attributes-Inv-loop write-attributes-μ-loop
 write-attributes-part-s-start t c =
     let w = (c .before .before .before .before .before .before .before .before .before .before .before .before .before .before .before) .loop .inv in
@@ -469,19 +504,19 @@ write-attributes-part-s-start t c =
     let skipped = (c .before .before .before .before .before .before .before .before .before .before) .skip-below in
     omega (arith, joining-body w p (name .result) (name .ensures .0) (skipped .result .entries) (skipped .result .bytes) (skipped .ensures) (len .result) (len .ensures .0) .0)
 
--- src/bound_writes.rt:190:13
+-- src/bound_writes.rt:184:13
 write-attributes-part-s-end : (t : ℕ) → write-attributes-lts.Need-part-s-end (write-attributes-callees t) (write-attributes-at t) write-attributes.Post write-attributes-Inv-loop write-attributes-μ-loop
 write-attributes-part-s-end t c = search needs
 
--- src/bound_writes.rt:191:9
+-- src/bound_writes.rt:185:9
 write-attributes-sub-left : (t : ℕ) → write-attributes-lts.Need-sub-left (write-attributes-callees t) (write-attributes-at t) write-attributes.Post write-attributes-Inv-loop write-attributes-μ-loop
 write-attributes-sub-left t c = omega arith
 
--- src/bound_writes.rt:179:5
+-- src/bound_writes.rt:173:5
 write-attributes-loop-less : (t : ℕ) → write-attributes-lts.Need-loop-less (write-attributes-callees t) (write-attributes-at t) write-attributes.Post write-attributes-Inv-loop write-attributes-μ-loop
 write-attributes-loop-less t c = omega arith
 
--- src/bound_writes.rt:179:5
+-- src/bound_writes.rt:173:5
 write-attributes-loop-again : (t : ℕ) → write-attributes-lts.Need-loop-again (write-attributes-callees t) (write-attributes-at t) write-attributes.Post write-attributes-Inv-loop write-attributes-μ-loop
 write-attributes-loop-again t c =
     let w = (c .before .before .before .before .before .before .before .before .before .before .before .before .before .before .before .before .before) .loop .inv in
@@ -492,7 +527,7 @@ write-attributes-loop-again t c =
     let pair = (c .before .before .before .before .before) .write-pair in
     joining-none w p (name .result) (name .ensures .0) (skipped .result .entries) (skipped .result .bytes) (skipped .ensures) (len .result) (len .ensures .0) (pair .last .1 .1 .1 .1 .1 .1 .1 .0) (pair .result) (pair .ensures) (c .if1 .taken)
 
--- src/bound_writes.rt:195:44
+-- src/bound_writes.rt:189:44
 write-attributes-shared-slice-read-both-required : (t : ℕ) → write-attributes-lts.Need-shared-slice-read-both-required (write-attributes-callees t) (write-attributes-at t) write-attributes.Post write-attributes-Inv-loop write-attributes-μ-loop
 write-attributes-shared-slice-read-both-required t c =
     let w = (c .before .before .before .before .before .before .before .before .before .before .before .before .before .before .before .before .before .before) .loop .inv in
@@ -503,11 +538,11 @@ write-attributes-shared-slice-read-both-required t c =
     let pair = (c .before .before .before .before .before .before) .write-pair in
     omega (arith, joining-other w p (name .result) (name .ensures .0) (skipped .result .entries) (skipped .result .bytes) (skipped .ensures) (len .result) (len .ensures .0) (pair .last .1 .1 .1 .1 .1 .1 .1 .0) (pair .result) (pair .ensures) ((c .before) .if1 .left))
 
--- src/bound_writes.rt:195:13
+-- src/bound_writes.rt:189:13
 write-attributes-both-required-requires : (t : ℕ) → write-attributes-lts.Need-both-required-requires (write-attributes-callees t) (write-attributes-at t) write-attributes.Post write-attributes-Inv-loop write-attributes-μ-loop
 write-attributes-both-required-requires t c κs = search needs
 
--- src/bound_writes.rt:196:23
+-- src/bound_writes.rt:190:23
 write-attributes-sub-put-attribute : (t : ℕ) → write-attributes-lts.Need-sub-put-attribute (write-attributes-callees t) (write-attributes-at t) write-attributes.Post write-attributes-Inv-loop write-attributes-μ-loop
 write-attributes-sub-put-attribute t c =
     let w = (c .before .before .before .before .before .before .before .before .before .before .before .before .before .before .before .before .before .before .before) .loop .inv in
@@ -518,7 +553,7 @@ write-attributes-sub-put-attribute t c =
     let pair = (c .before .before .before .before .before .before .before) .write-pair in
     omega (arith, joining-at w p (name .result) (name .ensures .0) (skipped .result .entries) (skipped .result .bytes) (skipped .ensures) (len .result) (len .ensures .0) (pair .last .1 .1 .1 .1 .1 .1 .1 .0) (pair .result) (pair .ensures) ((c .before .before) .if1 .left))
 
--- src/bound_writes.rt:196:23
+-- src/bound_writes.rt:190:23
 write-attributes-part-put-attribute-start : (t : ℕ) → write-attributes-lts.Need-part-put-attribute-start (write-attributes-callees t) (write-attributes-at t) write-attributes.Post write-attributes-Inv-loop write-attributes-μ-loop
 write-attributes-part-put-attribute-start t c =
     let w = (c .before .before .before .before .before .before .before .before .before .before .before .before .before .before .before .before .before .before .before) .loop .inv in
@@ -529,11 +564,11 @@ write-attributes-part-put-attribute-start t c =
     let pair = (c .before .before .before .before .before .before .before) .write-pair in
     omega (arith, joining-at w p (name .result) (name .ensures .0) (skipped .result .entries) (skipped .result .bytes) (skipped .ensures) (len .result) (len .ensures .0) (pair .last .1 .1 .1 .1 .1 .1 .1 .0) (pair .result) (pair .ensures) ((c .before .before) .if1 .left))
 
--- src/bound_writes.rt:196:23
+-- src/bound_writes.rt:190:23
 write-attributes-part-put-attribute-end : (t : ℕ) → write-attributes-lts.Need-part-put-attribute-end (write-attributes-callees t) (write-attributes-at t) write-attributes.Post write-attributes-Inv-loop write-attributes-μ-loop
 write-attributes-part-put-attribute-end t c = search needs
 
--- src/bound_writes.rt:196:9
+-- src/bound_writes.rt:190:9
 write-attributes-put-attribute-requires : (t : ℕ) → write-attributes-lts.Need-put-attribute-requires (write-attributes-callees t) (write-attributes-at t) write-attributes.Post write-attributes-Inv-loop write-attributes-μ-loop
 write-attributes-put-attribute-requires t c κs =
     let w = (c .before .before .before .before .before .before .before .before .before .before .before .before .before .before .before .before .before .before .before .before) .loop .inv in
@@ -545,7 +580,7 @@ write-attributes-put-attribute-requires t c κs =
     let kept = (c .before .before .before) .if1 .left in
     (joining-room w p (name .result) (name .ensures .0) (skipped .result .entries) (skipped .result .bytes) (skipped .ensures) (len .result) (len .ensures .0) (pair .last .1 .1 .1 .1 .1 .1 .1 .0) (pair .result) (pair .ensures) kept, (name .ensures .1, omega (arith, joining-small w p (name .result) (name .ensures .0) (skipped .result .entries) (skipped .result .bytes) (skipped .ensures) (len .result) (len .ensures .0) (pair .last .1 .1 .1 .1 .1 .1 .1 .0) (pair .result) (pair .ensures) kept)))
 
--- src/bound_writes.rt:197:9
+-- src/bound_writes.rt:191:9
 write-attributes-add-next : (t : ℕ) → write-attributes-lts.Need-add-next (write-attributes-callees t) (write-attributes-at t) write-attributes.Post write-attributes-Inv-loop write-attributes-μ-loop
 write-attributes-add-next t c =
     let w = (c .before .before .before .before .before .before .before .before .before .before .before .before .before .before .before .before .before .before .before .before .before .before .before) .loop .inv in
@@ -556,7 +591,7 @@ write-attributes-add-next t c =
     let pair = (c .before .before .before .before .before .before .before .before .before .before .before) .write-pair in
     omega (arith, joining-small w p (name .result) (name .ensures .0) (skipped .result .entries) (skipped .result .bytes) (skipped .ensures) (len .result) (len .ensures .0) (pair .last .1 .1 .1 .1 .1 .1 .1 .0) (pair .result) (pair .ensures) ((c .before .before .before .before .before .before) .if1 .left))
 
--- src/bound_writes.rt:198:9
+-- src/bound_writes.rt:192:9
 write-attributes-add-pos : (t : ℕ) → write-attributes-lts.Need-add-pos (write-attributes-callees t) (write-attributes-at t) write-attributes.Post write-attributes-Inv-loop write-attributes-μ-loop
 write-attributes-add-pos t c =
     let w = (c .before .before .before .before .before .before .before .before .before .before .before .before .before .before .before .before .before .before .before .before .before .before .before) .loop .inv in
@@ -567,11 +602,11 @@ write-attributes-add-pos t c =
     let pair = (c .before .before .before .before .before .before .before .before .before .before .before) .write-pair in
     omega (arith, joining-small w p (name .result) (name .ensures .0) (skipped .result .entries) (skipped .result .bytes) (skipped .ensures) (len .result) (len .ensures .0) (pair .last .1 .1 .1 .1 .1 .1 .1 .0) (pair .result) (pair .ensures) ((c .before .before .before .before .before .before) .if1 .left))
 
--- src/bound_writes.rt:179:5
+-- src/bound_writes.rt:173:5
 write-attributes-loop-less-2 : (t : ℕ) → write-attributes-lts.Need-loop-less-2 (write-attributes-callees t) (write-attributes-at t) write-attributes.Post write-attributes-Inv-loop write-attributes-μ-loop
 write-attributes-loop-less-2 t c = omega arith
 
--- src/bound_writes.rt:179:5
+-- src/bound_writes.rt:173:5
 write-attributes-loop-again-2 : (t : ℕ) → write-attributes-lts.Need-loop-again-2 (write-attributes-callees t) (write-attributes-at t) write-attributes.Post write-attributes-Inv-loop write-attributes-μ-loop
 write-attributes-loop-again-2 t c =
     let w = (c .before .before .before .before .before .before .before .before .before .before .before .before .before .before .before .before .before .before .before .before .before .before .before) .loop .inv in
@@ -584,11 +619,11 @@ write-attributes-loop-again-2 t c =
     let put = (c .before .before) .put-attribute in
     joining-some w p (name .result) (name .ensures .0) (skipped .result .entries) (skipped .result .bytes) (skipped .ensures) (len .result) (len .ensures .0) (pair .last .1 .1 .1 .1 .1 .1 .1 .0) (pair .result) (pair .ensures) ((c .before .before .before .before .before .before) .if1 .left) (flag .result) (put .last .0) (flag .ensures) (put .ensures)
 
--- src/bound_writes.rt:156:1
+-- src/bound_writes.rt:158:1
 write-attributes-same-length : (t : ℕ) → write-attributes-lts.Need-same-length (write-attributes-callees t) (write-attributes-at t) write-attributes.Post write-attributes-Inv-loop write-attributes-μ-loop
 write-attributes-same-length t c = joining-length ((c .before) .loop .inv)
 
--- src/bound_writes.rt:156:1
+-- src/bound_writes.rt:158:1
 write-attributes-returns : (t : ℕ) → write-attributes-lts.Need-returns (write-attributes-callees t) (write-attributes-at t) write-attributes.Post write-attributes-Inv-loop write-attributes-μ-loop
 write-attributes-returns t c = joining-end ((c .before) .loop .inv) (c .loop-test .left)
 
@@ -778,15 +813,39 @@ write-bound-write-record-requires t c κs =
     let key = (c .before) .match .keys2 in
     (omega (arith, start .pre .0, is-record (start .args .levels) (start .args .a .now) (start .pre .1 .0) key .deep), ((start .pre .1 .0, key), ((start .pre .1 .1 .0, sym ((c .before .before) .if3 .left) ∙ key), start .pre .1 .1 .1)))
 
+-- src/bound_writes.rt:105:39
+write-bound-sub-write-entities : (t : ℕ) → write-bound-lts.Need-sub-write-entities (write-bound-callees t) (write-bound-at t) write-bound.Post
+write-bound-sub-write-entities t c = omega arith
+
+-- src/bound_writes.rt:105:39
+write-bound-part-write-entities-start : (t : ℕ) → write-bound-lts.Need-part-write-entities-start (write-bound-callees t) (write-bound-at t) write-bound.Post
+write-bound-part-write-entities-start t c = omega arith
+
+-- src/bound_writes.rt:105:39
+write-bound-part-write-entities-end : (t : ℕ) → write-bound-lts.Need-part-write-entities-end (write-bound-callees t) (write-bound-at t) write-bound.Post
+write-bound-part-write-entities-end t c = search needs
+
+-- src/bound_writes.rt:105:48
+write-bound-sub-write-entities-2 : (t : ℕ) → write-bound-lts.Need-sub-write-entities-2 (write-bound-callees t) (write-bound-at t) write-bound.Post
+write-bound-sub-write-entities-2 t c = omega arith
+
+-- src/bound_writes.rt:105:48
+write-bound-part-write-entities-start-2 : (t : ℕ) → write-bound-lts.Need-part-write-entities-start-2 (write-bound-callees t) (write-bound-at t) write-bound.Post
+write-bound-part-write-entities-start-2 t c = omega arith
+
+-- src/bound_writes.rt:105:48
+write-bound-part-write-entities-end-2 : (t : ℕ) → write-bound-lts.Need-part-write-entities-end-2 (write-bound-callees t) (write-bound-at t) write-bound.Post
+write-bound-part-write-entities-end-2 t c = search needs
+
 -- src/bound_writes.rt:105:17
 write-bound-write-entities-requires : (t : ℕ) → write-bound-lts.Need-write-entities-requires (write-bound-callees t) (write-bound-at t) write-bound.Post
 write-bound-write-entities-requires t c κs =
-    let start = (c .before .before .before .before .before .before .before .before .before .before .before) in
-    let g = given (start .args .mode) (start .args .levels) (start .args .a .now) (start .args .b .now) (start .pre .1 .0) (start .pre .1 .1 .0) (λ i. (c .before .before .before .before .before .before .before .before .before .before) .shared-slice-known .given i .fits) (λ i. (c .before .before .before .before .before .before .before .before .before) .shared-slice-known2 .given i .fits) (start .pre .1 .1 .1) in
-    let same = (c .before .before .before) .if3 .left in
-    let first = is-entity (start .args .levels) (start .args .a .now) (start .pre .1 .0) ((c .before .before) .match .keys3) in
-    let second = is-entity (start .args .levels) (start .args .b .now) (start .pre .1 .1 .0) (sym same ∙ (c .before .before) .match .keys3) in
-    ((first .sized, first .up), ((second .sized, second .up), entities-union g same ((c .before .before) .match .keys3) ((c .before) .if4 .taken) .ready))
+    let start = (c .before .before .before .before .before .before .before .before .before .before .before .before .before) in
+    let g = given (start .args .mode) (start .args .levels) (start .args .a .now) (start .args .b .now) (start .pre .1 .0) (start .pre .1 .1 .0) (λ i. (c .before .before .before .before .before .before .before .before .before .before .before .before) .shared-slice-known .given i .fits) (λ i. (c .before .before .before .before .before .before .before .before .before .before .before) .shared-slice-known2 .given i .fits) (start .pre .1 .1 .1) in
+    let same = (c .before .before .before .before .before) .if3 .left in
+    let first = is-entity (start .args .levels) (start .args .a .now) (start .pre .1 .0) ((c .before .before .before .before) .match .keys3) in
+    let second = is-entity (start .args .levels) (start .args .b .now) (start .pre .1 .1 .0) (sym same ∙ (c .before .before .before .before) .match .keys3) in
+    rw (rest-0 (start .args .a .now), rest-0 (start .args .b .now)) ((first .sized, first .up), ((second .sized, second .up), entities-union g same ((c .before .before .before .before) .match .keys3) ((c .before .before .before) .if4 .taken) .ready))
 
 -- src/bound_writes.rt:105:17
 write-bound-same-length-4 : (t : ℕ) → write-bound-lts.Need-same-length-4 (write-bound-callees t) (write-bound-at t) write-bound.Post
@@ -795,10 +854,10 @@ write-bound-same-length-4 t c = search needs
 -- src/bound_writes.rt:105:17
 write-bound-returns-4 : (t : ℕ) → write-bound-lts.Need-returns-4 (write-bound-callees t) (write-bound-at t) write-bound.Post
 write-bound-returns-4 t c =
-    let start = (c .before .before .before .before .before .before .before .before .before .before .before .before .before .before) in
-    let g = given (start .args .mode) (start .args .levels) (start .args .a .now) (start .args .b .now) (start .pre .1 .0) (start .pre .1 .1 .0) (λ i. (c .before .before .before .before .before .before .before .before .before .before .before .before .before) .shared-slice-known .given i .fits) (λ i. (c .before .before .before .before .before .before .before .before .before .before .before .before) .shared-slice-known2 .given i .fits) (start .pre .1 .1 .1) in
-    let same = (c .before .before .before .before .before .before) .if3 .left in
-    entities-union g same ((c .before .before .before .before .before) .match .keys3) ((c .before .before .before .before) .if4 .taken) .written _ _ ((c .before .before) .write-entities .ensures)
+    let start = (c .before .before .before .before .before .before .before .before .before .before .before .before .before .before .before .before) in
+    let g = given (start .args .mode) (start .args .levels) (start .args .a .now) (start .args .b .now) (start .pre .1 .0) (start .pre .1 .1 .0) (λ i. (c .before .before .before .before .before .before .before .before .before .before .before .before .before .before .before) .shared-slice-known .given i .fits) (λ i. (c .before .before .before .before .before .before .before .before .before .before .before .before .before .before) .shared-slice-known2 .given i .fits) (start .pre .1 .1 .1) in
+    let same = (c .before .before .before .before .before .before .before .before) .if3 .left in
+    entities-union g same ((c .before .before .before .before .before .before .before) .match .keys3) ((c .before .before .before .before .before .before) .if4 .taken) .written _ _ (rw (rest-0 (start .args .a .now), rest-0 (start .args .b .now)) at ((c .before .before) .write-entities .ensures))
 
 -- src/bound_writes.rt:107:13
 write-bound-write-form-requires-3 : (t : ℕ) → write-bound-lts.Need-write-form-requires-3 (write-bound-callees t) (write-bound-at t) write-bound.Post
@@ -844,17 +903,41 @@ write-bound-returns-5 t c =
     let i = (c .before .before .before .before .before) .u16-at2 in
     actions-unlike g same ((c .before .before .before .before .before .before .before) .match .keys4) (n .result) (i .result) (n .ensures .0) (i .ensures .0) ((c .before .before .before .before) .if5 .taken) .written _ _ ((c .before .before) .write-unlike2 .ensures)
 
+-- src/bound_writes.rt:113:26
+write-bound-sub-write-action : (t : ℕ) → write-bound-lts.Need-sub-write-action (write-bound-callees t) (write-bound-at t) write-bound.Post
+write-bound-sub-write-action t c = omega arith
+
+-- src/bound_writes.rt:113:26
+write-bound-part-write-action-start : (t : ℕ) → write-bound-lts.Need-part-write-action-start (write-bound-callees t) (write-bound-at t) write-bound.Post
+write-bound-part-write-action-start t c = omega arith
+
+-- src/bound_writes.rt:113:26
+write-bound-part-write-action-end : (t : ℕ) → write-bound-lts.Need-part-write-action-end (write-bound-callees t) (write-bound-at t) write-bound.Post
+write-bound-part-write-action-end t c = search needs
+
+-- src/bound_writes.rt:113:35
+write-bound-sub-write-action-2 : (t : ℕ) → write-bound-lts.Need-sub-write-action-2 (write-bound-callees t) (write-bound-at t) write-bound.Post
+write-bound-sub-write-action-2 t c = omega arith
+
+-- src/bound_writes.rt:113:35
+write-bound-part-write-action-start-2 : (t : ℕ) → write-bound-lts.Need-part-write-action-start-2 (write-bound-callees t) (write-bound-at t) write-bound.Post
+write-bound-part-write-action-start-2 t c = omega arith
+
+-- src/bound_writes.rt:113:35
+write-bound-part-write-action-end-2 : (t : ℕ) → write-bound-lts.Need-part-write-action-end-2 (write-bound-callees t) (write-bound-at t) write-bound.Post
+write-bound-part-write-action-end-2 t c = search needs
+
 -- src/bound_writes.rt:113:13
 write-bound-write-action-requires : (t : ℕ) → write-bound-lts.Need-write-action-requires (write-bound-callees t) (write-bound-at t) write-bound.Post
 write-bound-write-action-requires t c κs =
-    let start = (c .before .before .before .before .before .before .before .before .before .before .before .before .before) in
-    let g = given (start .args .mode) (start .args .levels) (start .args .a .now) (start .args .b .now) (start .pre .1 .0) (start .pre .1 .1 .0) (λ i. (c .before .before .before .before .before .before .before .before .before .before .before .before) .shared-slice-known .given i .fits) (λ i. (c .before .before .before .before .before .before .before .before .before .before .before) .shared-slice-known2 .given i .fits) (start .pre .1 .1 .1) in
-    let same = (c .before .before .before .before .before) .if3 .left in
-    let n = (c .before .before .before) .u16-at in
-    let i = (c .before .before) .u16-at2 in
-    let key = (c .before .before .before .before) .match .keys4 in
-    let named = (c .before) .if5 .left in
-    (omega (arith, start .pre .0, is-action (start .args .levels) (start .args .a .now) (start .pre .1 .0) key .deep), ((start .pre .1 .0, key), ((start .pre .1 .1 .0, sym same ∙ key), (sym (n .ensures .0) ∙ named ∙ i .ensures .0, actions-strict g same ((c .before .before .before .before) .match .keys4) (n .result) (i .result) (n .ensures .0) (i .ensures .0) named .ready))))
+    let start = (c .before .before .before .before .before .before .before .before .before .before .before .before .before .before .before) in
+    let g = given (start .args .mode) (start .args .levels) (start .args .a .now) (start .args .b .now) (start .pre .1 .0) (start .pre .1 .1 .0) (λ i. (c .before .before .before .before .before .before .before .before .before .before .before .before .before .before) .shared-slice-known .given i .fits) (λ i. (c .before .before .before .before .before .before .before .before .before .before .before .before .before) .shared-slice-known2 .given i .fits) (start .pre .1 .1 .1) in
+    let same = (c .before .before .before .before .before .before .before) .if3 .left in
+    let n = (c .before .before .before .before .before) .u16-at in
+    let i = (c .before .before .before .before) .u16-at2 in
+    let key = (c .before .before .before .before .before .before) .match .keys4 in
+    let named = (c .before .before .before) .if5 .left in
+    (omega (arith, start .pre .0, is-action (start .args .levels) (start .args .a .now) (start .pre .1 .0) key .deep), rw (rest-0 (start .args .a .now), rest-0 (start .args .b .now)) ((start .pre .1 .0, key), ((start .pre .1 .1 .0, sym same ∙ key), (sym (n .ensures .0) ∙ named ∙ i .ensures .0, actions-strict g same ((c .before .before .before .before .before .before) .match .keys4) (n .result) (i .result) (n .ensures .0) (i .ensures .0) named .ready))))
 
 -- src/bound_writes.rt:115:14
 write-bound-write-form-requires-4 : (t : ℕ) → write-bound-lts.Need-write-form-requires-4 (write-bound-callees t) (write-bound-at t) write-bound.Post
@@ -907,12 +990,12 @@ write-bound-same-length-9 t c = search needs
 -- src/bound_writes.rt:78:1
 write-bound-returns-9 : (t : ℕ) → write-bound-lts.Need-returns-9 (write-bound-callees t) (write-bound-at t) write-bound.Post
 write-bound-returns-9 t c =
-    let start = (c .before .before .before .before .before .before .before .before .before .before .before .before .before .before .before .before) in
-    let g = given (start .args .mode) (start .args .levels) (start .args .a .now) (start .args .b .now) (start .pre .1 .0) (start .pre .1 .1 .0) (λ i. (c .before .before .before .before .before .before .before .before .before .before .before .before .before .before .before) .shared-slice-known .given i .fits) (λ i. (c .before .before .before .before .before .before .before .before .before .before .before .before .before .before) .shared-slice-known2 .given i .fits) (start .pre .1 .1 .1) in
-    let same = (c .before .before .before .before .before .before .before .before) .if3 .left in
-    let n = (c .before .before .before .before .before .before) .u16-at in
-    let i = (c .before .before .before .before .before) .u16-at2 in
-    actions-strict g same ((c .before .before .before .before .before .before .before) .match .keys4) (n .result) (i .result) (n .ensures .0) (i .ensures .0) ((c .before .before .before .before) .if5 .left) .written _ _ ((c .before .before) .write-action .ensures)
+    let start = (c .before .before .before .before .before .before .before .before .before .before .before .before .before .before .before .before .before .before) in
+    let g = given (start .args .mode) (start .args .levels) (start .args .a .now) (start .args .b .now) (start .pre .1 .0) (start .pre .1 .1 .0) (λ i. (c .before .before .before .before .before .before .before .before .before .before .before .before .before .before .before .before .before) .shared-slice-known .given i .fits) (λ i. (c .before .before .before .before .before .before .before .before .before .before .before .before .before .before .before .before) .shared-slice-known2 .given i .fits) (start .pre .1 .1 .1) in
+    let same = (c .before .before .before .before .before .before .before .before .before .before) .if3 .left in
+    let n = (c .before .before .before .before .before .before .before .before) .u16-at in
+    let i = (c .before .before .before .before .before .before .before) .u16-at2 in
+    actions-strict g same ((c .before .before .before .before .before .before .before .before .before) .match .keys4) (n .result) (i .result) (n .ensures .0) (i .ensures .0) ((c .before .before .before .before .before .before) .if5 .left) .written _ _ (rw (rest-0 (start .args .a .now), rest-0 (start .args .b .now)) at ((c .before .before) .write-action .ensures))
 
 -- src/bound_writes.rt:78:1
 write-bound-same-length-10 : (t : ℕ) → write-bound-lts.Need-same-length-10 (write-bound-callees t) (write-bound-at t) write-bound.Post
@@ -937,35 +1020,35 @@ write-pair-callees t = (
   write-bound.Post,
 )
 
--- src/bound_writes.rt:220:9
+-- src/bound_writes.rt:214:9
 write-pair-pair-kept-requires : (t : ℕ) → write-pair-lts.Need-pair-kept-requires (write-pair-callees t) (write-pair-at t) write-pair.Post
 write-pair-pair-kept-requires t c κs =
     let start = (c .before .before .before .before .before) in
     (start .pre .1 .0 .0, (start .pre .1 .1 .0, (start .pre .1 .1 .1 .0, met-known (start .args .e .now) (start .pre .1 .1 .1 .0) (asMode (start .args .mode)) (dec (start .args .levels) (start .args .t .now)) (start .pre .1 .1 .1 .1))))
 
--- src/bound_writes.rt:221:9
+-- src/bound_writes.rt:215:9
 write-pair-returns : (t : ℕ) → write-pair-lts.Need-returns (write-pair-callees t) (write-pair-at t) write-pair.Post
 write-pair-returns t c =
     let start = (c .before .before .before .before .before .before .before) in
     let kept = (c .before) .pair-kept in
     met-dropped (start .args .e .now) (start .pre .1 .1 .1 .0) (asMode (start .args .mode)) (dec (start .args .levels) (start .args .t .now)) (kept .result) (kept .ensures) _ (c .if1 .taken)
 
--- src/bound_writes.rt:223:9
+-- src/bound_writes.rt:217:9
 write-pair-u16-at-requires : (t : ℕ) → write-pair-lts.Need-u16-at-requires (write-pair-callees t) (write-pair-at t) write-pair.Post
 write-pair-u16-at-requires t c κs =
     let start = (c .before .before .before .before .before .before .before) in
     let kept = (c .before) .pair-kept in
     omega (arith, met-room (start .args .e .now) (start .pre .1 .1 .1 .0) (asMode (start .args .mode)) (dec (start .args .levels) (start .args .t .now)) (kept .result) (kept .ensures) (c .if1 .left))
 
--- src/bound_writes.rt:224:26
+-- src/bound_writes.rt:218:26
 write-pair-sub-write-bound : (t : ℕ) → write-pair-lts.Need-sub-write-bound (write-pair-callees t) (write-pair-at t) write-pair.Post
 write-pair-sub-write-bound t c = search needs
 
--- src/bound_writes.rt:224:26
+-- src/bound_writes.rt:218:26
 write-pair-part-write-bound-start : (t : ℕ) → write-pair-lts.Need-part-write-bound-start (write-pair-callees t) (write-pair-at t) write-pair.Post
 write-pair-part-write-bound-start t c = search needs
 
--- src/bound_writes.rt:224:26
+-- src/bound_writes.rt:218:26
 write-pair-part-write-bound-end : (t : ℕ) → write-pair-lts.Need-part-write-bound-end (write-pair-callees t) (write-pair-at t) write-pair.Post
 write-pair-part-write-bound-end t c =
     let start = (c .before .before .before .before .before .before .before .before) in
@@ -973,7 +1056,7 @@ write-pair-part-write-bound-end t c =
     let len = c .u16-at in
     omega (arith, met-body (start .args .e .now) (start .pre .1 .1 .1 .0) (asMode (start .args .mode)) (dec (start .args .levels) (start .args .t .now)) (kept .result) (kept .ensures) ((c .before) .if1 .left) (len .result) (len .ensures .0) .0)
 
--- src/bound_writes.rt:224:5
+-- src/bound_writes.rt:218:5
 write-pair-write-bound-requires : (t : ℕ) → write-pair-lts.Need-write-bound-requires (write-pair-callees t) (write-pair-at t) write-pair.Post
 write-pair-write-bound-requires t c κs =
     let start = (c .before .before .before .before .before .before .before .before .before .before) in
@@ -981,11 +1064,11 @@ write-pair-write-bound-requires t c κs =
     let len = (c .before .before) .u16-at in
     (omega (arith, start .pre .0), (start .pre .1 .1 .0, (met-body (start .args .e .now) (start .pre .1 .1 .1 .0) (asMode (start .args .mode)) (dec (start .args .levels) (start .args .t .now)) (kept .result) (kept .ensures) ((c .before .before .before) .if1 .left) (len .result) (len .ensures .0) .1, met-ready (start .args .e .now) (start .pre .1 .1 .1 .0) (asMode (start .args .mode)) (dec (start .args .levels) (start .args .t .now)) (kept .result) (kept .ensures) ((c .before .before .before) .if1 .left) (len .result) (len .ensures .0) (start .pre .1 .1 .1 .1))))
 
--- src/bound_writes.rt:204:1
+-- src/bound_writes.rt:198:1
 write-pair-same-length : (t : ℕ) → write-pair-lts.Need-same-length (write-pair-callees t) (write-pair-at t) write-pair.Post
 write-pair-same-length t c = search needs
 
--- src/bound_writes.rt:204:1
+-- src/bound_writes.rt:198:1
 write-pair-returns-2 : (t : ℕ) → write-pair-lts.Need-returns-2 (write-pair-callees t) (write-pair-at t) write-pair.Post
 write-pair-returns-2 t c =
     let start = (c .before .before .before .before .before .before .before .before .before .before .before .before .before) in
@@ -1007,122 +1090,156 @@ write-record-callees t = (
   write-attributes.Post,
 )
 
--- src/bound_writes.rt:127:40
+-- src/bound_writes.rt:126:13
+write-record-sub-x : (t : ℕ) → write-record-lts.Need-sub-x (write-record-callees t) (write-record-at t) write-record.Post
+write-record-sub-x t c =
+    let start = (c .before .before .before) in
+    let key = start .pre .1 .0 .1 in
+    omega (arith, is-record (start .args .levels) (start .args .a .now) (start .pre .1 .0 .0) key .some)
+
+-- src/bound_writes.rt:126:13
+write-record-part-x-start : (t : ℕ) → write-record-lts.Need-part-x-start (write-record-callees t) (write-record-at t) write-record.Post
+write-record-part-x-start t c =
+    let start = (c .before .before .before) in
+    let key = start .pre .1 .0 .1 in
+    omega (arith, is-record (start .args .levels) (start .args .a .now) (start .pre .1 .0 .0) key .some)
+
+-- src/bound_writes.rt:126:13
+write-record-part-x-end : (t : ℕ) → write-record-lts.Need-part-x-end (write-record-callees t) (write-record-at t) write-record.Post
+write-record-part-x-end t c = search needs
+
+-- src/bound_writes.rt:127:13
+write-record-sub-y : (t : ℕ) → write-record-lts.Need-sub-y (write-record-callees t) (write-record-at t) write-record.Post
+write-record-sub-y t c =
+    let start = (c .before .before .before .before) in
+    omega (arith, is-record (start .args .levels) (start .args .b .now) (start .pre .1 .1 .0 .0) (start .pre .1 .1 .0 .1) .some)
+
+-- src/bound_writes.rt:127:13
+write-record-part-y-start : (t : ℕ) → write-record-lts.Need-part-y-start (write-record-callees t) (write-record-at t) write-record.Post
+write-record-part-y-start t c =
+    let start = (c .before .before .before .before) in
+    omega (arith, is-record (start .args .levels) (start .args .b .now) (start .pre .1 .1 .0 .0) (start .pre .1 .1 .0 .1) .some)
+
+-- src/bound_writes.rt:127:13
+write-record-part-y-end : (t : ℕ) → write-record-lts.Need-part-y-end (write-record-callees t) (write-record-at t) write-record.Post
+write-record-part-y-end t c = search needs
+
+-- src/bound_writes.rt:128:36
 write-record-sub-kept-count : (t : ℕ) → write-record-lts.Need-sub-kept-count (write-record-callees t) (write-record-at t) write-record.Post
 write-record-sub-kept-count t c =
-    let start = (c .before .before .before) in
+    let start = (c .before .before .before .before .before) in
     let key = start .pre .1 .0 .1 in
     omega (arith, is-record (start .args .levels) (start .args .a .now) (start .pre .1 .0 .0) key .deep)
 
--- src/bound_writes.rt:127:9
+-- src/bound_writes.rt:128:9
 write-record-kept-count-requires : (t : ℕ) → write-record-lts.Need-kept-count-requires (write-record-callees t) (write-record-at t) write-record.Post
 write-record-kept-count-requires t c κs =
-    let start = (c .before .before .before) in
-    let key = start .pre .1 .0 .1 in
-    let same = key ∙ sym (start .pre .1 .1 .0 .1) in
-    let g = given (start .args .mode) (start .args .levels) (start .args .a .now) (start .args .b .now) (start .pre .1 .0 .0) (start .pre .1 .1 .0 .0) (λ i. (c .before .before) .shared-slice-known .given i .fits) (λ i. (c .before) .shared-slice-known2 .given i .fits) (start .pre .1 .1 .1) in
-    (record-tabled (start .args .levels) (start .args .a .now) (start .pre .1 .0 .0) key, (record-tabled (start .args .levels) (start .args .b .now) (start .pre .1 .1 .0 .0) (start .pre .1 .1 .0 .1), records-known g same key))
-
--- src/bound_writes.rt:129:9
-write-record-shared-slice-read-open-byte : (t : ℕ) → write-record-lts.Need-shared-slice-read-open-byte (write-record-callees t) (write-record-at t) write-record.Post
-write-record-shared-slice-read-open-byte t c =
     let start = (c .before .before .before .before .before) in
     let key = start .pre .1 .0 .1 in
-    omega (arith, is-record (start .args .levels) (start .args .a .now) (start .pre .1 .0 .0) key .some)
+    let same = key ∙ sym (start .pre .1 .1 .0 .1) in
+    let g = given (start .args .mode) (start .args .levels) (start .args .a .now) (start .args .b .now) (start .pre .1 .0 .0) (start .pre .1 .1 .0 .0) (λ i. (c .before .before .before .before) .shared-slice-known .given i .fits) (λ i. (c .before .before .before) .shared-slice-known2 .given i .fits) (start .pre .1 .1 .1) in
+    (record-tabled (start .args .levels) (start .args .a .now) (start .pre .1 .0 .0) key, (record-tabled (start .args .levels) (start .args .b .now) (start .pre .1 .1 .0 .0) (start .pre .1 .1 .0 .1), records-known g same key))
 
 -- src/bound_writes.rt:130:9
-write-record-shared-slice-read-open-byte-2 : (t : ℕ) → write-record-lts.Need-shared-slice-read-open-byte-2 (write-record-callees t) (write-record-at t) write-record.Post
-write-record-shared-slice-read-open-byte-2 t c =
-    let start = (c .before .before .before .before .before .before) in
-    omega (arith, is-record (start .args .levels) (start .args .b .now) (start .pre .1 .1 .0 .0) (start .pre .1 .1 .0 .1) .some)
-
--- src/bound_writes.rt:132:9
-write-record-u16-at-requires : (t : ℕ) → write-record-lts.Need-u16-at-requires (write-record-callees t) (write-record-at t) write-record.Post
-write-record-u16-at-requires t c κs =
-    let start = (c .before .before .before .before .before .before) in
+write-record-shared-slice-read-open-byte : (t : ℕ) → write-record-lts.Need-shared-slice-read-open-byte (write-record-callees t) (write-record-at t) write-record.Post
+write-record-shared-slice-read-open-byte t c =
+    let start = (c .before .before .before .before .before .before .before) in
     let key = start .pre .1 .0 .1 in
     omega (arith, is-record (start .args .levels) (start .args .a .now) (start .pre .1 .0 .0) key .some)
 
--- src/bound_writes.rt:133:9
-write-record-u16-at-requires-2 : (t : ℕ) → write-record-lts.Need-u16-at-requires-2 (write-record-callees t) (write-record-at t) write-record.Post
-write-record-u16-at-requires-2 t c κs =
-    let start = (c .before .before .before .before .before .before .before) in
+-- src/bound_writes.rt:131:9
+write-record-shared-slice-read-open-byte-2 : (t : ℕ) → write-record-lts.Need-shared-slice-read-open-byte-2 (write-record-callees t) (write-record-at t) write-record.Post
+write-record-shared-slice-read-open-byte-2 t c =
+    let start = (c .before .before .before .before .before .before .before .before) in
     omega (arith, is-record (start .args .levels) (start .args .b .now) (start .pre .1 .1 .0 .0) (start .pre .1 .1 .0 .1) .some)
 
--- src/bound_writes.rt:128:9
+-- src/bound_writes.rt:133:9
+write-record-u16-at-requires : (t : ℕ) → write-record-lts.Need-u16-at-requires (write-record-callees t) (write-record-at t) write-record.Post
+write-record-u16-at-requires t c κs =
+    let start = (c .before .before .before .before .before .before .before .before) in
+    let key = start .pre .1 .0 .1 in
+    omega (arith, is-record (start .args .levels) (start .args .a .now) (start .pre .1 .0 .0) key .some, length-rest 2 (start .args .a .now))
+
+-- src/bound_writes.rt:134:9
+write-record-u16-at-requires-2 : (t : ℕ) → write-record-lts.Need-u16-at-requires-2 (write-record-callees t) (write-record-at t) write-record.Post
+write-record-u16-at-requires-2 t c κs =
+    let start = (c .before .before .before .before .before .before .before .before .before) in
+    omega (arith, is-record (start .args .levels) (start .args .b .now) (start .pre .1 .1 .0 .0) (start .pre .1 .1 .0 .1) .some, length-rest 2 (start .args .b .now))
+
+-- src/bound_writes.rt:129:9
 write-record-open-byte-requires : (t : ℕ) → write-record-lts.Need-open-byte-requires (write-record-callees t) (write-record-at t) write-record.Post
 write-record-open-byte-requires t c κs = search needs
 
--- src/bound_writes.rt:135:5
+-- src/bound_writes.rt:136:5
 write-record-put-record-requires : (t : ℕ) → write-record-lts.Need-put-record-requires (write-record-callees t) (write-record-at t) write-record.Post
 write-record-put-record-requires t c κs =
-    let start = (c .before .before .before .before .before .before .before .before .before .before) in
+    let start = (c .before .before .before .before .before .before .before .before .before .before .before .before) in
     let key = start .pre .1 .0 .1 in
     let same = key ∙ sym (start .pre .1 .1 .0 .1) in
-    let g = given (start .args .mode) (start .args .levels) (start .args .a .now) (start .args .b .now) (start .pre .1 .0 .0) (start .pre .1 .1 .0 .0) (λ i. (c .before .before .before .before .before .before .before .before .before) .shared-slice-known .given i .fits) (λ i. (c .before .before .before .before .before .before .before .before) .shared-slice-known2 .given i .fits) (start .pre .1 .1 .1) in
+    let g = given (start .args .mode) (start .args .levels) (start .args .a .now) (start .args .b .now) (start .pre .1 .0 .0) (start .pre .1 .1 .0 .0) (λ i. (c .before .before .before .before .before .before .before .before .before .before .before) .shared-slice-known .given i .fits) (λ i. (c .before .before .before .before .before .before .before .before .before .before) .shared-slice-known2 .given i .fits) (start .pre .1 .1 .1) in
     let kept = (c .before .before .before .before .before .before) .kept-count in
     let cut = records-cut g same key (kept .result) ((c .before .before .before) .u16-at .result) ((c .before .before) .u16-at2 .result) ((c .before) .open-byte .result) (kept .ensures) ((c .before .before .before) .u16-at .ensures .0) ((c .before .before) .u16-at2 .ensures .0) ((c .before) .open-byte .ensures) in
     (behind-front cut (g .ready), kept-few (behind-ready cut (g .ready) _ 4 refl refl) (kept .result) (kept .ensures))
 
--- src/bound_writes.rt:137:41
+-- src/bound_writes.rt:138:37
 write-record-sub-write-attributes : (t : ℕ) → write-record-lts.Need-sub-write-attributes (write-record-callees t) (write-record-at t) write-record.Post
 write-record-sub-write-attributes t c =
-    let start = (c .before .before .before .before .before .before .before .before .before .before .before .before .before) in
+    let start = (c .before .before .before .before .before .before .before .before .before .before .before .before .before .before .before) in
     let key = start .pre .1 .0 .1 in
     omega (arith, is-record (start .args .levels) (start .args .a .now) (start .pre .1 .0 .0) key .deep)
 
--- src/bound_writes.rt:137:53
+-- src/bound_writes.rt:138:49
 write-record-sub-write-attributes-2 : (t : ℕ) → write-record-lts.Need-sub-write-attributes-2 (write-record-callees t) (write-record-at t) write-record.Post
 write-record-sub-write-attributes-2 t c =
-    let start = (c .before .before .before .before .before .before .before .before .before .before .before .before .before) in
+    let start = (c .before .before .before .before .before .before .before .before .before .before .before .before .before .before .before) in
     let key = start .pre .1 .0 .1 in
     let same = key ∙ sym (start .pre .1 .1 .0 .1) in
-    let g = given (start .args .mode) (start .args .levels) (start .args .a .now) (start .args .b .now) (start .pre .1 .0 .0) (start .pre .1 .1 .0 .0) (λ i. (c .before .before .before .before .before .before .before .before .before .before .before .before) .shared-slice-known .given i .fits) (λ i. (c .before .before .before .before .before .before .before .before .before .before .before) .shared-slice-known2 .given i .fits) (start .pre .1 .1 .1) in
+    let g = given (start .args .mode) (start .args .levels) (start .args .a .now) (start .args .b .now) (start .pre .1 .0 .0) (start .pre .1 .1 .0 .0) (λ i. (c .before .before .before .before .before .before .before .before .before .before .before .before .before .before) .shared-slice-known .given i .fits) (λ i. (c .before .before .before .before .before .before .before .before .before .before .before .before .before) .shared-slice-known2 .given i .fits) (start .pre .1 .1 .1) in
     let kept = (c .before .before .before .before .before .before .before .before .before) .kept-count in
     let cut = records-cut g same key (kept .result) ((c .before .before .before .before .before .before) .u16-at .result) ((c .before .before .before .before .before) .u16-at2 .result) ((c .before .before .before .before) .open-byte .result) (kept .ensures) ((c .before .before .before .before .before .before) .u16-at .ensures .0) ((c .before .before .before .before .before) .u16-at2 .ensures .0) ((c .before .before .before .before) .open-byte .ensures) in
     let put = (c .before .before) .put-record in
     omega (arith, behind-at cut (g .ready) (put .last .0) 4 (put .ensures) refl)
 
--- src/bound_writes.rt:137:53
+-- src/bound_writes.rt:138:49
 write-record-part-write-attributes-start : (t : ℕ) → write-record-lts.Need-part-write-attributes-start (write-record-callees t) (write-record-at t) write-record.Post
 write-record-part-write-attributes-start t c =
-    let start = (c .before .before .before .before .before .before .before .before .before .before .before .before .before) in
+    let start = (c .before .before .before .before .before .before .before .before .before .before .before .before .before .before .before) in
     let key = start .pre .1 .0 .1 in
     let same = key ∙ sym (start .pre .1 .1 .0 .1) in
-    let g = given (start .args .mode) (start .args .levels) (start .args .a .now) (start .args .b .now) (start .pre .1 .0 .0) (start .pre .1 .1 .0 .0) (λ i. (c .before .before .before .before .before .before .before .before .before .before .before .before) .shared-slice-known .given i .fits) (λ i. (c .before .before .before .before .before .before .before .before .before .before .before) .shared-slice-known2 .given i .fits) (start .pre .1 .1 .1) in
+    let g = given (start .args .mode) (start .args .levels) (start .args .a .now) (start .args .b .now) (start .pre .1 .0 .0) (start .pre .1 .1 .0 .0) (λ i. (c .before .before .before .before .before .before .before .before .before .before .before .before .before .before) .shared-slice-known .given i .fits) (λ i. (c .before .before .before .before .before .before .before .before .before .before .before .before .before) .shared-slice-known2 .given i .fits) (start .pre .1 .1 .1) in
     let kept = (c .before .before .before .before .before .before .before .before .before) .kept-count in
     let cut = records-cut g same key (kept .result) ((c .before .before .before .before .before .before) .u16-at .result) ((c .before .before .before .before .before) .u16-at2 .result) ((c .before .before .before .before) .open-byte .result) (kept .ensures) ((c .before .before .before .before .before .before) .u16-at .ensures .0) ((c .before .before .before .before .before) .u16-at2 .ensures .0) ((c .before .before .before .before) .open-byte .ensures) in
     let put = (c .before .before) .put-record in
     omega (arith, behind-at cut (g .ready) (put .last .0) 4 (put .ensures) refl)
 
--- src/bound_writes.rt:137:53
+-- src/bound_writes.rt:138:49
 write-record-part-write-attributes-end : (t : ℕ) → write-record-lts.Need-part-write-attributes-end (write-record-callees t) (write-record-at t) write-record.Post
 write-record-part-write-attributes-end t c = search needs
 
--- src/bound_writes.rt:137:5
+-- src/bound_writes.rt:138:5
 write-record-write-attributes-requires : (t : ℕ) → write-record-lts.Need-write-attributes-requires (write-record-callees t) (write-record-at t) write-record.Post
 write-record-write-attributes-requires t c κs =
-    let start = (c .before .before .before .before .before .before .before .before .before .before .before .before .before .before) in
+    let start = (c .before .before .before .before .before .before .before .before .before .before .before .before .before .before .before .before) in
     let key = start .pre .1 .0 .1 in
     let same = key ∙ sym (start .pre .1 .1 .0 .1) in
-    let g = given (start .args .mode) (start .args .levels) (start .args .a .now) (start .args .b .now) (start .pre .1 .0 .0) (start .pre .1 .1 .0 .0) (λ i. (c .before .before .before .before .before .before .before .before .before .before .before .before .before) .shared-slice-known .given i .fits) (λ i. (c .before .before .before .before .before .before .before .before .before .before .before .before) .shared-slice-known2 .given i .fits) (start .pre .1 .1 .1) in
+    let g = given (start .args .mode) (start .args .levels) (start .args .a .now) (start .args .b .now) (start .pre .1 .0 .0) (start .pre .1 .1 .0 .0) (λ i. (c .before .before .before .before .before .before .before .before .before .before .before .before .before .before .before) .shared-slice-known .given i .fits) (λ i. (c .before .before .before .before .before .before .before .before .before .before .before .before .before .before) .shared-slice-known2 .given i .fits) (start .pre .1 .1 .1) in
     let kept = (c .before .before .before .before .before .before .before .before .before .before) .kept-count in
     let cut = records-cut g same key (kept .result) ((c .before .before .before .before .before .before .before) .u16-at .result) ((c .before .before .before .before .before .before) .u16-at2 .result) ((c .before .before .before .before .before) .open-byte .result) (kept .ensures) ((c .before .before .before .before .before .before .before) .u16-at .ensures .0) ((c .before .before .before .before .before .before) .u16-at2 .ensures .0) ((c .before .before .before .before .before) .open-byte .ensures) in
     let put = (c .before .before .before) .put-record in
     (omega (arith, start .pre .0, is-record (start .args .levels) (start .args .a .now) (start .pre .1 .0 .0) key .deep), (record-tabled (start .args .levels) (start .args .a .now) (start .pre .1 .0 .0) key, (record-tabled (start .args .levels) (start .args .b .now) (start .pre .1 .1 .0 .0) (start .pre .1 .1 .0 .1), (kept .ensures, behind-ready cut (g .ready) (put .last .0) 4 (put .ensures) refl))))
 
--- src/bound_writes.rt:137:5
+-- src/bound_writes.rt:138:5
 write-record-add-result : (t : ℕ) → write-record-lts.Need-add-result (write-record-callees t) (write-record-at t) write-record.Post
 write-record-add-result t c =
-    let start = (c .before .before .before .before .before .before .before .before .before .before .before .before .before .before .before .before .before) in
+    let start = (c .before .before .before .before .before .before .before .before .before .before .before .before .before .before .before .before .before .before .before) in
     let key = start .pre .1 .0 .1 in
     let same = key ∙ sym (start .pre .1 .1 .0 .1) in
-    let g = given (start .args .mode) (start .args .levels) (start .args .a .now) (start .args .b .now) (start .pre .1 .0 .0) (start .pre .1 .1 .0 .0) (λ i. (c .before .before .before .before .before .before .before .before .before .before .before .before .before .before .before .before) .shared-slice-known .given i .fits) (λ i. (c .before .before .before .before .before .before .before .before .before .before .before .before .before .before .before) .shared-slice-known2 .given i .fits) (start .pre .1 .1 .1) in
+    let g = given (start .args .mode) (start .args .levels) (start .args .a .now) (start .args .b .now) (start .pre .1 .0 .0) (start .pre .1 .1 .0 .0) (λ i. (c .before .before .before .before .before .before .before .before .before .before .before .before .before .before .before .before .before .before) .shared-slice-known .given i .fits) (λ i. (c .before .before .before .before .before .before .before .before .before .before .before .before .before .before .before .before .before) .shared-slice-known2 .given i .fits) (start .pre .1 .1 .1) in
     let kept = (c .before .before .before .before .before .before .before .before .before .before .before .before .before) .kept-count in
     let cut = records-cut g same key (kept .result) ((c .before .before .before .before .before .before .before .before .before .before) .u16-at .result) ((c .before .before .before .before .before .before .before .before .before) .u16-at2 .result) ((c .before .before .before .before .before .before .before .before) .open-byte .result) (kept .ensures) ((c .before .before .before .before .before .before .before .before .before .before) .u16-at .ensures .0) ((c .before .before .before .before .before .before .before .before .before) .u16-at2 .ensures .0) ((c .before .before .before .before .before .before .before .before) .open-byte .ensures) in
     let put = (c .before .before .before .before .before .before) .put-record in
     let rows = (c .before .before) .write-attributes in
-    omega (arith, behind-small cut (g .ready) (put .last .0) 4 (put .ensures) refl (rows .last .1 .1 .1 .1 .1 .1 .0) (rows .result) (rows .ensures))
+    omega (arith, behind-small cut (g .ready) (put .last .0) 4 (put .ensures) refl (rows .last .1 .1 .1 .1 .1 .0) (rows .result) (rows .ensures))
 
 -- src/bound_writes.rt:120:1
 write-record-same-length : (t : ℕ) → write-record-lts.Need-same-length (write-record-callees t) (write-record-at t) write-record.Post
@@ -1131,15 +1248,15 @@ write-record-same-length t c = search needs
 -- src/bound_writes.rt:120:1
 write-record-returns : (t : ℕ) → write-record-lts.Need-returns (write-record-callees t) (write-record-at t) write-record.Post
 write-record-returns t c =
-    let start = (c .before .before .before .before .before .before .before .before .before .before .before .before .before .before .before .before .before) in
+    let start = (c .before .before .before .before .before .before .before .before .before .before .before .before .before .before .before .before .before .before .before) in
     let key = start .pre .1 .0 .1 in
     let same = key ∙ sym (start .pre .1 .1 .0 .1) in
-    let g = given (start .args .mode) (start .args .levels) (start .args .a .now) (start .args .b .now) (start .pre .1 .0 .0) (start .pre .1 .1 .0 .0) (λ i. (c .before .before .before .before .before .before .before .before .before .before .before .before .before .before .before .before) .shared-slice-known .given i .fits) (λ i. (c .before .before .before .before .before .before .before .before .before .before .before .before .before .before .before) .shared-slice-known2 .given i .fits) (start .pre .1 .1 .1) in
+    let g = given (start .args .mode) (start .args .levels) (start .args .a .now) (start .args .b .now) (start .pre .1 .0 .0) (start .pre .1 .1 .0 .0) (λ i. (c .before .before .before .before .before .before .before .before .before .before .before .before .before .before .before .before .before .before) .shared-slice-known .given i .fits) (λ i. (c .before .before .before .before .before .before .before .before .before .before .before .before .before .before .before .before .before) .shared-slice-known2 .given i .fits) (start .pre .1 .1 .1) in
     let kept = (c .before .before .before .before .before .before .before .before .before .before .before .before .before) .kept-count in
     let cut = records-cut g same key (kept .result) ((c .before .before .before .before .before .before .before .before .before .before) .u16-at .result) ((c .before .before .before .before .before .before .before .before .before) .u16-at2 .result) ((c .before .before .before .before .before .before .before .before) .open-byte .result) (kept .ensures) ((c .before .before .before .before .before .before .before .before .before .before) .u16-at .ensures .0) ((c .before .before .before .before .before .before .before .before .before) .u16-at2 .ensures .0) ((c .before .before .before .before .before .before .before .before) .open-byte .ensures) in
     let put = (c .before .before .before .before .before .before) .put-record in
     let rows = (c .before .before) .write-attributes in
-    behind-written cut (g .ready) (put .last .0) 4 (put .ensures) refl (rows .last .1 .1 .1 .1 .1 .1 .0) (rows .result) (rows .ensures)
+    behind-written cut (g .ready) (put .last .0) 4 (put .ensures) refl (rows .last .1 .1 .1 .1 .1 .0) (rows .result) (rows .ensures)
 
 pub +write-action+write-attributes+write-bound+write-pair+write-record-spec :
     {M : Type 1} → statement M
@@ -1157,6 +1274,12 @@ pub +write-action+write-attributes+write-bound+write-pair+write-record-spec :
     (write-action-part-copy-start t)
     (write-action-part-copy-end t)
     (write-action-copy-requires t)
+    (write-action-sub-x t)
+    (write-action-part-x-start t)
+    (write-action-part-x-end t)
+    (write-action-sub-y t)
+    (write-action-part-y-start t)
+    (write-action-part-y-end t)
     (write-action-u16-at-requires t)
     (write-action-sub-write-attributes t)
     (write-action-sub-write-attributes-2 t)
@@ -1247,6 +1370,12 @@ pub +write-action+write-attributes+write-bound+write-pair+write-record-spec :
     (write-bound-write-bound-requires t)
     (write-bound-add-result t)
     (write-bound-write-record-requires t)
+    (write-bound-sub-write-entities t)
+    (write-bound-part-write-entities-start t)
+    (write-bound-part-write-entities-end t)
+    (write-bound-sub-write-entities-2 t)
+    (write-bound-part-write-entities-start-2 t)
+    (write-bound-part-write-entities-end-2 t)
     (write-bound-write-entities-requires t)
     (write-bound-same-length-4 t)
     (write-bound-returns-4 t)
@@ -1256,6 +1385,12 @@ pub +write-action+write-attributes+write-bound+write-pair+write-record-spec :
     (write-bound-write-unlike-requires-2 t)
     (write-bound-same-length-5 t)
     (write-bound-returns-5 t)
+    (write-bound-sub-write-action t)
+    (write-bound-part-write-action-start t)
+    (write-bound-part-write-action-end t)
+    (write-bound-sub-write-action-2 t)
+    (write-bound-part-write-action-start-2 t)
+    (write-bound-part-write-action-end-2 t)
     (write-bound-write-action-requires t)
     (write-bound-write-form-requires-4 t)
     (write-bound-same-length-6 t)
@@ -1283,6 +1418,12 @@ pub +write-action+write-attributes+write-bound+write-pair+write-record-spec :
     λ t. write-record-lts.spec (write-record-callees t)
     (write-record-at t)
     write-record.Post
+    (write-record-sub-x t)
+    (write-record-part-x-start t)
+    (write-record-part-x-end t)
+    (write-record-sub-y t)
+    (write-record-part-y-start t)
+    (write-record-part-y-end t)
     (write-record-sub-kept-count t)
     (write-record-kept-count-requires t)
     (write-record-shared-slice-read-open-byte t)

@@ -18,10 +18,10 @@ use Rattle.lengths.proofs.tables.bodies_at.Reads as bodies-at-reads
 use Rattle.lengths.proofs.tables.entries_at.Reads as entries-at-reads
 
 abbrev Inv-loop : tie.InvT-loop
-Inv-loop mode a b at levels left₀ e₀ s₀ m₀ f₀ c₀ count₀ left e s m f c count = Counting (asMode mode) (joinedAttrs (asMode mode) (attrsAt levels at a) (attrsAt levels at b)) left₀ levels left e s m f c count
+Inv-loop mode a b levels left₀ e₀ s₀ m₀ f₀ c₀ count₀ left e s m f c count = Counting (asMode mode) (joinedAttrs (asMode mode) (attrsAt levels 0 a) (attrsAt levels 0 b)) left₀ levels left e s m f c count
 
 abbrev μ-loop : tie.MeasureT-loop
-μ-loop mode a b at levels left₀ e₀ s₀ m₀ f₀ c₀ count₀ left e s m f c count = left
+μ-loop mode a b levels left₀ e₀ s₀ m₀ f₀ c₀ count₀ left e s m f c count = left
 
 -- src/kept.rt:93:9
 u16-at-requires : tie.Need-u16-at-requires Inv-loop μ-loop
@@ -29,7 +29,7 @@ u16-at-requires c κs = omega (arith, (c .before .before) .pre .0 .fit)
 
 -- src/kept.rt:95:9
 returns : tie.Need-returns Inv-loop μ-loop
-returns c = strict-all ((c .before .before .before .before) .args .mode) (c .if1 .taken) ((c .before .before .before .before) .args .levels) ((c .before .before .before .before) .args .at) ((c .before .before .before .before) .args .a .now) ((c .before .before .before .before) .args .b .now) ((c .before) .u16-at .result) ((c .before) .u16-at .ensures .0) ((c .before .before .before .before) .pre .1 .1)
+returns c = strict-all ((c .before .before .before .before) .args .mode) (c .if1 .taken) ((c .before .before .before .before) .args .levels) 0 ((c .before .before .before .before) .args .a .now) ((c .before .before .before .before) .args .b .now) ((c .before) .u16-at .result) ((c .before) .u16-at .ensures .0) ((c .before .before .before .before) .pre .1 .1)
 
 -- src/kept.rt:97:9
 entries-at-requires : tie.Need-entries-at-requires Inv-loop μ-loop
