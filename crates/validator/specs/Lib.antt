@@ -1,6 +1,5 @@
 pub mod Answers
 pub mod Handed
-pub mod Kept
 pub mod Uids
 pub mod Laws
 pub mod Sequence

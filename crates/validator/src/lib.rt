@@ -13,5 +13,4 @@ pub mod own_attribute_type;
 pub mod reduce_to_least_upper_bound;
 pub mod rooms;
 pub mod typecheck_restricted_expr;
-pub mod validator_schema;
 pub mod workspaces;

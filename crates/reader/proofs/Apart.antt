@@ -26,9 +26,9 @@ use denote.Struct.Rest.{all-own, own-open}
 use denote.Struct.Values.{Values}
 use Rattle.schemas.proofs.whole.Checked as K
 use Rattle.schemas.proofs.whole.Checked.Laws as K′
-use Rattle.validator.specs.declared.validator_schema.ValidatorSchema.{ValidatorSchema}
-use Rattle.validator.proofs.validator_schema.ValidatorSchema as T
-use Rattle.validator.proofs.validator_schema.ValidatorSchema.Laws as T′
+use Rattle.reader.specs.declared.validator_schema.ValidatorSchema.{ValidatorSchema}
+use Rattle.reader.proofs.validator_schema.ValidatorSchema as T
+use Rattle.reader.proofs.validator_schema.ValidatorSchema.Laws as T′
 
 module _ (κ : Lft) where
   abbrev pub α : NamedLft

@@ -1,4 +1,4 @@
--- `validator::validator_schema::ValidatorSchema::is_subtype` meets its contract: a walk of its MIR, by hand. The check is taken out of the struct and passed to the callee with the arguments. All that the proof knows of the callee is that it meets its contract.
+-- `reader::validator_schema::ValidatorSchema::is_subtype` meets its contract: a walk of its MIR, by hand. The check is taken out of the struct and passed to the callee with the arguments. All that the proof knows of the callee is that it meets its contract.
 -- Assumes nothing.
 use mathlib.Core.Path.{_≡_, refl}
 use Prim.Native.Nat.{ℕ, _<_, _^_}
@@ -41,23 +41,23 @@ use denote.Triple.Clauses.{ensured, lasts}
 use Rattle.cedar.specs.Limits.{standard}
 use Rattle.cedar.specs.Calls.{subtypeCall}
 use Rattle.schemas.specs.SchemaBytes.{checked}
 use Rattle.validator.specs.Answers.{answerOf}
-use Rattle.validator.specs.Kept.{Sound}
+use Rattle.reader.specs.Kept.{Sound}
 use Rattle.validator.specs.declared.answers.Answer.{Answer}
-use Rattle.validator.specs.declared.validator_schema.ValidatorSchema.{ValidatorSchema}
+use Rattle.reader.specs.declared.validator_schema.ValidatorSchema.{ValidatorSchema}
 use Rattle.schemas.proofs.whole.Checked as K
-use Rattle.validator.proofs.Apart.{α, D, L, mach, checkVal, typed, check-typed, check-only}
+use Rattle.reader.proofs.Apart.{α, D, L, mach, checkVal, typed, check-typed, check-only}
 use Rattle.validator.proofs.answers.Answer as S
 use Rattle.validator.proofs.answers.Answer.Laws as S′
-use Rattle.validator.proofs.validator_schema.ValidatorSchema as T
+use Rattle.reader.proofs.validator_schema.ValidatorSchema as T
 use Rattle.validator.proofs.is_subtype.is_subtype_checked as callee
 use Rattle.validator.proofs.is_subtype.is_subtype_checked.Symbol as callee-def
 use Rattle.validator.proofs.is_subtype.is_subtype_checked.Symbol.{name as #callee}
 use Rattle.validator.proofs.is_subtype.is_subtype_checked.Met as callee-thm
-use Rattle.validator.proofs.validator_schema.ValidatorSchema.is_subtype.Key.{name as #method}
-use Rattle.validator.proofs.validator_schema.ValidatorSchema.is_subtype as method
-use Rattle.validator.proofs.validator_schema.ValidatorSchema.is_subtype.Statement as stated
-use Rattle.validator.proofs.validator_schema.ValidatorSchema.is_subtype.Code as code
+use Rattle.reader.proofs.validator_schema.ValidatorSchema.is_subtype.Key.{name as #method}
+use Rattle.reader.proofs.validator_schema.ValidatorSchema.is_subtype as method
+use Rattle.reader.proofs.validator_schema.ValidatorSchema.is_subtype.Statement as stated
+use Rattle.reader.proofs.validator_schema.ValidatorSchema.is_subtype.Code as code
 
 -- nothing of the parameters is kept for the exit: none of them can change
 abbrev stayed : Stays (method.ended .signature .params) (method.ended .kept)

@@ -1,23 +1,23 @@
 // A schema that is checked once and kept with its block. Each method answers as the entry of its name does, without the check.
-use crate::all_attributes::all_attributes_checked;
-use crate::answers::Answer;
-use crate::euid_literal::euid_literal_checked;
-use crate::is_subtype::is_subtype_checked;
-use crate::least_upper_bound::least_upper_bound_checked;
-use crate::lookup_attribute_type::lookup_attribute_type_checked;
-use crate::may_have_attr::may_have_attr_checked;
-use crate::own_attribute_type::own_attribute_type_checked;
-use crate::reduce_to_least_upper_bound::reduce_to_least_upper_bound_checked;
-use crate::typecheck_restricted_expr::typecheck_restricted_expr_checked;
 use schemas::whole::Checked;
 use schemas::whole::check_schema;
+use validator::all_attributes::all_attributes_checked;
+use validator::answers::Answer;
+use validator::euid_literal::euid_literal_checked;
+use validator::is_subtype::is_subtype_checked;
+use validator::least_upper_bound::least_upper_bound_checked;
+use validator::lookup_attribute_type::lookup_attribute_type_checked;
+use validator::may_have_attr::may_have_attr_checked;
+use validator::own_attribute_type::own_attribute_type_checked;
+use validator::reduce_to_least_upper_bound::reduce_to_least_upper_bound_checked;
+use validator::typecheck_restricted_expr::typecheck_restricted_expr_checked;
 ghost use mathlib.Core.Path.{_≡_};
 ghost use lib.ListN.{length};
 ghost use Rattle.cedar.specs.Limits.{standard};
 ghost use Rattle.cedar.specs.Calls.{subtypeCall, boundCall, foldCall, lookupCall, ownAttributeCall, mayHaveCall, namesCall, conformsCall, literalCall};
 ghost use Rattle.validator.specs.Answers.{answerOf, Answered, AnsweredIn};
 ghost use Rattle.validator.specs.Handed.{Handed};
-ghost use Rattle.validator.specs.Kept.{Sound};
+ghost use Rattle.reader.specs.Kept.{Sound};
 
 // The block, and what its check came to: where its sections lie, or that it is broken.
 pub struct ValidatorSchema<'a> {

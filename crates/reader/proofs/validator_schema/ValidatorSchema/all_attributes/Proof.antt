@@ -1,4 +1,4 @@
--- `validator::validator_schema::ValidatorSchema::all_attributes` meets its contract: a walk of its MIR, by hand. The struct is taken apart, and its parts and the arguments are passed to the callee, of which the proof knows only that it meets its contract.
+-- `reader::validator_schema::ValidatorSchema::all_attributes` meets its contract: a walk of its MIR, by hand. The struct is taken apart, and its parts and the arguments are passed to the callee, of which the proof knows only that it meets its contract.
 -- Assumes nothing.
 use mathlib.Core.Path.{_≡_, refl}
 use Prim.Native.Nat.{ℕ}
@@ -39,22 +39,22 @@ use denote.Exit.{yes}
 use denote.Triple.Clauses.{ensured, lasts}
 use Rattle.cedar.specs.Limits.{standard}
 use Rattle.cedar.specs.Calls.{namesCall}
 use Rattle.validator.specs.Answers.{AnsweredIn}
-use Rattle.validator.specs.Kept.{Sound}
+use Rattle.reader.specs.Kept.{Sound}
 use Rattle.validator.specs.declared.answers.Answer.{Answer}
-use Rattle.validator.specs.declared.validator_schema.ValidatorSchema.{ValidatorSchema}
-use Rattle.validator.proofs.Apart.{α, D, L, mach, blockVal, checkVal, typed, check-typed, apart}
+use Rattle.reader.specs.declared.validator_schema.ValidatorSchema.{ValidatorSchema}
+use Rattle.reader.proofs.Apart.{α, D, L, mach, blockVal, checkVal, typed, check-typed, apart}
 use Rattle.validator.proofs.answers.Answer as S
 use Rattle.validator.proofs.answers.Answer.Laws as S′
-use Rattle.validator.proofs.validator_schema.ValidatorSchema as T
+use Rattle.reader.proofs.validator_schema.ValidatorSchema as T
 use Rattle.validator.proofs.all_attributes.all_attributes_checked as callee
 use Rattle.validator.proofs.all_attributes.all_attributes_checked.Symbol as callee-def
 use Rattle.validator.proofs.all_attributes.all_attributes_checked.Symbol.{name as #callee}
 use Rattle.validator.proofs.all_attributes.all_attributes_checked.Met as callee-thm
-use Rattle.validator.proofs.validator_schema.ValidatorSchema.all_attributes.Key.{name as #method}
-use Rattle.validator.proofs.validator_schema.ValidatorSchema.all_attributes as method
-use Rattle.validator.proofs.validator_schema.ValidatorSchema.all_attributes.Statement as stated
-use Rattle.validator.proofs.validator_schema.ValidatorSchema.all_attributes.Code as code
+use Rattle.reader.proofs.validator_schema.ValidatorSchema.all_attributes.Key.{name as #method}
+use Rattle.reader.proofs.validator_schema.ValidatorSchema.all_attributes as method
+use Rattle.reader.proofs.validator_schema.ValidatorSchema.all_attributes.Statement as stated
+use Rattle.reader.proofs.validator_schema.ValidatorSchema.all_attributes.Code as code
 
 -- nothing is kept for the exit of what cannot change; what was lent to be written is given to the callee for good, and what it says of the last list is had
 abbrev stayed : Stays (method.ended .signature .params) (method.ended .kept)

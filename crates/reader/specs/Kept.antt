@@ -2,7 +2,7 @@
 use mathlib.Core.Path.{_≡_}
 use denote.Ref.{now}
 use Rattle.schemas.specs.SchemaBytes.{checked}
-use Rattle.validator.specs.declared.validator_schema.ValidatorSchema.{ValidatorSchema}
+use Rattle.reader.specs.declared.validator_schema.ValidatorSchema.{ValidatorSchema}
 
 -- What is kept beside the block is the outcome of checking it.
 abbrev pub Sound : ValidatorSchema → Type 0

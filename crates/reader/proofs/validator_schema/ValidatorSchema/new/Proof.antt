@@ -1,4 +1,4 @@
--- `validator::validator_schema::ValidatorSchema::new` meets its contract: a walk of its MIR, by hand. `check_schema` is called on the block, and the struct is made of the block and what that came to. All that the proof knows of `check_schema` is that it meets its contract.
+-- `reader::validator_schema::ValidatorSchema::new` meets its contract: a walk of its MIR, by hand. `check_schema` is called on the block, and the struct is made of the block and what that came to. All that the proof knows of `check_schema` is that it meets its contract.
 -- A `&[u8]` is Copy, so what the block owns is had twice: once for the callee, and once inside the result.
 -- Assumes nothing.
 use mathlib.Core.Path.{_≡_, refl}
@@ -49,13 +49,13 @@ use Rattle.schemas.proofs.whole.check_schema as callee
 use Rattle.schemas.proofs.whole.check_schema.Symbol as callee-def
 use Rattle.schemas.proofs.whole.check_schema.Symbol.{name as #callee}
 use Rattle.schemas.proofs.whole.check_schema.Met as callee-thm
-use Rattle.validator.specs.declared.validator_schema.ValidatorSchema.{ValidatorSchema}
-use Rattle.validator.proofs.Apart.{α, D, L}
-use Rattle.validator.proofs.validator_schema.ValidatorSchema as T
-use Rattle.validator.proofs.validator_schema.ValidatorSchema.new.Key.{name as #method}
-use Rattle.validator.proofs.validator_schema.ValidatorSchema.new as method
-use Rattle.validator.proofs.validator_schema.ValidatorSchema.new.Statement as stated
-use Rattle.validator.proofs.validator_schema.ValidatorSchema.new.Code as code
+use Rattle.reader.specs.declared.validator_schema.ValidatorSchema.{ValidatorSchema}
+use Rattle.reader.proofs.Apart.{α, D, L}
+use Rattle.reader.proofs.validator_schema.ValidatorSchema as T
+use Rattle.reader.proofs.validator_schema.ValidatorSchema.new.Key.{name as #method}
+use Rattle.reader.proofs.validator_schema.ValidatorSchema.new as method
+use Rattle.reader.proofs.validator_schema.ValidatorSchema.new.Statement as stated
+use Rattle.reader.proofs.validator_schema.ValidatorSchema.new.Code as code
 
 abbrev stayed : Stays (method.ended .signature .params) (method.ended .kept)
 stayed = (stay-dropped (shrSliceOf (0 ∷ []) tt (plain (λ _. u8))) yes, tt)
