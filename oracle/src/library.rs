@@ -53,6 +53,15 @@ pub struct Library(pub Entries);
 /// no schema are as above.
 pub struct CheckedLibrary(pub Entries, pub Checked);
 
+/// A form, and what is lent to be written, as C takes them.
+fn form(bytes: &[u8]) -> (P, usize) {
+    (bytes.as_ptr(), bytes.len())
+}
+
+fn lent(bytes: &mut [u8]) -> (M, usize) {
+    (bytes.as_mut_ptr(), bytes.len())
+}
+
 fn reply(number: u64) -> Reply {
     let value = (number >> 8) as usize;
     match number & 255 {
@@ -81,12 +90,9 @@ fn part(number: u64) -> Part {
 impl Candidate for Library {
     fn call(&mut self, call: &Call<'_>, out: &mut [u8], work: &mut [u8]) -> Reply {
         let e = &self.0;
-        let (s, sn) = (call.schema.as_ptr(), call.schema.len());
-        let (a, an) = (call.t0.as_ptr(), call.t0.len());
-        let (b, bn) = (call.t1.as_ptr(), call.t1.len());
-        let (o, on) = (out.as_mut_ptr(), out.len());
-        let (w, wn) = (work.as_mut_ptr(), work.len());
         let (mode, attr) = (call.mode, call.attr);
+        let [(s, sn), (a, an), (b, bn)] = [call.schema, call.t0, call.t1].map(form);
+        let [(o, on), (w, wn)] = [out, work].map(lent);
         // Each pointer stands with the length of its slice.
         reply(unsafe {
             match call.op {
@@ -105,12 +111,10 @@ impl Candidate for Library {
         })
     }
 
-    fn part(&mut self, schema: &[u8], form: &[u8], attr: u16) -> Option<Part> {
-        let (s, sn) = (schema.as_ptr(), schema.len());
+    fn part(&mut self, schema: &[u8], t: &[u8], attr: u16) -> Option<Part> {
         let entry = self.0.own_attribute_type;
-        Some(part(unsafe {
-            entry(s, sn, attr, form.as_ptr(), form.len())
-        }))
+        let [(s, sn), (t, tn)] = [schema, t].map(form);
+        Some(part(unsafe { entry(s, sn, attr, t, tn) }))
     }
 }
 
@@ -127,12 +131,9 @@ impl CheckedLibrary {
             return Library(self.0).call(call, out, work);
         }
         let e = &self.1;
-        let (s, sn) = (call.schema.as_ptr(), call.schema.len());
-        let (a, an) = (call.t0.as_ptr(), call.t0.len());
-        let (b, bn) = (call.t1.as_ptr(), call.t1.len());
-        let (o, on) = (out.as_mut_ptr(), out.len());
-        let (w, wn) = (work.as_mut_ptr(), work.len());
         let (mode, attr) = (call.mode, call.attr);
+        let [(s, sn), (a, an), (b, bn)] = [call.schema, call.t0, call.t1].map(form);
+        let [(o, on), (w, wn)] = [out, work].map(lent);
         // As above, and the number is that of the same schema.
         reply(unsafe {
             match call.op {
@@ -149,10 +150,10 @@ impl CheckedLibrary {
     }
 
     /// The second entry of lookup, with the number of the schema.
-    pub fn part_with(&self, c: u64, schema: &[u8], form: &[u8], attr: u16) -> Part {
-        let (s, sn) = (schema.as_ptr(), schema.len());
+    pub fn part_with(&self, c: u64, schema: &[u8], t: &[u8], attr: u16) -> Part {
         let entry = self.1.own_attribute_type;
-        part(unsafe { entry(s, sn, c, attr, form.as_ptr(), form.len()) })
+        let [(s, sn), (t, tn)] = [schema, t].map(form);
+        part(unsafe { entry(s, sn, c, attr, t, tn) })
     }
 }
 
@@ -161,8 +162,8 @@ impl Candidate for CheckedLibrary {
         self.call_with(self.check(call.schema), call, out, work)
     }
 
-    fn part(&mut self, schema: &[u8], form: &[u8], attr: u16) -> Option<Part> {
-        Some(self.part_with(self.check(schema), schema, form, attr))
+    fn part(&mut self, schema: &[u8], t: &[u8], attr: u16) -> Option<Part> {
+        Some(self.part_with(self.check(schema), schema, t, attr))
     }
 }
 

@@ -11,9 +11,24 @@ pub struct Schema<'a> {
     check: u64,
 }
 
-// In every call below each pointer stands with the length of its slice, what is
-// written is lent alone, and `check` is the number that the check of this very
-// block gave.
+/// An entry with this schema, then numbers, forms and what is lent to be written.
+/// Each pointer stands with the length of its slice, what is written is lent
+/// alone, and the number is the one that the check of this very block gave.
+macro_rules! asked {
+    ($schema:ident, $entry:ident, [$($number:expr),*], [$($form:ident),*], [$($lent:ident),*]) => {
+        unsafe {
+            ffi::$entry(
+                $schema.block.as_ptr(),
+                $schema.block.len(),
+                $schema.check,
+                $($number,)*
+                $($form.as_ptr(), $form.len(),)*
+                $($lent.as_mut_ptr(), $lent.len(),)*
+            )
+        }
+    };
+}
+
 impl<'a> Schema<'a> {
     /// Checks a schema.
     ///
@@ -23,6 +38,7 @@ impl<'a> Schema<'a> {
     /// assert_eq!(Schema::check(&[0; 5]).unwrap_err(), Refusal::Schema);
     /// ```
     pub fn check(block: &'a [u8]) -> Result<Schema<'a>, Refusal> {
+        // The pointer stands with the length of its slice.
         match unsafe { ffi::tirncheav_check_schema(block.as_ptr(), block.len()) } {
             0 => Err(Refusal::Schema),
             check => Ok(Schema { block, check }),
@@ -31,18 +47,13 @@ impl<'a> Schema<'a> {
 
     /// Whether t0 is a subtype of t1.
     pub fn is_subtype(&self, mode: Mode, t0: &[u8], t1: &[u8]) -> Result<bool, Refusal> {
-        yes_or_no(unsafe {
-            ffi::tirncheav_is_subtype_checked(
-                self.block.as_ptr(),
-                self.block.len(),
-                self.check,
-                mode as u8,
-                t0.as_ptr(),
-                t0.len(),
-                t1.as_ptr(),
-                t1.len(),
-            )
-        })
+        yes_or_no(asked!(
+            self,
+            tirncheav_is_subtype_checked,
+            [mode as u8],
+            [t0, t1],
+            []
+        ))
     }
 
     /// The least upper bound of two types, written to the front of `out`.
@@ -53,20 +64,13 @@ impl<'a> Schema<'a> {
         t1: &[u8],
         out: &'b mut [u8],
     ) -> Result<&'b [u8], Refusal> {
-        let number = unsafe {
-            ffi::tirncheav_least_upper_bound_checked(
-                self.block.as_ptr(),
-                self.block.len(),
-                self.check,
-                mode as u8,
-                t0.as_ptr(),
-                t0.len(),
-                t1.as_ptr(),
-                t1.len(),
-                out.as_mut_ptr(),
-                out.len(),
-            )
-        };
+        let number = asked!(
+            self,
+            tirncheav_least_upper_bound_checked,
+            [mode as u8],
+            [t0, t1],
+            [out]
+        );
         written(number, out)
     }
 
@@ -89,20 +93,13 @@ impl<'a> Schema<'a> {
         out: &'b mut [u8],
         work: &mut [u8],
     ) -> Result<&'b [u8], Refusal> {
-        let number = unsafe {
-            ffi::tirncheav_reduce_to_least_upper_bound_checked(
-                self.block.as_ptr(),
-                self.block.len(),
-                self.check,
-                mode as u8,
-                list.as_ptr(),
-                list.len(),
-                out.as_mut_ptr(),
-                out.len(),
-                work.as_mut_ptr(),
-                work.len(),
-            )
-        };
+        let number = asked!(
+            self,
+            tirncheav_reduce_to_least_upper_bound_checked,
+            [mode as u8],
+            [list],
+            [out, work]
+        );
         written(number, out)
     }
 
@@ -126,20 +123,13 @@ impl<'a> Schema<'a> {
         out: &'b mut [u8],
         work: &mut [u8],
     ) -> Result<Option<Attribute<'b>>, Refusal> {
-        let number = unsafe {
-            ffi::tirncheav_lookup_attribute_type_checked(
-                self.block.as_ptr(),
-                self.block.len(),
-                self.check,
-                attr,
-                t.as_ptr(),
-                t.len(),
-                out.as_mut_ptr(),
-                out.len(),
-                work.as_mut_ptr(),
-                work.len(),
-            )
-        };
+        let number = asked!(
+            self,
+            tirncheav_lookup_attribute_type_checked,
+            [attr],
+            [t],
+            [out, work]
+        );
         attribute(number, out)
     }
 
@@ -159,31 +149,19 @@ impl<'a> Schema<'a> {
         attr: u16,
         t: &'t [u8],
     ) -> Result<Option<Attribute<'t>>, Refusal> {
-        let number = unsafe {
-            ffi::tirncheav_own_attribute_type_checked(
-                self.block.as_ptr(),
-                self.block.len(),
-                self.check,
-                attr,
-                t.as_ptr(),
-                t.len(),
-            )
-        };
+        let number = asked!(self, tirncheav_own_attribute_type_checked, [attr], [t], []);
         part(number, t)
     }
 
     /// Whether a value of a type may have an attribute.
     pub fn may_have_attr(&self, attr: u16, t: &[u8]) -> Result<bool, Refusal> {
-        yes_or_no(unsafe {
-            ffi::tirncheav_may_have_attr_checked(
-                self.block.as_ptr(),
-                self.block.len(),
-                self.check,
-                attr,
-                t.as_ptr(),
-                t.len(),
-            )
-        })
+        yes_or_no(asked!(
+            self,
+            tirncheav_may_have_attr_checked,
+            [attr],
+            [t],
+            []
+        ))
     }
 
     /// The names of a type's attributes, two bytes each, low byte first,
@@ -194,19 +172,7 @@ impl<'a> Schema<'a> {
         out: &'b mut [u8],
         work: &mut [u8],
     ) -> Result<&'b [u8], Refusal> {
-        let number = unsafe {
-            ffi::tirncheav_all_attributes_checked(
-                self.block.as_ptr(),
-                self.block.len(),
-                self.check,
-                t.as_ptr(),
-                t.len(),
-                out.as_mut_ptr(),
-                out.len(),
-                work.as_mut_ptr(),
-                work.len(),
-            )
-        };
+        let number = asked!(self, tirncheav_all_attributes_checked, [], [t], [out, work]);
         written(number, out)
     }
 
@@ -219,17 +185,13 @@ impl<'a> Schema<'a> {
     /// assert_eq!(schema.typecheck_restricted_expr(&[3], &[1]), Ok(true));
     /// ```
     pub fn typecheck_restricted_expr(&self, t: &[u8], value: &[u8]) -> Result<bool, Refusal> {
-        yes_or_no(unsafe {
-            ffi::tirncheav_typecheck_restricted_expr_checked(
-                self.block.as_ptr(),
-                self.block.len(),
-                self.check,
-                t.as_ptr(),
-                t.len(),
-                value.as_ptr(),
-                value.len(),
-            )
-        })
+        yes_or_no(asked!(
+            self,
+            tirncheav_typecheck_restricted_expr_checked,
+            [],
+            [t, value],
+            []
+        ))
     }
 
     /// The type of a uid, written to the front of `out`; none where the schema
@@ -246,17 +208,7 @@ impl<'a> Schema<'a> {
         uid: &[u8],
         out: &'b mut [u8],
     ) -> Result<Option<&'b [u8]>, Refusal> {
-        let number = unsafe {
-            ffi::tirncheav_euid_literal_checked(
-                self.block.as_ptr(),
-                self.block.len(),
-                self.check,
-                uid.as_ptr(),
-                uid.len(),
-                out.as_mut_ptr(),
-                out.len(),
-            )
-        };
+        let number = asked!(self, tirncheav_euid_literal_checked, [], [uid], [out]);
         written_or_none(number, out)
     }
 }
