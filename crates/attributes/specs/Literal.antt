@@ -24,6 +24,7 @@ literalType b k Nothing = none
 abbrev pub literalForm : List ℕ → ℕ → Literal → List ℕ
 literalForm b k x = maybe [] enc (literalType b k x)
 
+-- How many bytes that form takes.
 abbrev pub literalLength : Literal → ℕ
 literalLength (Action s e) = e - s + 1
 literalLength Entity = 5

@@ -13,6 +13,7 @@ use Rattle.cedar.specs.Direct.{directAttrs}
 abbrev pub joinedAttrs : Mode → Attrs → Attrs → Result Attrs
 joinedAttrs m xs ys = sameNames m xs ys (directAttrs m xs ys)
 
+-- How many attributes a joined list has; none where there is no list.
 abbrev pub countOf : Result Attrs → ℕ
 countOf (ok cs) = count cs
 countOf (err e) = 0

@@ -3,6 +3,7 @@ use Rattle.cedar.specs.Conformance.{Verdict as Said, holds, fails, failsInside,
 use Rattle.conformance.specs.declared.verdicts.Verdict.{Verdict}
 use Rattle.conformance.specs.declared.verdicts.Verdict.the-variants.{Holds, Fails, FailsInside, Unknown}
 
+-- What a walk says, as the code's enum.
 abbrev pub verdictOf : Said → Verdict
 verdictOf holds = Holds
 verdictOf fails = Fails

@@ -17,6 +17,7 @@ use Rattle.forms.specs.ValueBytes.{memberRow, pairRow, wholeVAs, wholeV, decV}
 abbrev pub isOpen : List ℕ → Bool
 isOpen b = eqb (getD b 1 0) 1
 
+-- The attributes of a record form.
 abbrev pub attributesOf : ℕ → List ℕ → Attrs
 attributesOf l b = attrsOf (tableOf attrRow (λ _. dec l) 2 b)
 
@@ -24,9 +25,11 @@ attributesOf l b = attrsOf (tableOf attrRow (λ _. dec l) 2 b)
 abbrev pub membersOf : ℕ → List ℕ → Values
 membersOf l b = valuesFrom (tableOf memberRow (λ _. decV l) 1 b)
 
+-- The pairs of a record form.
 abbrev pub pairsOf : ℕ → List ℕ → Pairs
 pairsOf l b = pairsFrom (tableOf pairRow (λ _. decV l) 1 b)
 
+-- The arguments of a call form.
 abbrev pub argumentsOf : ℕ → List ℕ → Values
 argumentsOf l b = valuesFrom (tableOf memberRow (λ _. decV l) 3 b)
 

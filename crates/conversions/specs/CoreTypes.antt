@@ -7,9 +7,11 @@ use Rattle.cedar.specs.Conversion.{convert, convertAttrs}
 use Rattle.cedar.specs.Result.{Result, notConvertible}
 use Rattle.lengths.specs.Extents.{orRefuse}
 
+-- The core type, or 8.
 unfoldable pub core : Ty → Result Ty
 core t = orRefuse notConvertible (convert t)
 
+-- The same for an attribute list.
 unfoldable pub coreAttrs : Attrs → Result Attrs
 coreAttrs xs = orRefuse notConvertible (convertAttrs xs)
 

@@ -22,6 +22,7 @@ typeFits lim b = present (wholeType lim b)
 abbrev pub wholeTs : Limits → ℕ → List ℕ → List ℕ → Bool
 wholeTs lim n es bs = rowsTo memberRow (λ _. typeFits lim) noneLeft n tt es bs
 
+-- The types that they say.
 abbrev pub decTs : ℕ → ℕ → List ℕ → List ℕ → List Ty
 decTs l n es bs = seconds (rowsOf memberRow (λ _. dec l) n es bs)
 
@@ -29,9 +30,11 @@ decTs l n es bs = seconds (rowsOf memberRow (λ _. dec l) n es bs)
 abbrev pub listFits : Limits → List ℕ → Bool
 listFits lim b = leb (rd b 0) maxListed && tableFits memberRow (λ _. typeFits lim) tt 0 b
 
+-- The types that a list says.
 abbrev pub listOf : ℕ → List ℕ → List Ty
 listOf l b = seconds (tableOf memberRow (λ _. dec l) 0 b)
 
+-- n lengths, and n whole types behind them.
 pub record SoundTs (lim : Limits) (n : ℕ) (es bs : List ℕ) : Type 0 where
   pub sized : length es ≡ 2 * n
   pub good : wholeTs lim n es bs ≡ true

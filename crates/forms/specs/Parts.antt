@@ -9,6 +9,7 @@ use lib.ListN.{length, take, drop, getD}
 abbrev pub part : ℕ → ℕ → List ℕ → List ℕ
 part a e b = take (e - a) (drop a b)
 
+-- The bytes from a on.
 abbrev pub rest : ℕ → List ℕ → List ℕ
 rest a b = part a (length b) b
 

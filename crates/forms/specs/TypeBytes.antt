@@ -15,6 +15,7 @@ unfoldable pub namesUp : ℕ → ℕ → List ℕ → Bool
 namesUp zero low b = true
 namesUp (suc n) low b = leb low (rd b 0) && namesUp n (rd b 0 + 1) (rest 2 b)
 
+-- The first n names.
 unfoldable pub namesOf : ℕ → List ℕ → List ℕ
 namesOf zero b = []
 namesOf (suc n) b = rd b 0 ∷ namesOf n (rest 2 b)
@@ -31,6 +32,7 @@ attrRow = record { width = 5; ok = λ low es. leb (getD es 2 0) 1 && leb low (rd
 abbrev pub wholeA : (List ℕ → Bool) → ℕ → ℕ → List ℕ → List ℕ → Bool
 wholeA w n low es bs = rowsTo attrRow (λ _. w) noneLeft n low es bs
 
+-- The attributes that they say.
 abbrev pub decA : (List ℕ → Ty) → ℕ → List ℕ → List ℕ → Attrs
 decA d n es bs = attrsOf (rowsOf attrRow (λ _. d) n es bs)
 
@@ -44,6 +46,7 @@ wholeAs w actKind b = tableFits attrRow (λ _. w) 0 3 b
 wholeAs w extKind b = eqb (length b) 3
 wholeAs w noKind b = false
 
+-- The type that a form of such a kind says.
 abbrev pub decAs : (List ℕ → Ty) → Kind → List ℕ → Ty
 decAs d (one k) b = atom k
 decAs d setKind b = set (d (rest 1 b))
@@ -58,6 +61,7 @@ unfoldable pub whole : ℕ → List ℕ → Bool
 whole zero b = false
 whole (suc l) b = ltb 0 (length b) && wholeAs (whole l) (kindOf (kind b)) b
 
+-- The type that a form says; some type where it is not whole.
 unfoldable pub dec : ℕ → List ℕ → Ty
 dec zero b = atom never
 dec (suc l) b = decAs (dec l) (kindOf (kind b)) b

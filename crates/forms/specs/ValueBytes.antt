@@ -22,12 +22,15 @@ pairRow = record { width = 4; ok = λ low es. leb low (rd es 0); next = λ es. r
 abbrev pub wholeMs : (List ℕ → Bool) → ℕ → List ℕ → List ℕ → Bool
 wholeMs w n es bs = rowsTo memberRow (λ _. w) noneLeft n tt es bs
 
+-- The members that they say.
 abbrev pub decMs : (List ℕ → Value) → ℕ → List ℕ → List ℕ → Values
 decMs d n es bs = valuesFrom (rowsOf memberRow (λ _. d) n es bs)
 
+-- n pairs, names from low on, with no byte over.
 abbrev pub wholePs : (List ℕ → Bool) → ℕ → ℕ → List ℕ → List ℕ → Bool
 wholePs w n low es bs = rowsTo pairRow (λ _. w) noneLeft n low es bs
 
+-- The pairs that they say.
 abbrev pub decPs : (List ℕ → Value) → ℕ → List ℕ → List ℕ → Pairs
 decPs d n es bs = pairsFrom (rowsOf pairRow (λ _. d) n es bs)
 
@@ -42,6 +45,7 @@ wholeVAs w recordKind b = tableFits pairRow (λ _. w) 0 1 b
 wholeVAs w callKind b = tableFits memberRow (λ _. w) tt 3 b
 wholeVAs w noKind b = false
 
+-- The value that a form of such a kind says.
 abbrev pub decVAs : (List ℕ → Value) → ValueKind → List ℕ → Value
 decVAs d (boolKind x) b = boolean x
 decVAs d longKind b = number (rest 1 b)
@@ -57,6 +61,7 @@ unfoldable pub wholeV : ℕ → List ℕ → Bool
 wholeV zero b = false
 wholeV (suc l) b = ltb 0 (length b) && wholeVAs (wholeV l) (valueKind (kind b)) b
 
+-- The value that a form says; some value where it is not whole.
 unfoldable pub decV : ℕ → List ℕ → Value
 decV zero b = boolean false
 decV (suc l) b = decVAs (decV l) (valueKind (kind b)) b
@@ -66,6 +71,7 @@ pub record SoundMs (l n : ℕ) (es bs : List ℕ) : Type 0 where
   pub sized : length es ≡ 2 * n
   pub good : wholeMs (wholeV l) n es bs ≡ true
 
+-- n entries of pairs, and n whole values behind them.
 pub record SoundPs (l n low : ℕ) (es bs : List ℕ) : Type 0 where
   pub sized : length es ≡ 4 * n
   pub good : wholePs (wholeV l) n low es bs ≡ true

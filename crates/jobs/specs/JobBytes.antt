@@ -20,9 +20,11 @@ fieldsFit o mode attribute second = unused (takesMode o) mode && (unused (takesA
 unfoldable pub entryFits : List ℕ → ℕ → Bool
 entryFits b e = leb (getD b e 0) 10 && fieldsFit (opOf (getD b e 0)) (getD b (e + 1) 0) (rd b (e + 2)) (rd b (e + 6))
 
+-- What the entry at e asks.
 unfoldable pub entryAt : List ℕ → ℕ → Question
 entryAt b e = record { operation = opOf (getD b e 0); mode = getD b (e + 1) 0; attribute = rd b (e + 2); firstLength = rd b (e + 4) }
 
+-- How long its bodies are together.
 unfoldable pub lengthsAt : List ℕ → ℕ → ℕ
 lengthsAt b e = rd b (e + 4) + rd b (e + 6)
 
@@ -44,6 +46,7 @@ questionsFrom b (suc c) e a = (entryAt b e, bodiesAt b e a) ∷ questionsFrom b 
 abbrev pub schemaFrom : List ℕ → ℕ
 schemaFrom b = 4 + 8 * rd b 2
 
+-- Where the bodies begin.
 abbrev pub bodiesFrom : List ℕ → ℕ
 bodiesFrom b = schemaFrom b + rd b 0
 
@@ -55,5 +58,6 @@ schemaOf b = part (schemaFrom b) (bodiesFrom b) b
 abbrev pub jobFits : List ℕ → Bool
 jobFits b = leb (length b) blockBytes && (leb 4 (length b) && (leb (bodiesFrom b) (length b) && fitsFrom b (rd b 2) 4 (length b - bodiesFrom b)))
 
+-- The job that the bytes say.
 abbrev pub jobOf : List ℕ → Job
 jobOf b = record { schema = schemaOf b; questions = questionsFrom b (rd b 2) 4 (bodiesFrom b) }

@@ -20,6 +20,7 @@ use Rattle.jobs.specs.JobBytes.{entryAt, lengthsAt, bodiesAt, bodiesFrom
 unfoldable pub countOf : List ℕ → ℕ
 countOf b = cond (leb 4 (length b)) (rd b 2) 0
 
+-- The cursor at the first question.
 unfoldable pub startOf : List ℕ → Cursor
 startOf b = record { index = 0; body = cond (leb 4 (length b)) (bodiesFrom b) 0 }
 

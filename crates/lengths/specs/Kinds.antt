@@ -29,6 +29,7 @@ unlike m j k =
     (cond (bothIn 9 11 j k) (cond (isPermissive m) (ok (atom anyent)) (err entityType))
     (cond (bothIn 8 11 j k) (err entityRecord) (err noBound))))
 
+-- A bound of kinds, as the code's enum.
 abbrev pub joinedOf : Result Ty → Joined
 joinedOf (ok t) = Kind (code t)
 joinedOf (err e) = Not e

@@ -34,10 +34,12 @@ abbrev pub joinedTo : Mode → Bool → Bool → Result Ty → Result (Option (B
 joinedTo m r s (ok c) = cond (isPermissive m || eqFlag r s) (ok (some (r && s, c))) (err attributeQualifier)
 joinedTo m r s (err e) = cond (isPermissive m) (ok none) (err e)
 
+-- The same, with what the second list has under its name.
 abbrev pub joined : Mode → Bool → Ty → Option (Bool × Ty) → Result (Option (Bool × Ty))
 joined m r t none = cond (isPermissive m) (ok none) (err recordWidth)
 joined m r t (some y) = joinedTo m r (y .0) (direct m t (y .1))
 
+-- The same, as the code's enum.
 abbrev pub pairOf : Result (Option (Bool × Ty)) → Pair
 pairOf (ok none) = Dropped
 pairOf (ok (some y)) = PairKept (cap (length (enc (y .1))))
@@ -53,6 +55,7 @@ pub record Front (l m name : ℕ) (fs cs : List ℕ) : Type 0 where
 abbrev pub attrsAt : ℕ → ℕ → List ℕ → Attrs
 attrsAt l c b = decA (dec l) (rd b c) (part (c + 2) (tableEnd attrRow c b) b) (rest (tableEnd attrRow c b) b)
 
+-- A form whose count at c is followed by as many whole attributes, and no byte over.
 pub record Tabled (l c : ℕ) (b : List ℕ) : Type 0 where
   pub front : c < 4
   pub fit : tableEnd attrRow c b ≤ length b

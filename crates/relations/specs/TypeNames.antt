@@ -20,6 +20,7 @@ abbrev pub NamesWithin : List ℕ → TypeNames → Type 0
 NamesWithin b (From s n) = (s ≤ length b) × Ascending n (rest s b)
 NamesWithin b Nothing = Unit {0}
 
+-- The names of a type, and where they stand in its form.
 pub record NamesFound (b : List ℕ) (names : Option (List ℕ)) (r : TypeNames) : Type 0 where
   pub is : namesAt b r ≡ names
   pub within : NamesWithin b r

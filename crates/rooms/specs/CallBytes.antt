@@ -20,6 +20,7 @@ callOf b =
       second = rd b 12;
     }
 
+-- Its fields, read one by one.
 pub call-is : (b : List ℕ) {a r w s f g : ℕ} → a ≡ rd b 2 → r ≡ rd b 4 → w ≡ rd b 6 → s ≡ rd b 8 → f ≡ rd b 10 → g ≡ rd b 12 →
     record { operation = getD b 0 0; mode = getD b 1 0; attribute = a; room = r; workspace = w; schema = s; first = f; second = g } ≡ callOf b
 unfolding callOf

@@ -39,6 +39,7 @@ abbrev pub signatureOf : List ℕ → FoundEntry → FoundFunction
 signatureOf b (At i start end) = functions.At (record { returns = eqb (getD (rest i b) 2 0) 1; extension = rd (rest i b) 3; start = start; end = end })
 signatureOf b Nothing = functions.Nothing
 
+-- A function's entry, by its name.
 abbrev pub functionAt : ℕ → Section → List ℕ → FoundFunction
 functionAt name x b = signatureOf b (entryAt 7 (Name name) x b)
 
@@ -58,5 +59,6 @@ pub record Kept (b : List ℕ) (x : Sections) : Type 0 where
 abbrev pub openAt : List ℕ → Bool
 openAt c = eqb (getD c 1 0) 1
 
+-- Its attributes.
 abbrev pub attrsAt : List ℕ → Attrs
 attrsAt c = decA (dec (standard .levels - 1)) (rd c 2) (part 4 (4 + 5 * rd c 2) c) (rest (4 + 5 * rd c 2) c)

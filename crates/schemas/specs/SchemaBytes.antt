@@ -61,6 +61,7 @@ typeFits lim b = leb (length b) (lim .bytes) && whole (lim .levels) b
 unfoldable pub bodyFits : Limits → Bool → List ℕ → Bool
 bodyFits lim closed b = typeFits lim b && (present (asRec (dec (lim .levels) b)) && not (closed && recordOf (dec (lim .levels) b) .0))
 
+-- Whether it is open, and its attributes.
 unfoldable pub bodyOf : Limits → List ℕ → Bool × Attrs
 bodyOf lim b = recordOf (dec (lim .levels) b)
 
@@ -68,6 +69,7 @@ bodyOf lim b = recordOf (dec (lim .levels) b)
 abbrev pub argFits : List ℕ → Bool
 argFits b = present (argOf (getD b 0 0) (rd b 1))
 
+-- What the first argument says.
 abbrev pub argAt : List ℕ → Arg
 argAt b = maybe argBool (λ x. x) (argOf (getD b 0 0) (rd b 1))
 
@@ -75,6 +77,7 @@ argAt b = maybe argBool (λ x. x) (argOf (getD b 0 0) (rd b 1))
 unfoldable pub argsFit : List ℕ → Bool
 argsFit b = present (parseArgs b)
 
+-- The arguments that the bytes say.
 unfoldable pub argsOf : List ℕ → List Arg
 argsOf b = maybe [] (λ x. x) (parseArgs b)
 
@@ -82,9 +85,11 @@ argsOf b = maybe [] (λ x. x) (parseArgs b)
 abbrev pub entityBody : Limits → ℕ × Bool → List ℕ → Bool
 entityBody lim h = bodyFits lim (h .1)
 
+-- An action's is closed.
 abbrev pub actionBody : Limits → ℕ × ℕ → List ℕ → Bool
 actionBody lim h = bodyFits lim true
 
+-- A function's is its arguments.
 abbrev pub functionBody : ℕ × Option ℕ → List ℕ → Bool
 functionBody h = argsFit
 
@@ -113,12 +118,15 @@ sectionEnd w x b = x .bodies + used w (x .count) (rest (x .entries) b)
 abbrev pub entitySection : List ℕ → Section
 entitySection b = section (rd b 0) 6 (6 + 5 * rd b 0 + 6 * rd b 2 + 7 * rd b 4)
 
+-- The actions, behind the entity types.
 abbrev pub actionSection : List ℕ → Section
 actionSection b = section (rd b 2) (6 + 5 * rd b 0) (sectionEnd 5 (entitySection b) b)
 
+-- The functions, behind the actions.
 abbrev pub functionSection : List ℕ → Section
 functionSection b = section (rd b 4) (6 + 5 * rd b 0 + 6 * rd b 2) (sectionEnd 6 (actionSection b) b)
 
+-- All three.
 unfoldable pub sectionsOf : List ℕ → Sections
 sectionsOf b = record { entities = entitySection b; actions = actionSection b; functions = functionSection b }
 

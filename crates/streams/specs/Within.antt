@@ -13,15 +13,18 @@ use Rattle.streams.specs.declared.input.Got.the-variants as got
 use Rattle.streams.specs.declared.output.Put.{Put}
 use Rattle.streams.specs.declared.output.Put.the-variants as put
 
+-- What was read is no more than the buffer holds.
 abbrev pub inputWithin : Input → ℕ → Type 0
 inputWithin (input.Bytes n) m = n ≤ m
 inputWithin input.Unreadable m = Unit {0}
 
+-- The same for one read.
 abbrev pub gotWithin : Got → ℕ → Type 0
 gotWithin (got.Bytes n) m = n ≤ m
 gotWithin got.End m = Unit {0}
 gotWithin got.Failed m = Unit {0}
 
+-- What one write took is no more than it was given.
 abbrev pub putWithin : Put → ℕ → Type 0
 putWithin (put.Bytes n) m = n ≤ m
 putWithin put.Failed m = Unit {0}
