@@ -72,7 +72,7 @@ uint64_t tirncheav_may_have_attr(const uint8_t *schema, size_t schema_len, uint1
 uint64_t tirncheav_all_attributes(const uint8_t *schema, size_t schema_len, const uint8_t *t, size_t t_len,
                                   uint8_t *out, size_t out_len, uint8_t *work, size_t work_len);
 
-/* Yes if t0 and the plain type t1 may have a value in common, else no. */
+/* Yes if t0 is consistent with the plain type t1 by the Rust's test, else no; neither says whether a value has both. */
 uint64_t tirncheav_is_consistent_with(const uint8_t *t0, size_t t0_len, const uint8_t *t1, size_t t1_len);
 
 /* Writes the core type of t. */

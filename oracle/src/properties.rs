@@ -144,7 +144,7 @@ fn bounds(tallies: &mut Tallies, schema: &Schema, mode: ValidationMode, a: &Give
     let Ok(bound) = bound else { return };
     let form = write_type(&bound);
     let sum = a.form.len() + b.form.len();
-    tallies.claim("a bound is no longer than both", form.len() <= sum, &forms);
+    tallies.claim("a bound is no longer than both together", form.len() <= sum, &forms);
     let whole = read_type(&form).is_some() || form.len() > 4096;
     tallies.claim("a bound is whole but for its length", whole, &forms);
     let above = [a, b]

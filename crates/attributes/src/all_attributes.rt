@@ -87,7 +87,7 @@ fn kept_names(
 ) -> Names
     requires { ⌜ Kept (now schema) «at» ⌝ }
     requires { ⌜ Named n (now types) ⌝ }
-    requires { ⌜ length (now last) ≡ 4096 ⌝ }
+    requires { ⌜ length (now last) ≡ standard .bytes ⌝ }
     requires { ⌜ Entered m (now es) (now kept) ⌝ }
     ensures { λ r. ⌜ NamedBy (keepFound (λ a. lookupNames (stepFits standard (length (now (work .entry)))) (decS standard (now (schema .entry))) a (namesOf n (now (types .entry)))) (entryNames m (now (es .entry)))) (now (kept .entry)) (now (kept .exit)) r ⌝ }
 {
@@ -119,8 +119,8 @@ fn entity_names(
 ) -> Names
     requires { ⌜ Kept (now schema) «at» ⌝ }
     requires { ⌜ Named n (now types) ⌝ }
-    requires { ⌜ length (now last) ≡ 4096 ⌝ }
-    requires { ⌜ length (now kept) ≡ 4096 ⌝ }
+    requires { ⌜ length (now last) ≡ standard .bytes ⌝ }
+    requires { ⌜ length (now kept) ≡ standard .bytes ⌝ }
     ensures { λ r. ⌜ NamedBy (entityNames (stepFits standard (length (now (work .entry)))) (decS standard (now (schema .entry))) (namesOf n (now (types .entry)))) (now (kept .entry)) (now (kept .exit)) r ⌝ }
 {
     if n == 0 {
@@ -154,8 +154,8 @@ pub fn all_names(
 ) -> Names
     requires { ⌜ Kept (now schema) «at» ⌝ }
     requires { ⌜ Asked (now t) (now last) ⌝ }
-    requires { ⌜ length (now kept) ≡ 4096 ⌝ }
-    ensures { λ r. ⌜ NamedBy (allNames (stepFits standard (length (now (work .entry)))) (decS standard (now (schema .entry))) (dec 16 (now (t .entry)))) (now (kept .entry)) (now (kept .exit)) r ⌝ }
+    requires { ⌜ length (now kept) ≡ standard .bytes ⌝ }
+    ensures { λ r. ⌜ NamedBy (allNames (stepFits standard (length (now (work .entry)))) (decS standard (now (schema .entry))) (dec (standard .levels) (now (t .entry)))) (now (kept .entry)) (now (kept .exit)) r ⌝ }
 {
     let k = t[0];
     match k {

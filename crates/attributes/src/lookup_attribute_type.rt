@@ -12,6 +12,7 @@ use forms::numbers::u16_at;
 use forms::widths::Width;
 use schemas::sections::Sections;
 ghost use mathlib.Core.Path.{_≡_};
+ghost use Prim.Native.Nat.{_-_};
 ghost use mathlib.Core.Bool.{_&&_};
 ghost use lib.ListN.{length};
 ghost use Rattle.cedar.specs.Limits.{standard};
@@ -55,8 +56,8 @@ fn fold_attribute(
 ) -> Looked
     requires { ⌜ Kept (now schema) «at» ⌝ }
     requires { ⌜ Named n (now types) ⌝ }
-    requires { ⌜ Held 15 bytes (now last) ⌝ }
-    ensures { λ r. ⌜ LookedUp (foldAttr (stepFits standard (length (now (work .entry)))) (decS standard (now (schema .entry))) name (first, dec 15 (part 0 bytes (now (last .entry)))) (namesOf n (now (types .entry)))) (now (last .exit)) r ⌝ }
+    requires { ⌜ Held (standard .levels - 1) bytes (now last) ⌝ }
+    ensures { λ r. ⌜ LookedUp (foldAttr (stepFits standard (length (now (work .entry)))) (decS standard (now (schema .entry))) name (first, dec (standard .levels - 1) (part 0 bytes (now (last .entry)))) (namesOf n (now (types .entry)))) (now (last .exit)) r ⌝ }
 {
     let mut len = bytes;
     let mut required = first;
@@ -101,7 +102,7 @@ pub fn look_up_types(
 ) -> Looked
     requires { ⌜ Kept (now schema) «at» ⌝ }
     requires { ⌜ Named n (now types) ⌝ }
-    requires { ⌜ length (now last) ≡ 4096 ⌝ }
+    requires { ⌜ length (now last) ≡ standard .bytes ⌝ }
     ensures { λ r. ⌜ LookedUp (lookupNames (stepFits standard (length (now (work .entry)))) (decS standard (now (schema .entry))) name (namesOf n (now (types .entry)))) (now (last .exit)) r ⌝ }
 {
     if n == 0 {
@@ -136,7 +137,7 @@ pub fn look_up(
 ) -> Looked
     requires { ⌜ Kept (now schema) «at» ⌝ }
     requires { ⌜ Asked (now t) (now last) ⌝ }
-    ensures { λ r. ⌜ LookedUp (lookup (stepFits standard (length (now (work .entry)))) (decS standard (now (schema .entry))) name (dec 16 (now (t .entry)))) (now (last .exit)) r ⌝ }
+    ensures { λ r. ⌜ LookedUp (lookup (stepFits standard (length (now (work .entry)))) (decS standard (now (schema .entry))) name (dec (standard .levels) (now (t .entry)))) (now (last .exit)) r ⌝ }
 {
     if t[0] == Kind::ENTITY {
         return look_up_types(schema, at, &t[3..], u16_at(t, 1), name, last, work);

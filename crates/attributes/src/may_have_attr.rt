@@ -78,8 +78,8 @@ fn entity_may_have(schema: &[u8], at: Sections, types: &[u8], n: usize, name: us
 // Whether a value of the type might have the attribute.
 pub fn may_have_attr(schema: &[u8], at: Sections, t: &[u8], name: usize) -> bool
     requires { ⌜ Kept (now schema) «at» ⌝ }
-    requires { ⌜ whole 16 (now t) ≡ true ⌝ }
-    ensures { λ r. ⌜ r ≡ mayHave (decS standard (now (schema .entry))) name (dec 16 (now (t .entry))) ⌝ }
+    requires { ⌜ whole (standard .levels) (now t) ≡ true ⌝ }
+    ensures { λ r. ⌜ r ≡ mayHave (decS standard (now (schema .entry))) name (dec (standard .levels) (now (t .entry))) ⌝ }
 {
     let k = t[0];
     match k {

@@ -7,7 +7,7 @@ use Rattle.cedar.specs.Types.{Mode, Ty, Attrs}
 use Rattle.cedar.specs.TypeForm.{count, enc}
 use Rattle.cedar.specs.Result.{Result, ok, err}
 use Rattle.cedar.specs.Bound.{sameNames}
-use Rattle.cedar.specs.Direct.{directAttrs}
+use Rattle.cedar.specs.Laws.DirectBound.{directAttrs}
 
 -- The bound of two attribute lists, with the names that the mode allows.
 abbrev pub joinedAttrs : Mode → Attrs → Attrs → Result Attrs

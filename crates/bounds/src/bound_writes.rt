@@ -29,7 +29,7 @@ ghost use Rattle.cedar.specs.Types.{ent, find as findAttr};
 ghost use Rattle.cedar.specs.TypeForm.{enc};
 ghost use Rattle.cedar.specs.Result.{ok};
 ghost use Rattle.cedar.specs.Bound.{union};
-ghost use Rattle.cedar.specs.Direct.{direct};
+ghost use Rattle.cedar.specs.Laws.DirectBound.{direct};
 ghost use Rattle.forms.specs.Parts.{rd, rest, kind};
 ghost use Rattle.forms.specs.TypeBytes.{whole, dec, decA, namesUp, namesOf};
 ghost use Rattle.lengths.specs.Extents.{table, formOf, Ready};

@@ -18,7 +18,7 @@ ghost use Prim.Native.Nat.{_≤_};
 ghost use lib.Dec.{eqb};
 ghost use lib.ListN.{length, getD};
 ghost use Rattle.cedar.specs.Types.{permissive, find as findAttr};
-ghost use Rattle.cedar.specs.Direct.{direct};
+ghost use Rattle.cedar.specs.Laws.DirectBound.{direct};
 ghost use Rattle.forms.specs.Parts.{rd};
 ghost use Rattle.forms.specs.TypeBytes.{whole, dec, decA};
 ghost use Rattle.forms.specs.Modes.{asMode};

@@ -20,8 +20,7 @@ use Rattle.cedar.specs.Attribute.{ownAttr, lookup, mayHave, allNames}
 use Rattle.cedar.specs.Consistency.{plain, consistent}
 use Rattle.cedar.specs.Conversion.{convert}
 use Rattle.cedar.specs.Literal.{literal}
-use Rattle.cedar.specs.Conformance.{Verdict, holds, fails, failsInside, unknown, shorter, asUid}
-use Rattle.cedar.specs.Conforms.{walked}
+use Rattle.cedar.specs.Conformance.{Verdict, holds, fails, failsInside, unknown, Counts, shorter, conforms, asUid}
 
 -- One question: its number where nothing answers it, else the call goes on with the answer.
 abbrev pub ask : {A : Type 0} → ℕ → Option A → (A → Outcome) → Outcome
@@ -33,11 +32,11 @@ modeOf zero = some strict
 modeOf (suc zero) = some permissive
 modeOf (suc (suc n)) = none
 
--- Is an answer of these bytes within the result buffer and the form's length?
+-- Is an answer of these bytes within the result buffer and the limit on a form's length?
 abbrev pub answerFits : Limits → ℕ → List ℕ → Bool
 answerFits lim room w = leb (length w) (min room (lim .bytes))
 
--- Is a step's bound within half the workspace, rounded down, and the form's length?
+-- Is a step's bound within half the workspace, rounded down, and the limit on a form's length?
 abbrev pub stepFits : Limits → ℕ → Ty → Bool
 stepFits lim work t = leb (length (enc t)) (min (work / 2) (lim .bytes))
 
@@ -67,11 +66,6 @@ ofVerdict holds = said true
 ofVerdict fails = said false
 ofVerdict failsInside = said false
 ofVerdict unknown = refused unknownFunction
-
--- What the walk comes to: its verdict, or the refusal before it.
-abbrev pub ofWalk : Result Verdict → Outcome
-ofWalk (ok d) = ofVerdict d
-ofWalk (err n) = refused n
 
 -- Part 2, `euid_literal`.
 abbrev pub literalCall : Limits → List ℕ → List ℕ → ℕ → Outcome
@@ -156,6 +150,14 @@ convertCall lim t room =
     ask notConvertible (convert a) λ c.
     writeType lim room (ok c)
 
--- Part 9, `typecheck_restricted_expr`: the walk that conforming is defined by.
+-- Part 9, by a rule on the number of a call's arguments.
+abbrev pub conformsBy : Counts → Limits → List ℕ → List ℕ → List ℕ → Outcome
+conformsBy c lim schema t v =
+    ask badSchema (wholeSchema lim schema) λ s.
+    ask badFirst (wholeType lim t) λ a.
+    ask badValue (wholeValue lim v) λ x.
+    ofVerdict (conforms c s a x)
+
+-- Part 9, `typecheck_restricted_expr`: arguments pairwise to the shorter end.
 abbrev pub conformsCall : Limits → List ℕ → List ℕ → List ℕ → Outcome
-conformsCall lim schema t v = ofWalk (walked lim shorter schema t v)
+conformsCall lim schema t v = conformsBy shorter lim schema t v

@@ -148,21 +148,21 @@ leftOver exact = fails
 unfoldable mutual
   -- `typecheck_restricted_expr_against_schematype`, the stand-in of 01: the kind of value for 1 to 3; for 4, a call of a known
   -- function that returns the extension and whose arguments fit by this rule; an unknown function is a no.
-  pub fits : Counts → Schema → Value → Arg → Verdict
-  fits c s (boolean b) a = verdict (isArg a (boolean b))
-  fits c s (number l) a = verdict (isArg a (number l))
-  fits c s (text l) a = verdict (isArg a (text l))
-  fits c s (uid k i) a = fails
-  fits c s (setOf vs) a = fails
-  fits c s (recordOf ps) a = fails
-  fits c s (call f vs) a = maybe fails (λ e. maybe failsInside (λ g. andThen (verdict (returnsExt g e)) (fitAll c s vs (g .args))) (functionOf s f)) (argExtension a)
+  pub ofArgument : Counts → Schema → Value → Arg → Verdict
+  ofArgument c s (boolean b) a = verdict (isArg a (boolean b))
+  ofArgument c s (number l) a = verdict (isArg a (number l))
+  ofArgument c s (text l) a = verdict (isArg a (text l))
+  ofArgument c s (uid k i) a = fails
+  ofArgument c s (setOf vs) a = fails
+  ofArgument c s (recordOf ps) a = fails
+  ofArgument c s (call f vs) a = maybe fails (λ e. maybe failsInside (λ g. andThen (verdict (returnsExt g e)) (ofArguments c s vs (g .args))) (functionOf s f)) (argExtension a)
 
   -- Arguments pairwise.
-  pub fitAll : Counts → Schema → Values → List Arg → Verdict
-  fitAll c s end [] = holds
-  fitAll c s end (a ∷ ks) = leftOver c
-  fitAll c s (value v vs) [] = leftOver c
-  fitAll c s (value v vs) (a ∷ ks) = andThen (fits c s v a) (fitAll c s vs ks)
+  pub ofArguments : Counts → Schema → Values → List Arg → Verdict
+  ofArguments c s end [] = holds
+  ofArguments c s end (a ∷ ks) = leftOver c
+  ofArguments c s (value v vs) [] = leftOver c
+  ofArguments c s (value v vs) (a ∷ ks) = andThen (ofArgument c s v a) (ofArguments c s vs ks)
 
 -- Each member, in order.
 abbrev pub eachValue : (Value → Verdict) → Values → Verdict
@@ -186,7 +186,7 @@ hasRequired (attr n r t xs) ps = (not r || hasName n ps) && hasRequired xs ps
 
 -- A call as a value of the extension e: a known function, else 7; then the returned extension; then the arguments.
 abbrev pub isExtension : Counts → Schema → ℕ → ℕ × Values → Verdict
-isExtension c s e x = maybe unknown (λ g. andThen (verdict (returnsExt g e)) (fitAll c s (x .1) (g .args))) (functionOf s (x .0))
+isExtension c s e x = maybe unknown (λ g. andThen (verdict (returnsExt g e)) (ofArguments c s (x .1) (g .args))) (functionOf s (x .0))
 
 unfoldable mutual
   -- `conforms c s t v`: v is of type t under the schema s. A record: its pairs first, then the required names.

@@ -1,4 +1,5 @@
--- Part 8, `Type::is_consistent_with`: is there a value of both types? The second is a core type, a plain form.
+-- Part 8, `Type::is_consistent_with`: the Rust's test, case by case; neither its yes nor its no says whether some value has both types.
+-- The second is a core type, a plain form.
 use Prim.Native.Nat.{ℕ}
 use mathlib.Core.List.{List, [], _∷_}
 use mathlib.Core.Bool.{Bool, true, false, not, _&&_, _||_}

@@ -1,12 +1,12 @@
--- The job form: `encJob` writes a job, `parseJob` reads one back.
-use Prim.Native.Nat.{ℕ, _+_, _*_, _-_}
-use mathlib.Core.List.{List, [], _∷_, _++_}
+-- The job form: `parseJob` reads a job.
+use Prim.Native.Nat.{ℕ, _+_, _*_}
+use mathlib.Core.List.{List, [], _∷_}
 use mathlib.Core.Bool.{Bool, true, false, _&&_, _||_}
 use mathlib.Core.Option.{Option, none, some}
 use lib.Dec.{eqb, leb}
 use lib.ListN.{length, take, drop, getD}
-use Rattle.cedar.specs.Bytes.{u16, guard, byte, word, finish, _>>=_}
-use Rattle.cedar.specs.Table.{heads, tails, rows}
+use Rattle.cedar.specs.Bytes.{guard, byte, word, finish, _>>=_}
+use Rattle.cedar.specs.Table.{rows}
 use Rattle.cedar.specs.Limits.{blockBytes}
 use Rattle.cedar.specs.Whole.{within}
 
@@ -18,31 +18,47 @@ pub data Operation : Type 0 where
 abbrev pub operationOf : ℕ → Option Operation
 operationOf k = getD (some subtypeOp ∷ some boundOp ∷ some disjointOp ∷ some lookupOp ∷ some mayHaveOp ∷ some namesOp ∷ some consistentOp ∷ some convertOp ∷ some conformsOp ∷ some foldOp ∷ some literalOp ∷ []) k none
 
--- The number of an operation.
-abbrev pub operationCode : Operation → ℕ
-operationCode subtypeOp = 0
-operationCode boundOp = 1
-operationCode disjointOp = 2
-operationCode lookupOp = 3
-operationCode mayHaveOp = 4
-operationCode namesOp = 5
-operationCode consistentOp = 6
-operationCode convertOp = 7
-operationCode conformsOp = 8
-operationCode foldOp = 9
-operationCode literalOp = 10
-
 -- Only subtype, bound and fold take a mode.
 abbrev pub takesMode : Operation → Bool
-takesMode o = getD (true ∷ true ∷ false ∷ false ∷ false ∷ false ∷ false ∷ false ∷ false ∷ true ∷ false ∷ []) (operationCode o) false
+takesMode subtypeOp = true
+takesMode boundOp = true
+takesMode disjointOp = false
+takesMode lookupOp = false
+takesMode mayHaveOp = false
+takesMode namesOp = false
+takesMode consistentOp = false
+takesMode convertOp = false
+takesMode conformsOp = false
+takesMode foldOp = true
+takesMode literalOp = false
 
 -- Only lookup and may-have take an attribute.
 abbrev pub takesAttribute : Operation → Bool
-takesAttribute o = getD (false ∷ false ∷ false ∷ true ∷ true ∷ false ∷ false ∷ false ∷ false ∷ false ∷ false ∷ []) (operationCode o) false
+takesAttribute subtypeOp = false
+takesAttribute boundOp = false
+takesAttribute disjointOp = false
+takesAttribute lookupOp = true
+takesAttribute mayHaveOp = true
+takesAttribute namesOp = false
+takesAttribute consistentOp = false
+takesAttribute convertOp = false
+takesAttribute conformsOp = false
+takesAttribute foldOp = false
+takesAttribute literalOp = false
 
 -- Subtype, bound, disjoint, consistent and conforms take two bodies, the others one.
 abbrev pub takesSecond : Operation → Bool
-takesSecond o = getD (true ∷ true ∷ true ∷ false ∷ false ∷ false ∷ true ∷ false ∷ true ∷ false ∷ false ∷ []) (operationCode o) false
+takesSecond subtypeOp = true
+takesSecond boundOp = true
+takesSecond disjointOp = true
+takesSecond lookupOp = false
+takesSecond mayHaveOp = false
+takesSecond namesOp = false
+takesSecond consistentOp = true
+takesSecond convertOp = false
+takesSecond conformsOp = true
+takesSecond foldOp = false
+takesSecond literalOp = false
 
 -- A question: its operation, mode number, attribute name, and the length of its first body.
 pub record Question : Type 0 where
@@ -51,9 +67,9 @@ pub record Question : Type 0 where
   pub attribute : ℕ
   pub firstLength : ℕ
 
--- A field that is not taken is 0.
-abbrev pub unused : Bool → ℕ → Bool
-unused taken n = taken || eqb n 0
+-- Is a field taken by the operation, or else 0?
+abbrev pub takenOrZero : Bool → ℕ → Bool
+takenOrZero taken n = taken || eqb n 0
 
 -- A question's entry: operation, mode, attribute, the two lengths, which together are its body's.
 abbrev pub readQuestion : List ℕ → Option (Question × ℕ × List ℕ)
@@ -64,7 +80,7 @@ readQuestion b = do
   (a, b₃) ← word b₂
   (i, b₄) ← word b₃
   (j, b₅) ← word b₄
-  _ ← guard (unused (takesMode o) m && (unused (takesAttribute o) a && unused (takesSecond o) j))
+  _ ← guard (takenOrZero (takesMode o) m && (takenOrZero (takesAttribute o) a && takenOrZero (takesSecond o) j))
   some (record { operation = o; mode = m; attribute = a; firstLength = i }, i + j, b₅)
 
 -- Questions stand in any order.
@@ -94,16 +110,3 @@ parseJob b = do
 -- A job of at most 32,768 bytes.
 abbrev pub wholeJob : List ℕ → Option Job
 wholeJob b = within blockBytes parseJob b
-
--- A question's entry as bytes.
-abbrev pub writeQuestion : Question → ℕ → List ℕ
-writeQuestion q n = operationCode (q .operation) ∷ q .mode ∷ u16 (q .attribute) ++ (u16 (q .firstLength) ++ u16 (n - q .firstLength))
-
--- A question's two bodies as bytes.
-abbrev pub joinBodies : List ℕ × List ℕ → List ℕ
-joinBodies x = x .0 ++ x .1
-
--- The bytes of a job.
-abbrev pub encJob : Job → List ℕ
-encJob j = u16 (length (j .schema)) ++ (u16 (length (j .questions))
-    ++ (heads writeQuestion joinBodies (j .questions) ++ (j .schema ++ tails joinBodies (j .questions))))

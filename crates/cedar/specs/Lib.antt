@@ -1,6 +1,5 @@
 -- Document 01 as definitions. What stands here is believed; what is proved of it stands below Laws.
 pub mod Types
-pub mod Shape
 pub mod Bytes
 pub mod Table
 pub mod Limits
@@ -13,16 +12,15 @@ pub mod Result
 pub mod Disjoint
 pub mod Subtype
 pub mod Bound
-pub mod Direct
 pub mod Fold
 pub mod Attribute
 pub mod Consistency
 pub mod Conversion
 pub mod Literal
 pub mod Conformance
-pub mod Conforms
 pub mod Outcome
 pub mod Calls
+pub mod Conforms
 pub mod Sequence
 pub mod JobForm
 pub mod Lines

@@ -14,9 +14,9 @@ use Rattle.cedar.specs.JobForm.{Operation, subtypeOp, boundOp, disjointO
 abbrev pub jobWork : ℕ
 jobWork = 8192
 
--- The bytes of a job's result buffer.
+-- The bytes of a job's result buffer: the longest form.
 abbrev pub jobRoom : ℕ
-jobRoom = 4096
+jobRoom = standard .bytes
 
 -- A question of a job under its schema, put to its call; x and y are its bodies.
 abbrev pub askCall : Operation → Limits → ℕ → ℕ → List ℕ → List ℕ → List ℕ → Outcome
@@ -65,19 +65,19 @@ numberOf (attribute r t) = 0
 numberOf (named ns) = 0
 
 -- What stands before an answer's bytes, or the whole answer: -, yes, no, none, r:, o:.
-abbrev pub word : Outcome → List ℕ
-word (refused n) = 45 ∷ []
-word (said true) = 121 ∷ 101 ∷ 115 ∷ []
-word (said false) = 110 ∷ 111 ∷ []
-word nothing = 110 ∷ 111 ∷ 110 ∷ 101 ∷ []
-word (typed t) = []
-word (attribute true t) = 114 ∷ 58 ∷ []
-word (attribute false t) = 111 ∷ 58 ∷ []
-word (named ns) = []
+abbrev pub wordOf : Outcome → List ℕ
+wordOf (refused n) = 45 ∷ []
+wordOf (said true) = 121 ∷ 101 ∷ 115 ∷ []
+wordOf (said false) = 110 ∷ 111 ∷ []
+wordOf nothing = 110 ∷ 111 ∷ 110 ∷ 101 ∷ []
+wordOf (typed t) = []
+wordOf (attribute true t) = 114 ∷ 58 ∷ []
+wordOf (attribute false t) = 111 ∷ 58 ∷ []
+wordOf (named ns) = []
 
 -- A line: index, refusal or 0, answer, single spaces between, newline.
 abbrev pub line : ℕ → Outcome → List ℕ
-line i o = decimal i ++ (32 ∷ decimal (numberOf o) ++ (32 ∷ word o ++ (hex (bytesOf o) ++ (10 ∷ []))))
+line i o = decimal i ++ (32 ∷ decimal (numberOf o) ++ (32 ∷ wordOf o ++ (hex (bytesOf o) ++ (10 ∷ []))))
 
 -- The lines of questions, from index i on.
 abbrev pub linesFrom : List ℕ → ℕ → List (Question × (List ℕ × List ℕ)) → List ℕ

@@ -1,6 +1,5 @@
 -- An answer, or the number of a refusal; the numbers of 01, named once.
 use Prim.Native.Nat.{ℕ}
-use mathlib.Core.Option.{Option, none, some}
 
 -- `Result`, with a refusal's number for the error.
 pub data Result (A : Type 0) : Type 0 where
@@ -11,11 +10,6 @@ pub data Result (A : Type 0) : Type 0 where
 abbrev pub bind : {A B : Type 0} → Result A → (A → Result B) → Result B
 bind (ok a) f = f a
 bind (err e) f = err e
-
--- What a question asks for, or its number where there is none.
-abbrev pub need : {A : Type 0} → ℕ → Option A → Result A
-need n none = err n
-need n (some a) = ok a
 
 -- The mode is 0 or 1?
 abbrev pub badMode : ℕ
@@ -49,11 +43,11 @@ unknownFunction = 7
 abbrev pub notConvertible : ℕ
 notConvertible = 8
 
--- A step's bound is within half the workspace and the form's length?
+-- A step's bound is within half the workspace and the limit on a form's length?
 abbrev pub stepTooLong : ℕ
 stepTooLong = 9
 
--- The answer is within the result buffer and the form's length?
+-- The answer is within the result buffer and the limit on a form's length?
 abbrev pub answerTooLong : ℕ
 answerTooLong = 10
 

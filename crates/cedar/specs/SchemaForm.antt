@@ -1,13 +1,13 @@
--- The schema form: `encSchema` writes a schema, `parseSchema` reads one back.
+-- The schema form: `parseSchema` reads a schema.
 use Prim.Native.Nat.{ℕ, suc, _+_, _*_}
-use mathlib.Core.List.{List, [], _∷_, _++_}
+use mathlib.Core.List.{List, [], _∷_}
 use mathlib.Core.Bool.{Bool, true, false, not, _||_, _&&_, cond}
 use mathlib.Core.Option.{Option, none, some}
 use lib.Dec.{eqb, leb, ltb}
 use lib.ListN.{length, drop, getD}
-use Rattle.cedar.specs.Types.{Ty, rec, Attrs, Arg, argBool, argLong, argString, argExt, Entity, Action, Function, Schema, isAction, maybe, present, asRec}
-use Rattle.cedar.specs.Bytes.{u16, flag, guard, word, bit, finish, _>>=_}
-use Rattle.cedar.specs.Table.{heads, tails, rows, ascending}
+use Rattle.cedar.specs.Types.{Ty, rec, Attrs, Arg, argBool, argLong, argString, argExt, Entity, Action, Function, Schema, isAction, asRec}
+use Rattle.cedar.specs.Bytes.{guard, word, bit, finish, _>>=_}
+use Rattle.cedar.specs.Table.{rows, ascending}
 use Rattle.cedar.specs.TypeForm.{enc}
 use Rattle.cedar.specs.Limits.{maxEntities, maxActions, maxFunctions}
 
@@ -96,55 +96,6 @@ parseSchema p b = do
   (zs, es₃, bs₃) ← rows readFunction ascendingFirst (λ h. parseArgs) k 0 es₂ bs₂
   finish (record { entities = entitiesOf xs; actions = actionsOf ys; functions = functionsOf zs }) bs₃
 
--- The table of the entity types' section.
-abbrev pub entityRows : List Entity → List ((ℕ × Bool) × (Bool × Attrs))
-entityRows [] = []
-entityRows (e ∷ es) = ((e .name, e .enumerated), (e .isOpen, e .attrs)) ∷ entityRows es
-
--- The table of the actions' section; their bodies are closed.
-abbrev pub actionRows : List Action → List ((ℕ × ℕ) × (Bool × Attrs))
-actionRows [] = []
-actionRows (a ∷ xs) = ((a .type, a .id), (false, a .attrs)) ∷ actionRows xs
-
--- The table of the functions' section.
-abbrev pub functionRows : List Function → List ((ℕ × Option ℕ) × List Arg)
-functionRows [] = []
-functionRows (f ∷ fs) = ((f .name, f .returns), f .args) ∷ functionRows fs
-
--- An entity entry as bytes.
-abbrev pub writeEntity : ℕ × Bool → ℕ → List ℕ
-writeEntity h l = u16 (h .0) ++ (flag (h .1) ∷ u16 l)
-
--- An action entry as bytes.
-abbrev pub writeAction : ℕ × ℕ → ℕ → List ℕ
-writeAction h l = u16 (h .0) ++ (u16 (h .1) ++ u16 l)
-
--- A function entry as bytes.
-abbrev pub writeFunction : ℕ × Option ℕ → ℕ → List ℕ
-writeFunction h l = u16 (h .0) ++ (flag (present (h .1)) ∷ u16 (maybe 0 (λ e. e) (h .1)) ++ u16 l)
-
 -- A body, a record form.
 abbrev pub encBody : Bool × Attrs → List ℕ
 encBody x = enc (rec (x .0) (x .1))
-
--- An argument as bytes.
-abbrev pub encArg : Arg → List ℕ
-encArg argBool = 1 ∷ 0 ∷ 0 ∷ []
-encArg argLong = 2 ∷ 0 ∷ 0 ∷ []
-encArg argString = 3 ∷ 0 ∷ 0 ∷ []
-encArg (argExt e) = 4 ∷ u16 e
-
--- A function's body as bytes.
-abbrev pub encArgs : List Arg → List ℕ
-encArgs [] = []
-encArgs (a ∷ xs) = encArg a ++ encArgs xs
-
--- The bytes of a schema.
-abbrev pub encSchema : Schema → List ℕ
-encSchema s =
-    let xs = entityRows (s .entities) in
-    let ys = actionRows (s .actions) in
-    let zs = functionRows (s .functions) in
-    u16 (length xs) ++ (u16 (length ys) ++ (u16 (length zs)
-    ++ (heads writeEntity encBody xs ++ (heads writeAction encBody ys ++ (heads writeFunction encArgs zs
-    ++ (tails encBody xs ++ (tails encBody ys ++ tails encArgs zs)))))))

@@ -8,17 +8,6 @@ use lib.Dec.{leb}
 use lib.ListN.{length, take, drop}
 use Rattle.cedar.specs.Bytes.{word, guard, finish, _>>=_}
 
-module _ {H A : Type 0} where
-  -- The entries of a table.
-  abbrev pub heads : (H → ℕ → List ℕ) → (A → List ℕ) → List (H × A) → List ℕ
-  heads write e [] = []
-  heads write e (x ∷ xs) = write (x .0) (length (e (x .1))) ++ heads write e xs
-
-  -- The bodies of a table.
-  abbrev pub tails : (A → List ℕ) → List (H × A) → List ℕ
-  tails e [] = []
-  tails e (x ∷ xs) = e (x .1) ++ tails e xs
-
 module _ {H S A : Type 0} where
   -- `rows read next p c s es bs`: c entries off the front of es with their bodies off the front of bs, and what is left of both.
   -- `read` takes an entry off the front: head, length, rest. `next` says whether a head may follow. `p` reads a head's body.
@@ -32,7 +21,7 @@ module _ {H S A : Type 0} where
     (xs, es₁, bs₁) ← rows read next p c s₁ rest (drop l bs)
     some ((h, a) ∷ xs, es₁, bs₁)
 
-  -- A count, so many entries of a width, their bodies, and no byte over.
+  -- A count, so many entries of a width, their bodies, and no byte over. The width is how many bytes `read` takes off the front.
   abbrev pub parseCounted : (List ℕ → Option (H × ℕ × List ℕ)) → (S → H → Option S) → (H → List ℕ → Option A) → ℕ → S → List ℕ → Option (List (H × A))
   parseCounted read next p width s b = do
     (c, es) ← word b

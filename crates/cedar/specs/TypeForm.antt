@@ -14,11 +14,31 @@ pub data Kind : Type 0 where
   one : Atom → Kind
   setKind recKind entKind actKind extKind noKind : Kind
 
--- The kind of a first byte, 0 to 12.
+-- The kind of a first byte: the kinds in the order of their numbers, 0 to 12.
 abbrev pub kindOf : ℕ → Kind
 kindOf k = getD (one never ∷ one true′ ∷ one false′ ∷ one bool ∷ one long ∷ one string ∷ one anyset ∷ setKind ∷ recKind ∷ one anyent ∷ entKind ∷ actKind ∷ extKind ∷ []) k noKind
 
--- The byte of an atom.
+-- The kind number of a set.
+abbrev pub setCode : ℕ
+setCode = 7
+
+-- Of a record.
+abbrev pub recordCode : ℕ
+recordCode = 8
+
+-- Of an entity.
+abbrev pub entityCode : ℕ
+entityCode = 10
+
+-- Of an action.
+abbrev pub actionCode : ℕ
+actionCode = 11
+
+-- Of an extension.
+abbrev pub extensionCode : ℕ
+extensionCode = 12
+
+-- Of an atom.
 abbrev pub atomCode : Atom → ℕ
 atomCode never = 0
 atomCode true′ = 1
@@ -38,11 +58,11 @@ unfoldable mutual
   -- The bytes of a type.
   pub enc : Ty → List ℕ
   enc (atom k) = atomCode k ∷ []
-  enc (set t) = 7 ∷ enc t
-  enc (rec o xs) = 8 ∷ flag o ∷ u16 (count xs) ++ (entries xs ++ bodies xs)
-  enc (ent ns) = 10 ∷ u16 (length ns) ++ encNames ns
-  enc (act n xs) = 11 ∷ u16 n ++ (u16 (count xs) ++ (entries xs ++ bodies xs))
-  enc (ext n) = 12 ∷ u16 n
+  enc (set t) = setCode ∷ enc t
+  enc (rec o xs) = recordCode ∷ flag o ∷ u16 (count xs) ++ (entries xs ++ bodies xs)
+  enc (ent ns) = entityCode ∷ u16 (length ns) ++ encNames ns
+  enc (act n xs) = actionCode ∷ u16 n ++ (u16 (count xs) ++ (entries xs ++ bodies xs))
+  enc (ext n) = extensionCode ∷ u16 n
 
   -- The entries: name, required byte, length of the body.
   pub entries : Attrs → List ℕ

@@ -14,9 +14,33 @@ pub data ValueKind : Type 0 where
   boolKind : Bool → ValueKind
   longKind stringKind uidKind setKind recordKind callKind noKind : ValueKind
 
--- The kind of a first byte, 0 to 7.
+-- The kind of a first byte: the kinds in the order of their numbers, 0 to 7; false is 0 and true is 1.
 abbrev pub valueKind : ℕ → ValueKind
 valueKind k = getD (boolKind false ∷ boolKind true ∷ longKind ∷ stringKind ∷ uidKind ∷ setKind ∷ recordKind ∷ callKind ∷ []) k noKind
+
+-- The kind number of a Long.
+abbrev pub longCode : ℕ
+longCode = 2
+
+-- Of a string.
+abbrev pub stringCode : ℕ
+stringCode = 3
+
+-- Of a uid.
+abbrev pub uidCode : ℕ
+uidCode = 4
+
+-- Of a set.
+abbrev pub setOfCode : ℕ
+setOfCode = 5
+
+-- Of a record.
+abbrev pub recordOfCode : ℕ
+recordOfCode = 6
+
+-- Of a call.
+abbrev pub callCode : ℕ
+callCode = 7
 
 -- How many values.
 abbrev pub countValues : Values → ℕ
@@ -32,12 +56,12 @@ unfoldable mutual
   -- The bytes of a value.
   pub encValue : Value → List ℕ
   encValue (boolean b) = flag b ∷ []
-  encValue (number l) = 2 ∷ l
-  encValue (text l) = 3 ∷ u16 (length l) ++ l
-  encValue (uid k i) = 4 ∷ u16 k ++ u16 i
-  encValue (setOf vs) = 5 ∷ u16 (countValues vs) ++ (lengths vs ++ bodiesOf vs)
-  encValue (recordOf ps) = 6 ∷ u16 (countPairs ps) ++ (entriesOf ps ++ valuesOf ps)
-  encValue (call f vs) = 7 ∷ u16 f ++ (u16 (countValues vs) ++ (lengths vs ++ bodiesOf vs))
+  encValue (number l) = longCode ∷ l
+  encValue (text l) = stringCode ∷ u16 (length l) ++ l
+  encValue (uid k i) = uidCode ∷ u16 k ++ u16 i
+  encValue (setOf vs) = setOfCode ∷ u16 (countValues vs) ++ (lengths vs ++ bodiesOf vs)
+  encValue (recordOf ps) = recordOfCode ∷ u16 (countPairs ps) ++ (entriesOf ps ++ valuesOf ps)
+  encValue (call f vs) = callCode ∷ u16 f ++ (u16 (countValues vs) ++ (lengths vs ++ bodiesOf vs))
 
   -- The u16 lengths of values.
   pub lengths : Values → List ℕ

@@ -16,7 +16,7 @@ ghost use Prim.Native.Nat.{_≤_};
 ghost use lib.ListN.{length};
 ghost use Rattle.cedar.specs.Limits.{standard};
 ghost use Rattle.cedar.specs.ValueForm.{callKind};
-ghost use Rattle.cedar.specs.Conformance.{shorter, fits, fitAll, isExtension};
+ghost use Rattle.cedar.specs.Conformance.{shorter, ofArgument, ofArguments, isExtension};
 ghost use Rattle.forms.specs.Parts.{rd};
 ghost use Rattle.schemas.specs.SchemaBytes.{decS, argFits, argAt, argsFit, argsOf};
 ghost use Rattle.schemas.specs.Entries.{Kept};
@@ -62,7 +62,7 @@ fn arguments_fit(
     requires { ⌜ Kept (now schema) sections ⌝ }
     requires { ⌜ argsFit (now asked) ≡ true ⌝ }
     requires { ⌜ wholeVAs (wholeV levels) callKind (now v) ≡ true ⌝ }
-    ensures { λ r. ⌜ r ≡ verdictOf (fitAll shorter (decS standard (now (schema .entry))) (argumentsOf levels (now (v .entry))) (argsOf (now (asked .entry)))) ⌝ }
+    ensures { λ r. ⌜ r ≡ verdictOf (ofArguments shorter (decS standard (now (schema .entry))) (argumentsOf levels (now (v .entry))) (argsOf (now (asked .entry)))) ⌝ }
 {
     let n = u16_at(v, ValueOffset::CALL_COUNT);
     let end = ValueOffset::CALL_ENTRIES + Width::MEMBER * n;
@@ -98,7 +98,7 @@ fn argument_fits(
     requires { ⌜ Kept (now schema) sections ⌝ }
     requires { ⌜ (3 ≤ length (now asked)) × (argFits (now asked) ≡ true) ⌝ }
     requires { ⌜ wholeV levels (now v) ≡ true ⌝ }
-    ensures { λ r. ⌜ r ≡ verdictOf (fits shorter (decS standard (now (schema .entry))) (decV levels (now (v .entry))) (argAt (now (asked .entry)))) ⌝ }
+    ensures { λ r. ⌜ r ≡ verdictOf (ofArgument shorter (decS standard (now (schema .entry))) (decV levels (now (v .entry))) (argAt (now (asked .entry)))) ⌝ }
 {
     let k = asked[0];
     let j = v[0];

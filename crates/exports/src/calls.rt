@@ -108,7 +108,7 @@ pub extern "C" fn tirncheav_all_attributes(
     answer_number(all_attributes(schema, t, out, work))
 }
 
-// Whether a type and a core type may have a value in common.
+// Whether a type is consistent with a core type, by the Rust's test.
 #[no_mangle]
 pub extern "C" fn tirncheav_is_consistent_with(t0: &[u8], t1: &[u8]) -> u64
     ensures { λ r. ⌜ r ≡ answerNumber (answerOf (consistentCall standard (now (t0 .entry)) (now (t1 .entry)))) ⌝ }

@@ -17,9 +17,9 @@ use Rattle.folds.specs.Steps.{Held}
 -- A whole list, and room for any form.
 pub record Opened (list last : List ℕ) : Type 0 where
   pub good : listFits standard list ≡ true
-  pub room : length last ≡ 4096
+  pub room : length last ≡ standard .bytes
 
 -- A fold's answer: a bound, its form left in the first bytes of `last`; or a refusal.
 abbrev pub FoldsTo : Result Ty → List ℕ → Folded → Type 0
-FoldsTo f last (To n) = (f ≡ ok (dec 16 (part 0 n last))) × Held 16 n last
+FoldsTo f last (To n) = (f ≡ ok (dec (standard .levels) (part 0 n last))) × Held (standard .levels) n last
 FoldsTo f last (Not e) = f ≡ err e

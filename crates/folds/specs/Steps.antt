@@ -16,8 +16,8 @@ use Rattle.folds.specs.declared.steps.Step.the-variants.{To, Not, TooLon
 
 -- A whole form of at most l levels stands in the first len bytes of `last`, which has room for any form.
 pub record Held (l len : ℕ) (last : List ℕ) : Type 0 where
-  pub room : length last ≡ 4096
-  pub fits : len ≤ 4096
+  pub room : length last ≡ standard .bytes
+  pub fits : len ≤ standard .bytes
   pub good : whole l (part 0 len last) ≡ true
   pub exact : enc (dec l (part 0 len last)) ≡ part 0 len last
 

@@ -34,9 +34,9 @@ fn fold_onto(
     n: usize,
     work: &mut [u8],
 ) -> Folded
-    requires { ⌜ Held 16 len (now last) ⌝ }
+    requires { ⌜ Held (standard .levels) len (now last) ⌝ }
     requires { ⌜ SoundTs standard n (now lengths) (now bytes) ⌝ }
-    ensures { λ r. ⌜ FoldsTo (foldFrom (stepFits standard (length (now (work .entry)))) (asMode mode) (dec 16 (part 0 len (now (last .entry)))) (decTs 16 n (now (lengths .entry)) (now (bytes .entry)))) (now (last .exit)) r ⌝ }
+    ensures { λ r. ⌜ FoldsTo (foldFrom (stepFits standard (length (now (work .entry)))) (asMode mode) (dec (standard .levels) (part 0 len (now (last .entry)))) (decTs (standard .levels) n (now (lengths .entry)) (now (bytes .entry)))) (now (last .exit)) r ⌝ }
 {
     let mut to = len;
     let mut second = true;
@@ -61,7 +61,7 @@ fn fold_onto(
 // The fold of a list, from Never; its form is left in the first bytes of `last`.
 pub fn fold_types(mode: u8, list: &[u8], last: &mut [u8], work: &mut [u8]) -> Folded
     requires { ⌜ Opened (now list) (now last) ⌝ }
-    ensures { λ r. ⌜ FoldsTo (foldTypes (stepFits standard (length (now (work .entry)))) (asMode mode) (listOf 16 (now (list .entry)))) (now (last .exit)) r ⌝ }
+    ensures { λ r. ⌜ FoldsTo (foldTypes (stepFits standard (length (now (work .entry)))) (asMode mode) (listOf (standard .levels) (now (list .entry)))) (now (last .exit)) r ⌝ }
 {
     let n = u16_at(list, 0);
     let end = Offset::LIST_ENTRIES + Width::MEMBER * n;

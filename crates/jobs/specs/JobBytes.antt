@@ -4,7 +4,7 @@ use mathlib.Core.List.{List, [], _∷_}
 use mathlib.Core.Bool.{Bool, _&&_}
 use lib.Dec.{eqb, leb}
 use lib.ListN.{length, getD}
-use Rattle.cedar.specs.JobForm.{Operation, subtypeOp, boundOp, disjointOp, lookupOp, mayHaveOp, namesOp, consistentOp, convertOp, conformsOp, foldOp, literalOp, takesMode, takesAttribute, takesSecond, unused, Question, Job}
+use Rattle.cedar.specs.JobForm.{Operation, subtypeOp, boundOp, disjointOp, lookupOp, mayHaveOp, namesOp, consistentOp, convertOp, conformsOp, foldOp, literalOp, takesMode, takesAttribute, takesSecond, takenOrZero, Question, Job}
 use Rattle.cedar.specs.Limits.{blockBytes}
 use Rattle.forms.specs.Parts.{part, rd}
 
@@ -14,7 +14,7 @@ opOf k = getD (subtypeOp ∷ boundOp ∷ disjointOp ∷ lookupOp ∷ mayHaveOp �
 
 -- The fields that an operation does not take are 0.
 abbrev pub fieldsFit : Operation → ℕ → ℕ → ℕ → Bool
-fieldsFit o mode attribute second = unused (takesMode o) mode && (unused (takesAttribute o) attribute && unused (takesSecond o) second)
+fieldsFit o mode attribute second = takenOrZero (takesMode o) mode && (takenOrZero (takesAttribute o) attribute && takenOrZero (takesSecond o) second)
 
 -- The entry at e: whether it is in order, what it asks, and how long its bodies are together.
 unfoldable pub entryFits : List ℕ → ℕ → Bool

@@ -10,7 +10,7 @@ ghost use mathlib.Core.Path.{_≡_};
 ghost use Prim.Native.Nat.{_+_, _*_, _≤_, _<_};
 ghost use lib.ListN.{length};
 ghost use Rattle.cedar.specs.Types.{present};
-ghost use Rattle.cedar.specs.JobForm.{unused, wholeJob};
+ghost use Rattle.cedar.specs.JobForm.{takenOrZero, wholeJob};
 ghost use Rattle.jobs.specs.JobBytes.{entryFits, fitsFrom, schemaFrom, bodiesFrom};
 
 // Where the parts of a job stand: the schema's length, the count of questions, their entries.
@@ -41,7 +41,7 @@ impl Entry {
 
 // Whether a field is taken or 0.
 fn taken_or_zero(taken: bool, n: usize) -> bool
-    ensures { λ r. ⌜ r ≡ unused taken n ⌝ }
+    ensures { λ r. ⌜ r ≡ takenOrZero taken n ⌝ }
 {
     if taken {
         return true;

@@ -1,18 +1,19 @@
 -- What the passes answer: how long a form is or why there is none, and then its bytes. Assumes nothing: these are definitions.
-use Prim.Native.Nat.{ℕ, _+_, _≤_, min}
+use Prim.Native.Nat.{ℕ, suc, _+_, _≤_, min}
 use mathlib.Core.List.{List, [], _++_}
 use mathlib.Core.Option.{Option, none}
 use mathlib.Core.Path.{_≡_}
 use lib.ListN.{length}
 use Rattle.cedar.specs.Types.{Attrs, maybe}
 use Rattle.cedar.specs.TypeForm.{entries, bodies}
+use Rattle.cedar.specs.Limits.{standard}
 use Rattle.cedar.specs.Result.{Result, ok, err}
 use Rattle.lengths.specs.declared.extents.Extent.{Extent}
 use Rattle.lengths.specs.declared.extents.Extent.the-variants.{Of, Not}
 
 -- A length, or one byte more than the largest form.
 abbrev pub cap : ℕ → ℕ
-cap n = min n 4097
+cap n = min n (suc (standard .bytes))
 
 -- So many bytes more.
 abbrev pub plus : ℕ → Extent → Extent
@@ -37,7 +38,7 @@ formOf w (err e) = []
 pub record Ready {A : Type 0} (w : A → List ℕ) (r : Result A) (o : List ℕ) : Type 0 where
   pub result : A
   pub is : r ≡ ok result
-  pub small : length (w result) ≤ 4096
+  pub small : length (w result) ≤ standard .bytes
   pub room : length (w result) ≤ length o
 
 -- An answer, or a refusal of this number.

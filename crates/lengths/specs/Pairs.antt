@@ -7,7 +7,7 @@ use lib.ListN.{length}
 use Rattle.cedar.specs.Types.{Mode, isPermissive, eqFlag, Ty, Attrs}
 use Rattle.cedar.specs.TypeForm.{count, enc}
 use Rattle.cedar.specs.Result.{Result, ok, err, attributeQualifier, recordWidth}
-use Rattle.cedar.specs.Direct.{direct}
+use Rattle.cedar.specs.Laws.DirectBound.{direct}
 use Rattle.forms.specs.Parts.{part, rest, rd}
 use Rattle.forms.specs.Rows.{tableEnd}
 use Rattle.forms.specs.TypeBytes.{attrRow, decA, dec, Sound}

@@ -29,7 +29,7 @@ ghost use lib.ListN.{length, getD};
 ghost use Rattle.cedar.specs.Types.{find as findAttr};
 ghost use Rattle.cedar.specs.TypeForm.{enc};
 ghost use Rattle.cedar.specs.Bound.{sameNames};
-ghost use Rattle.cedar.specs.Direct.{direct, directAttrs, directNames};
+ghost use Rattle.cedar.specs.Laws.DirectBound.{direct, directAttrs, directNames};
 ghost use Rattle.forms.specs.Parts.{rd, rest, kind};
 ghost use Rattle.forms.specs.TypeBytes.{whole, dec, decA, namesUp, namesOf};
 ghost use Rattle.lengths.specs.Extents.{extentOf};

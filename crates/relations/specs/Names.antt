@@ -4,7 +4,7 @@ use mathlib.Core.Bool.{true}
 use mathlib.Core.List.{List, [], _∷_}
 use mathlib.Core.Path.{_≡_}
 use lib.ListN.{length}
-use Rattle.cedar.specs.Shape.{Ascend}
+use Rattle.cedar.specs.Laws.Shape.{Ascend}
 use Rattle.forms.specs.Parts.{rest, rd}
 use Rattle.forms.specs.TypeBytes.{namesUp, namesOf}
 

@@ -9,7 +9,7 @@ use mathlib.Core.Logic.{_⊎_, inl, inr}
 use lib.Dec.{T}
 use lib.ListN.{length, length-append}
 use Rattle.cedar.specs.Types.{Ty, atom, set, rec, act, ent, ext, Value, Pairs, Entity, Schema, maybe, present, asAct, mem}
-use Rattle.cedar.specs.Shape.{Ordered}
+use Rattle.cedar.specs.Laws.Shape.{Ordered}
 use Rattle.cedar.specs.Bytes.{Bytes}
 use Rattle.cedar.specs.TypeForm.{enc, parse}
 use Rattle.cedar.specs.ValueForm.{encValue, parseValue}

@@ -12,7 +12,7 @@ use Rattle.cedar.specs.Bytes.{u16, flag}
 use Rattle.cedar.specs.TypeForm.{enc, bodies}
 use Rattle.cedar.specs.Result.{Result, ok, err}
 use Rattle.cedar.specs.Outcome.{over}
-use Rattle.cedar.specs.Direct.{direct}
+use Rattle.cedar.specs.Laws.DirectBound.{direct}
 use Rattle.forms.specs.Parts.{rest}
 use Rattle.bounds.specs.Written.{Written}
 use Rattle.lengths.specs.Extents.{formOf, Ready}

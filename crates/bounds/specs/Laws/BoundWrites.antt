@@ -10,12 +10,12 @@ use lib.Dec.{eqb}
 use lib.ListN.{length, getD, take, length-append}
 use Rattle.cedar.specs.Types.{Mode, strict, permissive, isPermissive, eqNames, eqFlag, Ty, atom, set, rec, act, ent, ext, Attrs, nil, attr, maybe, names, find}
 use Rattle.cedar.specs.Bytes.{u16, flag, encNames}
-use Rattle.cedar.specs.Shape.{Ordered}
+use Rattle.cedar.specs.Laws.Shape.{Ordered}
 use Rattle.cedar.specs.TypeForm.{count, enc, entries, bodies}
 use Rattle.cedar.specs.Result.{Result, ok, err, bind}
 use Rattle.cedar.specs.Outcome.{over}
 use Rattle.cedar.specs.Bound.{union, absent, joinEqual, joinOne, joinRecord}
-use Rattle.cedar.specs.Direct.{direct, directAttrs, directNames}
+use Rattle.cedar.specs.Laws.DirectBound.{direct, directAttrs, directNames}
 use Rattle.cedar.specs.Laws.Join.{joinAttrs-join}
 use Rattle.cedar.specs.Laws.Lost.{lost-count}
 use Rattle.cedar.specs.Laws.Direct.{directAttrs-bound}

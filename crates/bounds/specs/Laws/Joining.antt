@@ -13,7 +13,7 @@ use Rattle.cedar.specs.TypeForm.{enc}
 use Rattle.cedar.specs.Bytes.{u16, flag}
 use Rattle.cedar.specs.Result.{Result, ok, err}
 use Rattle.cedar.specs.Outcome.{over}
-use Rattle.cedar.specs.Direct.{direct, directAttrs}
+use Rattle.cedar.specs.Laws.DirectBound.{direct, directAttrs}
 use Rattle.forms.specs.Parts.{part, rest, rd}
 use Rattle.forms.specs.Search.{below, used}
 use Rattle.forms.specs.TypeBytes.{whole, dec, decA}

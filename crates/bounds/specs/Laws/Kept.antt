@@ -12,7 +12,7 @@ use Rattle.cedar.specs.Types.{Mode, strict, permissive, isPermissive, eqNames, 
 use Rattle.cedar.specs.TypeForm.{count, enc}
 use Rattle.cedar.specs.Result.{Result, ok, err, bind}
 use Rattle.cedar.specs.Bound.{absent, joinEqual, joinKept, joinOne, joinRecord}
-use Rattle.cedar.specs.Direct.{direct, directAttrs}
+use Rattle.cedar.specs.Laws.DirectBound.{direct, directAttrs}
 use Rattle.forms.specs.Parts.{part, rest, rd, kind}
 use Rattle.forms.specs.Search.{below, used, foundAt}
 use Rattle.forms.specs.declared.search.Found.{Found}

@@ -9,7 +9,7 @@ use mathlib.Core.Logic.{inl, inr}
 use lib.Dec.{T, eqb, eqb→eq}
 use Rattle.cedar.specs.Types.{permissive, Atom, never, true′, false′, bool, long, string, anyset, anyent, Ty, atom, set, rec, act, ent, ext, Attrs, nil, Entity, Schema, maybe, present, is, mem, find, asAct}
 use Rattle.cedar.specs.Types.{Value, boolean, number, text, uid, setOf, recordOf, call, Pairs, empty, pair}
-use Rattle.cedar.specs.Shape.{Ordered, OrderedFrom}
+use Rattle.cedar.specs.Laws.Shape.{Ordered, OrderedFrom}
 use Rattle.cedar.specs.Result.{ok}
 use Rattle.cedar.specs.Bound.{bound}
 use Rattle.cedar.specs.Conformance.{Verdict, verdict, Counts, shorter, uidType, eachPair, hasName, hasRequired, conforms, conformsAt}

@@ -9,7 +9,7 @@ use mathlib.Core.Logic.{_⊎_, inl, inr}
 use lib.Dec.{T, eqb, eqb→eq}
 use Rattle.cedar.specs.Types.{Mode, bool, Ty, atom, set, rec, act, ent, ext, Attrs, attr, Value, Pairs, Schema}
 use Rattle.cedar.specs.Types.{maybe, eqNames, mem, names, find}
-use Rattle.cedar.specs.Shape.{Ordered, OrderedFrom}
+use Rattle.cedar.specs.Laws.Shape.{Ordered, OrderedFrom}
 use Rattle.cedar.specs.Result.{ok}
 use Rattle.cedar.specs.Bound.{isTruth, lost, bound}
 use Rattle.cedar.specs.Conformance.{fails, verdict, Counts, uidType, members, pairs, eachValue, eachPair, hasName, hasRequired, conforms, conformsAt}

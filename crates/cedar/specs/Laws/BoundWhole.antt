@@ -16,7 +16,7 @@ use Rattle.cedar.specs.Laws.Whole.{wholeType-reads}
 use Rattle.cedar.specs.Laws.Join.{bound-WF}
 use Rattle.cedar.specs.Laws.JoinBytes.{bound-bytes}
 
--- The bound of two whole types, within the form's length, is a whole form of bytes.
+-- The bound of two whole types, within the limit on a form's length, is a whole form of bytes.
 pub bound-whole : (lim : Limits) → lim .bytes < 65536 → (t₀ t₁ : List ℕ) → Bytes t₀ → Bytes t₁ → (m : Mode) (a b c : Ty)
     → wholeType lim t₀ ≡ some a → wholeType lim t₁ ≡ some b → bound m a b ≡ ok c → length (enc c) ≤ lim .bytes → Bytes (enc c) × (wholeType lim (enc c) ≡ some c)
 bound-whole lim small t₀ t₁ h₀ h₁ m a b c ea eb e l =

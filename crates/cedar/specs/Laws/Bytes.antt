@@ -9,7 +9,7 @@ use mathlib.Core.Logic.{_↔_}
 use mathlib.Core.Option.{Option, none, some, Option·some-injective}
 use lib.Dec.{T, leb, leb→le, le→leb}
 use lib.ListN.{length, take, drop}
-use Rattle.cedar.specs.Shape.{Ascend}
+use Rattle.cedar.specs.Laws.Shape.{Ascend}
 use Rattle.cedar.specs.Bytes.{u16, flag, encNames, _>>=_, guard, byte, word, bit, finish, parseNames, Bytes}
 use Rattle.cedar.specs.Laws.Tests.{none-some}
 

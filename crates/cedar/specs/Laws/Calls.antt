@@ -5,23 +5,21 @@ use mathlib.Core.List.{List}
 use mathlib.Core.Bool.{Bool, true}
 use mathlib.Core.Path.{_≡_, refl, sym, ap, _∙_, subst}
 use mathlib.Core.Option.{Option, none, some}
-use mathlib.Core.Logic.{_↔_}
 use lib.Dec.{leb→le}
 use lib.ListN.{length}
 use Rattle.cedar.specs.Types.{Mode, Ty, Value, Schema}
 use Rattle.cedar.specs.TypeForm.{enc}
 use Rattle.cedar.specs.Limits.{Limits}
 use Rattle.cedar.specs.Whole.{wholeType, wholeValue, wholeSchema}
-use Rattle.cedar.specs.Result.{Result, ok, err, bind, need, badSchema, badFirst, badValue}
+use Rattle.cedar.specs.Result.{Result, ok, err}
 use Rattle.cedar.specs.Outcome.{Outcome, refused, said, nothing, typed, attribute, named}
 use Rattle.cedar.specs.Disjoint.{disjoint}
 use Rattle.cedar.specs.Bound.{bound}
 use Rattle.cedar.specs.Attribute.{ownAttr, lookup, mayHave}
-use Rattle.cedar.specs.Conformance.{Verdict, holds, fails, failsInside, unknown, Counts, shorter, conforms}
-use Rattle.cedar.specs.Conforms.{walked, Conforms}
-use Rattle.cedar.specs.Calls.{ask, modeOf, answerFits, stepFits, answer, writeType, writeAttribute, ofVerdict, ofWalk, disjointCall, boundCall, lookupCall, ownAttributeCall, mayHaveCall, conformsCall}
+use Rattle.cedar.specs.Conformance.{Verdict, holds, fails, failsInside, unknown, Counts, conforms}
+use Rattle.cedar.specs.Conforms.{Conforms}
+use Rattle.cedar.specs.Calls.{ask, modeOf, answerFits, stepFits, answer, writeType, writeAttribute, ofVerdict, disjointCall, boundCall, lookupCall, ownAttributeCall, mayHaveCall}
 use Rattle.cedar.specs.Laws.Tests.{cond-case, maybe-case}
-use Rattle.cedar.specs.Laws.Result.{ok-inj, bind-ok, need-ok}
 
 -- An outcome that is no refusal.
 abbrev pub Answer : Outcome → Type 0
@@ -39,7 +37,7 @@ no-answer r h e = absurd (subst Answer (sym e) h)
 pub ask-case : {A C : Type 0} (n : ℕ) (o : Option A) (k : A → Outcome) (r : Outcome) → Answer r → ask n o k ≡ r → ((x : A) → o ≡ some x → k x ≡ r → C) → C
 ask-case n o k r h e g = maybe-case o e (λ i p. no-answer r h p) g
 
--- An answer's bytes were within the form's length.
+-- An answer's bytes were within the limit on a form's length.
 pub answer-case : {C : Type 0} (lim : Limits) (room : ℕ) (w : List ℕ) (o r : Outcome) → Answer r → answer lim room w o ≡ r → (length w ≤ lim .bytes → o ≡ r → C) → C
 answer-case lim room w o r h e k = cond-case (answerFits lim room w) e
     (λ t p. k (let g = leb→le (length w) (min room (lim .bytes)) t in omega arith) p)
@@ -67,6 +65,13 @@ writeAttribute-case lim room (ok none) e k = nothing-attribute e
 writeAttribute-case lim room (ok (some y)) {r} {z} e k = answer-case lim room (enc (y .1)) (attribute (y .0) (y .1)) (attribute r z) tt e λ l p.
     let q = attribute-inj p in k (ap (λ (x : Bool × Ty). ok (some x)) q) (subst (λ (x : Bool × Ty). length (enc (x .1)) ≤ lim .bytes) q l)
 writeAttribute-case lim room (err n) {r} {z} e k = no-answer (attribute r z) tt e
+
+-- A verdict that is a yes.
+verdict-said : (d : Verdict) → ofVerdict d ≡ said true → d ≡ holds
+verdict-said holds e = refl
+verdict-said fails e = absurd (let z : _≡_ {A = ℕ} 0 1 = cc in omega arith)
+verdict-said failsInside e = absurd (let z : _≡_ {A = ℕ} 0 1 = cc in omega arith)
+verdict-said unknown e = no-answer (said true) tt e
 
 module _ {C : Type 0} (lim : Limits) where
   -- A bound call that wrote a type.
@@ -113,45 +118,12 @@ module _ {C : Type 0} (lim : Limits) where
   pub conforms-case : (c : Counts) (schema t v : List ℕ) → Conforms lim c schema t v
       → ((s : Schema) (a : Ty) (x : Value) → wholeSchema lim schema ≡ some s → wholeType lim t ≡ some a → wholeValue lim v ≡ some x → conforms c s a x ≡ holds → C) → C
   conforms-case c schema t v e k =
-      bind-ok (need badSchema (wholeSchema lim schema)) _ e λ s es e₁.
-      bind-ok (need badFirst (wholeType lim t)) _ e₁ λ a ea e₂.
-      bind-ok (need badValue (wholeValue lim v)) _ e₂ λ x ex e₃.
-      k s a x (need-ok _ _ es) (need-ok _ _ ea) (need-ok _ _ ex) (ok-inj e₃)
+      ask-case _ (wholeSchema lim schema) _ (said true) tt e λ s es e₁.
+      ask-case _ (wholeType lim t) _ (said true) tt e₁ λ a ea e₂.
+      ask-case _ (wholeValue lim v) _ (said true) tt e₂ λ x ex e₃.
+      k s a x es ea ex (verdict-said (conforms c s a x) e₃)
 
 -- What is whole, with a verdict of yes, conforms.
 pub conforms-yes : (lim : Limits) (c : Counts) (schema t v : List ℕ) (s : Schema) (a : Ty) (x : Value)
     → wholeSchema lim schema ≡ some s → wholeType lim t ≡ some a → wholeValue lim v ≡ some x → conforms c s a x ≡ holds → Conforms lim c schema t v
 conforms-yes lim c schema t v s a x es ea ex h = rw (es, ea, ex, h)
-
-verdict-said : (d : Verdict) → ofVerdict d ≡ said true → d ≡ holds
-verdict-said holds e = refl
-verdict-said fails e = absurd (let z : _≡_ {A = ℕ} 0 1 = cc in omega arith)
-verdict-said failsInside e = absurd (let z : _≡_ {A = ℕ} 0 1 = cc in omega arith)
-verdict-said unknown e = no-answer (said true) tt e
-
-walk-said : (r : Result Verdict) → ofWalk r ≡ said true → r ≡ ok holds
-walk-said (ok d) e = ap (λ (x : Verdict). ok x) (verdict-said d e)
-walk-said (err n) e = no-answer (said true) tt e
-
--- The conformance call asks its questions as the others do.
-pub conformsCall-asks : (lim : Limits) (schema t v : List ℕ) → conformsCall lim schema t v
-    ≡ ask badSchema (wholeSchema lim schema) (λ s. ask badFirst (wholeType lim t) (λ a. ask badValue (wholeValue lim v) (λ x. ofVerdict (conforms shorter s a x))))
-conformsCall-asks lim schema t v = one (wholeSchema lim schema) (wholeType lim t) (wholeValue lim v)
-  where
-    one : (o : Option Schema) (p : Option Ty) (q : Option Value) → ofWalk (bind (need badSchema o) (λ s. bind (need badFirst p) (λ a. bind (need badValue q) (λ x. ok (conforms shorter s a x)))))
-        ≡ ask badSchema o (λ s. ask badFirst p (λ a. ask badValue q (λ x. ofVerdict (conforms shorter s a x))))
-    one none p q = refl
-    one (some s) none q = refl
-    one (some s) (some a) none = refl
-    one (some s) (some a) (some x) = refl
-
--- The conformance call says yes just where the value conforms.
-pub conformsCall-yes : (lim : Limits) (schema t v : List ℕ) → (conformsCall lim schema t v ≡ said true) ↔ Conforms lim shorter schema t v
-conformsCall-yes lim schema t v = (into, back)
-  where
-    into : conformsCall lim schema t v ≡ said true → Conforms lim shorter schema t v
-    into e =
-        walk-said (walked lim shorter schema t v) e
-
-    back : Conforms lim shorter schema t v → conformsCall lim schema t v ≡ said true
-    back h = ap ofWalk h

@@ -7,7 +7,7 @@ use mathlib.Core.Option.{some, Option·some-injective}
 use lib.Dec.{T, eqb}
 use lib.ListN.{length, length-append}
 use Rattle.cedar.specs.Types.{Atom, never, true′, false′, bool, long, string, anyset, anyent, Ty, atom, set, rec, act, ent, ext, Attrs, nil, attr}
-use Rattle.cedar.specs.Shape.{depth, depths, Ordered, OrderedFrom}
+use Rattle.cedar.specs.Laws.Shape.{depth, depths, Ordered, OrderedFrom}
 use Rattle.cedar.specs.TypeForm.{count, enc, bodies}
 use Rattle.cedar.specs.Consistency.{plain, plainAttrs}
 use Rattle.cedar.specs.Conversion.{convertAtom, convert, convertAttrs}

@@ -9,11 +9,11 @@ use mathlib.Core.Option.{Option, Option·some-injective}
 use lib.Dec.{T, T-not, eqb, eqb→eq}
 use Rattle.cedar.specs.Types.{Mode, strict, permissive, isPermissive, Atom, never, Ty, atom, set, rec, act, ent, ext, Attrs, nil, attr}
 use Rattle.cedar.specs.Types.{maybe, is, eqNames, names, find, same}
-use Rattle.cedar.specs.Shape.{Ascend, Ordered, OrderedFrom}
+use Rattle.cedar.specs.Laws.Shape.{Ascend, Ordered, OrderedFrom}
 use Rattle.cedar.specs.Subtype.{subFlag, subNames, subRecord, sub, subAttrs}
 use Rattle.cedar.specs.Result.{Result, ok, bind}
 use Rattle.cedar.specs.Bound.{apart, lost, sameNames, absent, joinOne, joinRecord, upper, bound, joinAttrs}
-use Rattle.cedar.specs.Direct.{directNames, direct, directAttrs}
+use Rattle.cedar.specs.Laws.DirectBound.{directNames, direct, directAttrs}
 use Rattle.cedar.specs.Laws.Tests.{T-and, T→true, not-T→false, cond-both, maybe-cong, or-false, eqb-true, compare-names}
 use Rattle.cedar.specs.Laws.Equality.{is→eq, eqNames→eq, eqNames-refl, eqNames-sym, same→eq}
 use Rattle.cedar.specs.Laws.Attributes.{find-equal, find-other, find-below, ordered-from, find-ordered}

@@ -10,9 +10,10 @@ use lib.Dec.{T, leb, leb→le, le→leb}
 use lib.ListN.{length, take, drop, length-append, take-append-drop}
 use lib.Seq.{drop-at, take-at, take-append-seam, drop-append-seam, length-take-le}
 use Rattle.cedar.specs.Bytes.{u16, _>>=_, guard, byte, word, finish, Bytes}
-use Rattle.cedar.specs.Table.{heads, tails, rows}
-use Rattle.cedar.specs.JobForm.{Operation, subtypeOp, boundOp, disjointOp, lookupOp, mayHaveOp, namesOp, consistentOp, convertOp, conformsOp, foldOp, literalOp, operationOf, operationCode}
-use Rattle.cedar.specs.JobForm.{takesMode, takesAttribute, takesSecond, Question, unused, readQuestion, anyQuestion, splitBodies, Job, parseJob, writeQuestion, joinBodies, encJob}
+use Rattle.cedar.specs.Table.{rows}
+use Rattle.cedar.specs.JobForm.{Operation, subtypeOp, boundOp, disjointOp, lookupOp, mayHaveOp, namesOp, consistentOp, convertOp, conformsOp, foldOp, literalOp, operationOf}
+use Rattle.cedar.specs.JobForm.{takesMode, takesAttribute, takesSecond, Question, takenOrZero, readQuestion, anyQuestion, splitBodies, Job, parseJob}
+use Rattle.cedar.specs.Laws.Encoders.{heads, tails, operationCode, writeQuestion, joinBodies, encJob}
 use Rattle.cedar.specs.Laws.Tests.{T-and, and-T, none-some}
 use Rattle.cedar.specs.Laws.Bytes.{Reads, Bytes-drop, bind-some, bind-at, guard-some, guard-yes, finish-some, byte-some, word-some}
 use Rattle.cedar.specs.Laws.Table.{ReadsEntry, Follow, rows-some, rows-enc, length-heads}
@@ -49,7 +50,7 @@ operationCode-of (suc (suc (suc (suc (suc (suc (suc (suc (suc (suc (suc k)))))))
 
 -- A question whose bodies are so long together: the first is no longer, and the fields that it does not take are 0.
 abbrev pub QuestionFits : Question → ℕ → Type 0
-QuestionFits q n = (q .firstLength ≤ n) × T (unused (takesMode (q .operation)) (q .mode)) × T (unused (takesAttribute (q .operation)) (q .attribute)) × T (unused (takesSecond (q .operation)) (n - q .firstLength))
+QuestionFits q n = (q .firstLength ≤ n) × T (takenOrZero (takesMode (q .operation)) (q .mode)) × T (takenOrZero (takesAttribute (q .operation)) (q .attribute)) × T (takenOrZero (takesSecond (q .operation)) (n - q .firstLength))
 
 sub-first : (i j : ℕ) → (i + j) - i ≡ j
 sub-first i j = omega arith
@@ -68,26 +69,26 @@ readQuestion-reads = record { into = into; back = back }
         bind-some (word (m .1)) _ e₃ λ a ea e₄.
         bind-some (word (a .1)) _ e₄ λ i ei e₅.
         bind-some (word (i .1)) _ e₅ λ j ej e₆.
-        bind-some (guard (unused (takesMode o) (m .0) && (unused (takesAttribute o) (a .0) && unused (takesSecond o) (j .0)))) _ e₆ λ g eg e₇.
+        bind-some (guard (takenOrZero (takesMode o) (m .0) && (takenOrZero (takesAttribute o) (a .0) && takenOrZero (takesSecond o) (j .0)))) _ e₆ λ g eg e₇.
         let (s₁, h₁) = byte-some b k h ek in
         let (s₂, h₂) = byte-some (k .1) m h₁ em in
         let (s₃, h₃) = word-some (m .1) a h₂ ea in
         let (s₄, h₄) = word-some (a .1) i h₃ ei in
         let (s₅, h₅) = word-some (i .1) j h₄ ej in
-        let (t₁, t) = T-and (unused (takesMode o) (m .0)) (unused (takesAttribute o) (a .0) && unused (takesSecond o) (j .0)) (guard-some (unused (takesMode o) (m .0) && (unused (takesAttribute o) (a .0) && unused (takesSecond o) (j .0))) g eg) in
-        let (t₂, t₃) = T-and (unused (takesAttribute o) (a .0)) (unused (takesSecond o) (j .0)) t in
+        let (t₁, t) = T-and (takenOrZero (takesMode o) (m .0)) (takenOrZero (takesAttribute o) (a .0) && takenOrZero (takesSecond o) (j .0)) (guard-some (takenOrZero (takesMode o) (m .0) && (takenOrZero (takesAttribute o) (a .0) && takenOrZero (takesSecond o) (j .0))) g eg) in
+        let (t₂, t₃) = T-and (takenOrZero (takesAttribute o) (a .0)) (takenOrZero (takesSecond o) (j .0)) t in
         subst (λ (y : Question × ℕ × List ℕ). (writeQuestion (y .0) (y .1) ++ y .2 ≡ b) × Bytes (y .2) × QuestionFits (y .0) (y .1)) (Option·some-injective _ _ e₇) (
           ap₂ (λ (c d : ℕ). c ∷ m .0 ∷ u16 (a .0) ++ (u16 (i .0) ++ (u16 d ++ j .1))) (operationCode-of (k .0) o eo) (sub-first (i .0) (j .0)) ∙ rw s₅ (rw s₄ (rw s₃ (rw s₂ s₁))),
           h₅,
-          (omega arith, t₁, t₂, subst (λ (z : ℕ). T (unused (takesSecond o) z)) (sym (sub-first (i .0) (j .0))) t₃),
+          (omega arith, t₁, t₂, subst (λ (z : ℕ). T (takenOrZero (takesSecond o) z)) (sym (sub-first (i .0) (j .0))) t₃),
         )
 
     back : (q : Question) (n : ℕ) (b : List ℕ) → QuestionFits q n → readQuestion (writeQuestion q n ++ b) ≡ some (q, n, b)
     back q n b f = bind-at _ (operationOf-code (q .operation))
         ∙ rw (mod-add-div' (q .attribute) 256, mod-add-div' (q .firstLength) 256, mod-add-div' (n - q .firstLength) 256)
-        (guard-yes (unused (takesMode (q .operation)) (q .mode) && (unused (takesAttribute (q .operation)) (q .attribute) && unused (takesSecond (q .operation)) (n - q .firstLength))) _
-        (and-T (unused (takesMode (q .operation)) (q .mode)) (unused (takesAttribute (q .operation)) (q .attribute) && unused (takesSecond (q .operation)) (n - q .firstLength)) (f .1)
-        (and-T (unused (takesAttribute (q .operation)) (q .attribute)) (unused (takesSecond (q .operation)) (n - q .firstLength)) (f .2) (f .3)))
+        (guard-yes (takenOrZero (takesMode (q .operation)) (q .mode) && (takenOrZero (takesAttribute (q .operation)) (q .attribute) && takenOrZero (takesSecond (q .operation)) (n - q .firstLength))) _
+        (and-T (takenOrZero (takesMode (q .operation)) (q .mode)) (takenOrZero (takesAttribute (q .operation)) (q .attribute) && takenOrZero (takesSecond (q .operation)) (n - q .firstLength)) (f .1)
+        (and-T (takenOrZero (takesAttribute (q .operation)) (q .attribute)) (takenOrZero (takesSecond (q .operation)) (n - q .firstLength)) (f .2) (f .3)))
         ∙ ap (λ (i : ℕ). some (q, i, b)) (add-rest (q .firstLength) n (f .0)))
 
 splitBodies-reads : (q : Question) → Reads joinBodies (λ x. length (x .0) ≡ q .firstLength) (splitBodies q)

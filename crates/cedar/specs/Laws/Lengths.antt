@@ -9,7 +9,7 @@ use mathlib.Core.Option.{some, Option·some-injective}
 use lib.Dec.{eqb, eqb→eq, ltb, leb, leb→le, le→leb, nleb→lt}
 use lib.ListN.{length, length-append}
 use Rattle.cedar.specs.Types.{Mode, Ty, atom, set, rec, act, ent, ext, Attrs, nil, attr, find}
-use Rattle.cedar.specs.Shape.{Ordered, OrderedFrom}
+use Rattle.cedar.specs.Laws.Shape.{Ordered, OrderedFrom}
 use Rattle.cedar.specs.Bytes.{encNames}
 use Rattle.cedar.specs.TypeForm.{count, enc, entries, bodies}
 use Rattle.cedar.specs.Result.{ok}

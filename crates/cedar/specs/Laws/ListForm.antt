@@ -7,10 +7,11 @@ use lib.Dec.{leb, leb→le, le→leb}
 use lib.ListN.{length}
 use Rattle.cedar.specs.Types.{Ty}
 use Rattle.cedar.specs.Bytes.{u16, _>>=_, guard, Bytes}
-use Rattle.cedar.specs.Table.{heads, tails, parseCounted, anyOrder, readLength, seconds}
+use Rattle.cedar.specs.Table.{parseCounted, anyOrder, readLength, seconds}
 use Rattle.cedar.specs.TypeForm.{enc}
-use Rattle.cedar.specs.ListForm.{lengthsOf, formsOf, encList, parseList}
+use Rattle.cedar.specs.ListForm.{parseList}
 use Rattle.cedar.specs.Limits.{maxListed}
+use Rattle.cedar.specs.Laws.Encoders.{heads, tails, lengthsOf, formsOf, encList}
 use Rattle.cedar.specs.Laws.Bytes.{Reads, bind-some, bind-at, guard-some, guard-yes}
 use Rattle.cedar.specs.Laws.Table.{Follow, parseCounted-reads, writeLength, readLength-reads}
 

@@ -6,7 +6,7 @@ use mathlib.Core.Path.{_≡_, sym, ap, ap₂, _∙_, subst}
 use lib.Dec.{T, eqb, eqb→eq}
 use lib.ListN.{length}
 use Rattle.cedar.specs.Types.{Mode, Attrs, eqNames, names}
-use Rattle.cedar.specs.Shape.{OrderedFrom}
+use Rattle.cedar.specs.Laws.Shape.{OrderedFrom}
 use Rattle.cedar.specs.TypeForm.{count}
 use Rattle.cedar.specs.Bound.{lost}
 use Rattle.cedar.specs.Laws.Tests.{T-ext, eqb-equal}

@@ -9,7 +9,7 @@ use mathlib.Core.Logic.{_⊎_, inl, inr}
 use lib.Dec.{T, eqb, ltb, eqb→eq, eqb-refl, ltb→lt, nltb→le}
 use lib.ListN.{length}
 use Rattle.cedar.specs.Types.{mem}
-use Rattle.cedar.specs.Shape.{Ascend}
+use Rattle.cedar.specs.Laws.Shape.{Ascend}
 use Rattle.cedar.specs.Subtype.{subset}
 use Rattle.cedar.specs.Bound.{insert, union}
 use Rattle.cedar.specs.Laws.Tests.{T-and, and-T, T-or, or-inl, or-inr, cond-both, compare-names, eqb-equal, eqb-differ}

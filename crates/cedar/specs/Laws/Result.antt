@@ -1,9 +1,8 @@
 -- Laws of results: what an answer says.
 use Prim.Native.Nat.{ℕ}
 use native.Mathlib.Omega.{arith}
-use mathlib.Core.Path.{_≡_, refl, ap}
-use mathlib.Core.Option.{Option, none, some}
-use Rattle.cedar.specs.Result.{Result, ok, err, bind, need}
+use mathlib.Core.Path.{_≡_, refl}
+use Rattle.cedar.specs.Result.{Result, ok, err, bind}
 
 -- Equal answers.
 pub ok-inj : {A : Type 0} {a c : A} → ok a ≡ ok c → a ≡ c
@@ -17,8 +16,3 @@ err-ok e = absurd (let z : _≡_ {A = ℕ} 0 1 = cc in omega arith)
 pub bind-ok : {A B C : Type 0} (r : Result A) (f : A → Result B) {c : B} → bind r f ≡ ok c → ((x : A) → r ≡ ok x → f x ≡ ok c → C) → C
 bind-ok (ok a) f e k = k a refl e
 bind-ok (err n) f e k = err-ok e
-
--- What a question asked for was there.
-pub need-ok : {A : Type 0} (n : ℕ) (o : Option A) {a : A} → need n o ≡ ok a → o ≡ some a
-need-ok n none e = err-ok e
-need-ok n (some x) e = ap (λ y. some y) (ok-inj e)

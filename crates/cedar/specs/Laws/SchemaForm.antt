@@ -11,13 +11,14 @@ use lib.ListN.{length, drop, getD, length-append}
 use lib.Seq.{drop-at}
 use Rattle.cedar.specs.Types.{Ty, rec, Attrs, Arg, argBool, argLong, argString, argExt, Entity, Action, Function, Schema, isAction, maybe, present, asRec}
 use Rattle.cedar.specs.Bytes.{u16, flag, _>>=_, guard, word, bit, Bytes}
-use Rattle.cedar.specs.Table.{heads, tails, rows}
+use Rattle.cedar.specs.Table.{rows}
 use Rattle.cedar.specs.TypeForm.{enc}
 use Rattle.cedar.specs.SchemaForm.{readEntity, readAction, readFunction, ascendingFirst, ascendingAction, readBody, argOf, parseArgs, entitiesOf, actionsOf, functionsOf, parseSchema}
-use Rattle.cedar.specs.SchemaForm.{entityRows, actionRows, functionRows, writeEntity, writeAction, writeFunction, encBody, encArg, encArgs, encSchema}
+use Rattle.cedar.specs.SchemaForm.{encBody}
 use Rattle.cedar.specs.Attribute.{entityIn}
 use Rattle.cedar.specs.Literal.{actionIn}
 use Rattle.cedar.specs.Limits.{maxEntities, maxActions, maxFunctions}
+use Rattle.cedar.specs.Laws.Encoders.{heads, tails, entityRows, actionRows, functionRows, writeEntity, writeAction, writeFunction, encArg, encArgs, encSchema}
 use Rattle.cedar.specs.Laws.Tests.{T-and, and-T, cond-case, none-some, T→true}
 use Rattle.cedar.specs.Laws.Equality.{asRec-some}
 use Rattle.cedar.specs.Laws.Bytes.{Reads, Bytes-drop, bind-some, bind-at, guard-some, guard-yes, finish-some, word-some, bit-some, bit-flag}

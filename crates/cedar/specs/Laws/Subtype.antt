@@ -11,7 +11,7 @@ use lib.Dec.{T, eqb, eqb→eq}
 use lib.ListN.{length}
 use Rattle.cedar.specs.Types.{Mode, strict, permissive, isPermissive, Atom, never, true′, false′, bool, long, string, anyset, anyent, Ty, atom, set, rec, act, ent, ext, Attrs, nil, attr}
 use Rattle.cedar.specs.Types.{maybe, present, is, eqFlag, eqNames, names, find, same, isNever, asSet, asRec, asEnt}
-use Rattle.cedar.specs.Shape.{Ascend, Ordered, OrderedFrom}
+use Rattle.cedar.specs.Laws.Shape.{Ascend, Ordered, OrderedFrom}
 use Rattle.cedar.specs.Subtype.{subAtom, subFlag, subNames, subRecord, sub, subAttrs}
 use Rattle.cedar.specs.Laws.Tests.{T-and, and-T, T-or, or-inl, or-inr, or-false, not-or, not-or→, cond-case, maybe-T, T-maybe, none-some, present-some, eqb-true}
 use Rattle.cedar.specs.Laws.Equality.{is→eq, is-refl, eqFlag→eq, eqFlag-refl, eqNames→eq, eqNames-refl, same→eq, same-refl, attr-equal, asSet-some, asRec-some, asEnt-some}

@@ -9,7 +9,8 @@ use lib.Dec.{leb, leb→le, le→leb}
 use lib.ListN.{length, take, drop, length-append, take-append-drop}
 use lib.Seq.{take-append-seam, drop-append-seam, drop-at, length-take-le}
 use Rattle.cedar.specs.Bytes.{u16, word, _>>=_, guard, finish, Bytes}
-use Rattle.cedar.specs.Table.{heads, tails, rows, parseCounted, ascending, readLength}
+use Rattle.cedar.specs.Table.{rows, parseCounted, ascending, readLength}
+use Rattle.cedar.specs.Laws.Encoders.{heads, tails}
 use Rattle.cedar.specs.Laws.Tests.{cond-case, none-some, T→true}
 use Rattle.cedar.specs.Laws.Bytes.{Reads, Bytes-take, Bytes-drop, bind-some, bind-at, guard-some, guard-yes, finish-some, word-some, word-u16}
 

@@ -6,13 +6,12 @@ use mathlib.Core.Option.{Option, some}
 use lib.Dec.{leb, leb→le, le→leb}
 use lib.ListN.{length}
 use Rattle.cedar.specs.Types.{Ty, Value, Schema}
-use Rattle.cedar.specs.Shape.{WF, WFValue}
+use Rattle.cedar.specs.Laws.Encoders.{encList, encSchema, encJob}
+use Rattle.cedar.specs.Laws.Shape.{WF, WFValue}
 use Rattle.cedar.specs.Bytes.{Bytes}
 use Rattle.cedar.specs.TypeForm.{enc}
 use Rattle.cedar.specs.ValueForm.{encValue}
-use Rattle.cedar.specs.ListForm.{encList}
-use Rattle.cedar.specs.SchemaForm.{encSchema}
-use Rattle.cedar.specs.JobForm.{Job, encJob, wholeJob}
+use Rattle.cedar.specs.JobForm.{Job, wholeJob}
 use Rattle.cedar.specs.Limits.{Limits, blockBytes, maxListed}
 use Rattle.cedar.specs.Whole.{within, wholeType, wholeValue, wholeList, wholeSchema}
 use Rattle.cedar.specs.Laws.Tests.{cond-case, none-some, T→true}

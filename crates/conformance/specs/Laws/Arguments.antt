@@ -10,7 +10,7 @@ use lib.ListN.{length}
 use borrow.Author.Tests.{ne-eqb}
 use Rattle.cedar.specs.Types.{Arg, argBool, argLong, argString, argExt, Value, boolean, number, text, uid, setOf, recordOf, call, Values, end, value, Schema, Function, maybe}
 use Rattle.cedar.specs.ValueForm.{valueKind, callKind, valuesFrom}
-use Rattle.cedar.specs.Conformance.{Verdict as Said, holds, fails, failsInside, unknown, verdict, andThen, shorter, fits, fitAll, isExtension, functionOf, returnsExt, isArg, argExtension}
+use Rattle.cedar.specs.Conformance.{Verdict as Said, holds, fails, failsInside, unknown, verdict, andThen, shorter, ofArgument, ofArguments, isExtension, functionOf, returnsExt, isArg, argExtension}
 use Rattle.forms.specs.Parts.{part, rest, rd}
 use Rattle.forms.specs.Rows.{rowsOf}
 use Rattle.forms.specs.Laws.Parts.{pos}
@@ -27,22 +27,22 @@ use Rattle.conformance.specs.Laws.Ahead.{Ahead, ahead-again, decoded, de
 
 -- Arguments that are no call, by the kind of value.
 module _ (s : Schema) (d : List ℕ → Value) (b : List ℕ) (j : ℕ) (h : j < 8) where
-  pub fits-bool : fits shorter s (decVAs d (valueKind j) b) argBool ≡ verdict (leb j 1)
-  unfolding fits
-  fits-bool = by-table (λ i. fits shorter s (decVAs d (valueKind i) b) argBool) (λ i. verdict (leb i 1)) 8 refl j h
+  pub fits-bool : ofArgument shorter s (decVAs d (valueKind j) b) argBool ≡ verdict (leb j 1)
+  unfolding ofArgument
+  fits-bool = by-table (λ i. ofArgument shorter s (decVAs d (valueKind i) b) argBool) (λ i. verdict (leb i 1)) 8 refl j h
 
-  pub fits-long : fits shorter s (decVAs d (valueKind j) b) argLong ≡ verdict (eqb j 2)
-  unfolding fits
-  fits-long = by-table (λ i. fits shorter s (decVAs d (valueKind i) b) argLong) (λ i. verdict (eqb i 2)) 8 refl j h
+  pub fits-long : ofArgument shorter s (decVAs d (valueKind j) b) argLong ≡ verdict (eqb j 2)
+  unfolding ofArgument
+  fits-long = by-table (λ i. ofArgument shorter s (decVAs d (valueKind i) b) argLong) (λ i. verdict (eqb i 2)) 8 refl j h
 
-  pub fits-string : fits shorter s (decVAs d (valueKind j) b) argString ≡ verdict (eqb j 3)
-  unfolding fits
-  fits-string = by-table (λ i. fits shorter s (decVAs d (valueKind i) b) argString) (λ i. verdict (eqb i 3)) 8 refl j h
+  pub fits-string : ofArgument shorter s (decVAs d (valueKind j) b) argString ≡ verdict (eqb j 3)
+  unfolding ofArgument
+  fits-string = by-table (λ i. ofArgument shorter s (decVAs d (valueKind i) b) argString) (λ i. verdict (eqb i 3)) 8 refl j h
 
-  pub fits-other : (e : ℕ) → (j ≡ 7 → ⊥) → fits shorter s (decVAs d (valueKind j) b) (argExt e) ≡ fails
-  unfolding fits
+  pub fits-other : (e : ℕ) → (j ≡ 7 → ⊥) → ofArgument shorter s (decVAs d (valueKind j) b) (argExt e) ≡ fails
+  unfolding ofArgument
   fits-other e p =
-      by-table (λ i. fits shorter s (decVAs d (valueKind i) b) (argExt e)) (λ i. cond (eqb i 7) (fits shorter s (decVAs d (valueKind 7) b) (argExt e)) fails) 8 refl j h
+      by-table (λ i. ofArgument shorter s (decVAs d (valueKind i) b) (argExt e)) (λ i. cond (eqb i 7) (ofArgument shorter s (decVAs d (valueKind 7) b) (argExt e)) fails) 8 refl j h
       ∙ rw (ne-eqb j 7 p) refl
 
 -- Inside an argument no function is unknown.
@@ -68,83 +68,83 @@ inside-call (some e) none r h = refl
 inside-call (some e) (some g) r h = inside-then (returnsExt g e) (r g) (h g)
 
 mutual
-  unfolding fits fitAll
+  unfolding ofArgument ofArguments
 
-  fits-inside : (s : Schema) (v : Value) (a : Arg) → insideOf (verdictOf (fits shorter s v a)) ≡ verdictOf (fits shorter s v a)
+  fits-inside : (s : Schema) (v : Value) (a : Arg) → insideOf (verdictOf (ofArgument shorter s v a)) ≡ verdictOf (ofArgument shorter s v a)
   fits-inside s (boolean b) a = inside-test (isArg a (boolean b))
   fits-inside s (number b) a = inside-test (isArg a (number b))
   fits-inside s (text b) a = inside-test (isArg a (text b))
   fits-inside s (uid k i) a = refl
   fits-inside s (setOf vs) a = refl
   fits-inside s (recordOf ps) a = refl
-  fits-inside s (call f vs) a = inside-call (argExtension a) (functionOf s f) (λ g. fitAll shorter s vs (g .args)) (λ g. all-inside s vs (g .args))
+  fits-inside s (call f vs) a = inside-call (argExtension a) (functionOf s f) (λ g. ofArguments shorter s vs (g .args)) (λ g. all-inside s vs (g .args))
 
-  all-inside : (s : Schema) (vs : Values) (ks : List Arg) → insideOf (verdictOf (fitAll shorter s vs ks)) ≡ verdictOf (fitAll shorter s vs ks)
+  all-inside : (s : Schema) (vs : Values) (ks : List Arg) → insideOf (verdictOf (ofArguments shorter s vs ks)) ≡ verdictOf (ofArguments shorter s vs ks)
   all-inside s end [] = refl
   all-inside s end (a ∷ ks) = refl
   all-inside s (value v vs) [] = refl
-  all-inside s (value v vs) (a ∷ ks) = inside-both (fits shorter s v a) (fitAll shorter s vs ks) (fits-inside s v a) (all-inside s vs ks)
+  all-inside s (value v vs) (a ∷ ks) = inside-both (ofArgument shorter s v a) (ofArguments shorter s vs ks) (fits-inside s v a) (all-inside s vs ks)
 
 -- A call as an argument: as a value of the extension, where an unknown function is a no.
-pub call-inside : (s : Schema) (e f : ℕ) (vs : Values) → insideOf (verdictOf (isExtension shorter s e (f, vs))) ≡ verdictOf (fits shorter s (call f vs) (argExt e))
-unfolding fits
+pub call-inside : (s : Schema) (e f : ℕ) (vs : Values) → insideOf (verdictOf (isExtension shorter s e (f, vs))) ≡ verdictOf (ofArgument shorter s (call f vs) (argExt e))
+unfolding ofArgument
 call-inside s e f vs = go (functionOf s f)
   where
-    go : (o : Option Function) → insideOf (verdictOf (maybe unknown (λ g. andThen (verdict (returnsExt g e)) (fitAll shorter s vs (g .args))) o))
-        ≡ verdictOf (maybe failsInside (λ g. andThen (verdict (returnsExt g e)) (fitAll shorter s vs (g .args))) o)
+    go : (o : Option Function) → insideOf (verdictOf (maybe unknown (λ g. andThen (verdict (returnsExt g e)) (ofArguments shorter s vs (g .args))) o))
+        ≡ verdictOf (maybe failsInside (λ g. andThen (verdict (returnsExt g e)) (ofArguments shorter s vs (g .args))) o)
     go none = refl
-    go (some g) = inside-then (returnsExt g e) (fitAll shorter s vs (g .args)) (all-inside s vs (g .args))
+    go (some g) = inside-then (returnsExt g e) (ofArguments shorter s vs (g .args)) (all-inside s vs (g .args))
 
 -- The loop of `arguments_fit`: what is left answers for all.
 pub record ArgumentsAhead (l : ℕ) (s : Schema) (all : Said) (left : ℕ) (e b k : List ℕ) : Type 0 where
   pub rows : Ahead memberRow (λ _. wholeV l) left tt e b
   pub asked : argsFit k ≡ true
-  pub same : all ≡ fitAll shorter s (valuesFrom (rowsOf memberRow (λ _. decV l) left e b)) (argsOf k)
+  pub same : all ≡ ofArguments shorter s (valuesFrom (rowsOf memberRow (λ _. decV l) left e b)) (argsOf k)
 
 pub arguments-start : (l : ℕ) (s : Schema) (v k : List ℕ) → wholeVAs (wholeV l) callKind v ≡ true → argsFit k ≡ true → (n : ℕ) → n ≡ rd v 3 →
-    ArgumentsAhead l s (fitAll shorter s (argumentsOf l v) (argsOf k)) n (part 5 (5 + 2 * n) v) (rest (5 + 2 * n) v) k
+    ArgumentsAhead l s (ofArguments shorter s (argumentsOf l v) (argsOf k)) n (part 5 (5 + 2 * n) v) (rest (5 + 2 * n) v) k
 arguments-start l s v k h a n q =
     record {
       rows = table-ahead memberRow (λ _. wholeV l) tt 3 v h n q;
       asked = a;
-      same = ap (λ xs. fitAll shorter s (valuesFrom xs) (argsOf k)) (table-decoded memberRow (λ _. wholeV l) tt 3 v h n q (λ _. decV l));
+      same = ap (λ xs. ofArguments shorter s (valuesFrom xs) (argsOf k)) (table-decoded memberRow (λ _. wholeV l) tt 3 v h n q (λ _. decV l));
     }
 
-no-values : (s : Schema) (ks : List Arg) → holds ≡ fitAll shorter s end ks
-unfolding fitAll
+no-values : (s : Schema) (ks : List Arg) → holds ≡ ofArguments shorter s end ks
+unfolding ofArguments
 no-values s [] = refl
 no-values s (a ∷ ks) = refl
 
-no-asked : (s : Schema) (vs : Values) → holds ≡ fitAll shorter s vs []
-unfolding fitAll
+no-asked : (s : Schema) (vs : Values) → holds ≡ ofArguments shorter s vs []
+unfolding ofArguments
 no-asked s end = refl
 no-asked s (value v vs) = refl
 
-both : (s : Schema) (v : Value) (vs : Values) (a : Arg) (ks : List Arg) → fitAll shorter s (value v vs) (a ∷ ks) ≡ andThen (fits shorter s v a) (fitAll shorter s vs ks)
-unfolding fitAll
+both : (s : Schema) (v : Value) (vs : Values) (a : Arg) (ks : List Arg) → ofArguments shorter s (value v vs) (a ∷ ks) ≡ andThen (ofArgument shorter s v a) (ofArguments shorter s vs ks)
+unfolding ofArguments
 both s v vs a ks = refl
 
 module _ {l : ℕ} {s : Schema} {all : Said} {left : ℕ} {e b k : List ℕ} (i : ArgumentsAhead l s all left e b k) where
   pub arguments-end : left ≤ 0 → Holds ≡ verdictOf all
-  arguments-end h = ap verdictOf (no-values s (argsOf k) ∙ sym (i .same ∙ ap (λ xs. fitAll shorter s (valuesFrom xs) (argsOf k)) (decoded-none memberRow (λ _. decV l) left e b h)))
+  arguments-end h = ap verdictOf (no-values s (argsOf k) ∙ sym (i .same ∙ ap (λ xs. ofArguments shorter s (valuesFrom xs) (argsOf k)) (decoded-none memberRow (λ _. decV l) left e b h)))
 
   pub arguments-over : length k ≡ 0 → Holds ≡ verdictOf all
-  arguments-over h = ap verdictOf (no-asked s _ ∙ sym (i .same ∙ ap (λ ks. fitAll shorter s (valuesFrom (rowsOf memberRow (λ _. decV l) left e b)) ks) (args-none k (omega arith))))
+  arguments-over h = ap verdictOf (no-asked s _ ∙ sym (i .same ∙ ap (λ ks. ofArguments shorter s (valuesFrom (rowsOf memberRow (λ _. decV l) left e b)) ks) (args-none k (omega arith))))
 
   module _ (p : 0 < left) (h : length k ≡ 0 → ⊥) (n : ℕ) (q : n ≡ rd e 0) where
     pub arguments-first : ArgFirst k
     arguments-first = args-first k (i .asked) (pos (length k) h)
 
-    step : Then all (fits shorter s (decV l (part 0 n b)) (argAt k)) (fitAll shorter s (valuesFrom (rowsOf memberRow (λ _. decV l) (left - 1) (rest 2 e) (rest n b))) (argsOf (rest 3 k)))
+    step : Then all (ofArgument shorter s (decV l (part 0 n b)) (argAt k)) (ofArguments shorter s (valuesFrom (rowsOf memberRow (λ _. decV l) (left - 1) (rest 2 e) (rest n b))) (argsOf (rest 3 k)))
     step =
         record {
           is =
               i .same
-              ∙ ap₂ (λ xs ks. fitAll shorter s (valuesFrom xs) ks) (decoded memberRow (λ _. decV l) left e b p n q) (arguments-first .is)
+              ∙ ap₂ (λ xs ks. ofArguments shorter s (valuesFrom xs) ks) (decoded memberRow (λ _. decV l) left e b p n q) (arguments-first .is)
               ∙ both s _ _ _ _;
         }
 
-    module _ (x : Verdict) (y : x ≡ verdictOf (fits shorter s (decV l (part 0 n b)) (argAt k))) where
+    module _ (x : Verdict) (y : x ≡ verdictOf (ofArgument shorter s (decV l (part 0 n b)) (argAt k))) where
       pub arguments-stop : (x ≡ Holds → ⊥) → x ≡ verdictOf all
       arguments-stop g = then-stop step x y g
 

@@ -23,9 +23,8 @@ use Rattle.cedar.specs.Attribute.{lookup, mayHave, allNames}
 use Rattle.cedar.specs.Consistency.{plain, consistent}
 use Rattle.cedar.specs.Conversion.{convert}
 use Rattle.cedar.specs.Literal.{literal}
-use Rattle.cedar.specs.Conformance.{Verdict, holds, fails, failsInside, unknown, shorter, asUid}
-use Rattle.cedar.specs.Conforms.{walked}
-use Rattle.cedar.specs.Calls.{ask, modeOf, stepFits, answer, writeType, writeAttribute, writeNames, ofVerdict, ofWalk, literalCall, disjointCall, subtypeCall, boundCall, foldCall, lookupCall, mayHaveCall, namesCall, consistentCall, convertCall, conformsCall}
+use Rattle.cedar.specs.Conformance.{Verdict, holds, fails, failsInside, unknown, shorter, conforms, asUid}
+use Rattle.cedar.specs.Calls.{ask, modeOf, stepFits, answer, writeType, writeAttribute, writeNames, ofVerdict, literalCall, disjointCall, subtypeCall, boundCall, foldCall, lookupCall, mayHaveCall, namesCall, consistentCall, convertCall, conformsCall}
 use Rattle.validator.specs.Answers.{answerOf}
 use Rattle.validator.specs.declared.answers.Answer.{Answer}
 use Rattle.exports.specs.Numbers.{Brief}
@@ -84,10 +83,6 @@ verdict-short fails = said-short false
 verdict-short failsInside = said-short false
 verdict-short unknown = none-short (refused 7) refl
 
-walk-short : (r : Result Verdict) → Short (ofWalk r)
-walk-short (ok d) = verdict-short d
-walk-short (err n) = none-short (refused n) refl
-
 pub disjoint-short : (t₀ t₁ : List ℕ) → Short (disjointCall standard t₀ t₁)
 disjoint-short t₀ t₁ = asked _ (wholeType standard t₀) _ λ a. asked _ (wholeType standard t₁) _ λ b. said-short (disjoint a b)
 
@@ -98,7 +93,7 @@ pub convert-short : (t : List ℕ) (room : ℕ) → Short (convertCall standard 
 convert-short t room = asked _ (wholeType standard t) _ λ a. asked _ (convert a) _ λ c. type-short room (ok c)
 
 pub conforms-short : (schema t v : List ℕ) → Short (conformsCall standard schema t v)
-conforms-short schema t v = walk-short (walked standard shorter schema t v)
+conforms-short schema t v = asked _ (wholeSchema standard schema) _ λ s. asked _ (wholeType standard t) _ λ a. asked _ (wholeValue standard v) _ λ x. verdict-short (conforms shorter s a x)
 
 module _ (schema : List ℕ) where
   pub literal-short : (v : List ℕ) (room : ℕ) → Short (literalCall standard schema v room)

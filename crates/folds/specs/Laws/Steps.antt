@@ -10,13 +10,13 @@ use lib.Seq.{take-append-seam, drop-append-seam}
 use borrow.Author.Tests.{le-leb, lt-leb}
 use Rattle.cedar.specs.Types.{Mode, Ty}
 use Rattle.cedar.specs.Bytes.{Bytes}
-use Rattle.cedar.specs.Shape.{Ordered}
+use Rattle.cedar.specs.Laws.Shape.{Ordered}
 use Rattle.cedar.specs.Subtype.{sub}
 use Rattle.cedar.specs.TypeForm.{enc}
 use Rattle.cedar.specs.Limits.{standard}
 use Rattle.cedar.specs.Result.{Result, ok, err}
 use Rattle.cedar.specs.Bound.{bound}
-use Rattle.cedar.specs.Direct.{direct}
+use Rattle.cedar.specs.Laws.DirectBound.{direct}
 use Rattle.cedar.specs.Outcome.{over}
 use Rattle.cedar.specs.Calls.{stepFits}
 use Rattle.cedar.specs.Laws.TypeForm.{parse-iff}

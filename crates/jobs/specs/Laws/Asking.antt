@@ -9,12 +9,11 @@ use lib.ListN.{length, drop, getD, length-append}
 use Rattle.cedar.specs.Bytes.{guard}
 use Rattle.cedar.specs.Limits.{standard}
 use Rattle.cedar.specs.Outcome.{Outcome, said, bytesOf}
-use Rattle.cedar.specs.Whole.{wholeType, wholeSchema}
-use Rattle.cedar.specs.Result.{Result, ok, err, badMode, badSchema, badFirst, badSecond, notPlain}
+use Rattle.cedar.specs.Whole.{wholeType, wholeValue, wholeSchema}
+use Rattle.cedar.specs.Result.{badMode, badSchema, badFirst, badSecond, badValue, notPlain}
 use Rattle.cedar.specs.Consistency.{plain}
-use Rattle.cedar.specs.Conformance.{Verdict, holds, fails, failsInside, unknown, shorter}
-use Rattle.cedar.specs.Conforms.{walked}
-use Rattle.cedar.specs.Calls.{ask, modeOf, ofVerdict, ofWalk, disjointCall, subtypeCall, mayHaveCall, consistentCall, conformsCall}
+use Rattle.cedar.specs.Conformance.{Verdict, holds, fails, failsInside, unknown}
+use Rattle.cedar.specs.Calls.{ask, modeOf, ofVerdict, disjointCall, subtypeCall, mayHaveCall, consistentCall, conformsCall}
 use Rattle.cedar.specs.JobForm.{Operation}
 use Rattle.cedar.specs.Lines.{askCall}
 use Rattle.validator.specs.declared.answers.Answer.{Answer}
@@ -44,10 +43,6 @@ quiet-verdict fails = record { is = refl }
 quiet-verdict failsInside = record { is = refl }
 quiet-verdict unknown = record { is = refl }
 
-quiet-walk : (w : Result Verdict) → Quiet (ofWalk w)
-quiet-walk (ok v) = quiet-verdict v
-quiet-walk (err n) = record { is = refl }
-
 quiet-ask : {A : Type 0} (n : ℕ) (o : Option A) (k : A → Outcome) → ((z : A) → Quiet (k z)) → Quiet (ask n o k)
 quiet-ask n none k h = record { is = refl }
 quiet-ask n (some z) k h = h z
@@ -67,7 +62,8 @@ pub quiet-consistent : (x y : List ℕ) → Quiet (consistentCall standard x y)
 quiet-consistent x y = quiet-ask badFirst (wholeType standard x) _ λ _. quiet-ask badSecond (wholeType standard y) _ λ b. quiet-ask notPlain (guard (plain b)) _ λ _. quiet-said _
 
 pub quiet-conforms : (s x y : List ℕ) → Quiet (conformsCall standard s x y)
-quiet-conforms s x y = quiet-walk (walked standard shorter s x y)
+quiet-conforms s x y =
+    quiet-ask badSchema (wholeSchema standard s) _ λ _. quiet-ask badFirst (wholeType standard x) _ λ _. quiet-ask badValue (wholeValue standard y) _ λ _. quiet-verdict _
 
 -- An entry that lends no buffer leaves it as it was.
 pub answered-quiet : {o : Outcome} {r : Answer} (before : List ℕ) → Quiet o → r ≡ answerOf o → Answered o before before r

@@ -14,7 +14,7 @@ use borrow.Author.Tests.{le-leb, lt-leb, not-true, not-false}
 use Rattle.cedar.specs.Types.{present}
 use Rattle.cedar.specs.Bytes.{_>>=_, guard, word}
 use Rattle.cedar.specs.Limits.{blockBytes}
-use Rattle.cedar.specs.JobForm.{Operation, takesMode, takesAttribute, takesSecond, unused, Question, Job, parseJob, wholeJob}
+use Rattle.cedar.specs.JobForm.{Operation, takesMode, takesAttribute, takesSecond, takenOrZero, Question, Job, parseJob, wholeJob}
 use Rattle.forms.specs.Parts.{rd}
 use Rattle.forms.specs.Laws.Parts.{and-not-l, and-not-r, and-yes}
 use Rattle.forms.specs.Laws.Sure.{Sure, sure-same, sure-present, bind-to, map-to, guard-to, word-to, word-at, leb-same}
@@ -126,22 +126,22 @@ module _ (b : List ℕ) (e : ℕ) where
   unfolding entryFits
   entry-over h = and-not-l (leb (getD b e 0) 10) _ (lt-leb (getD b e 0) 10 h)
 
-  module _ (h : getD b e 0 ≤ 10) (x : Bool) (p : x ≡ unused (takesMode o) (getD b (e + 1) 0)) where
-    entry-by : entryFits b e ≡ (x && (unused (takesAttribute o) (rd b (e + 2)) && unused (takesSecond o) (rd b (e + 6))))
+  module _ (h : getD b e 0 ≤ 10) (x : Bool) (p : x ≡ takenOrZero (takesMode o) (getD b (e + 1) 0)) where
+    entry-by : entryFits b e ≡ (x && (takenOrZero (takesAttribute o) (rd b (e + 2)) && takenOrZero (takesSecond o) (rd b (e + 6))))
     unfolding entryFits
-    entry-by = and-yes (leb (getD b e 0) 10) _ (le-leb (getD b e 0) 10 h) ∙ ap (λ (t : Bool). t && (unused (takesAttribute o) (rd b (e + 2)) && unused (takesSecond o) (rd b (e + 6)))) (sym p)
+    entry-by = and-yes (leb (getD b e 0) 10) _ (le-leb (getD b e 0) 10 h) ∙ ap (λ (t : Bool). t && (takenOrZero (takesAttribute o) (rd b (e + 2)) && takenOrZero (takesSecond o) (rd b (e + 6)))) (sym p)
 
     pub entry-mode : not x ≡ true → false ≡ entryFits b e
     entry-mode f = and-not-l x _ (not-true x f) ∙ sym entry-by
 
-    module _ (f : not x ≡ false) (y : Bool) (q : y ≡ unused (takesAttribute o) (rd b (e + 2))) where
+    module _ (f : not x ≡ false) (y : Bool) (q : y ≡ takenOrZero (takesAttribute o) (rd b (e + 2))) where
       pub entry-attribute : not y ≡ true → false ≡ entryFits b e
-      entry-attribute g = and-not-l y _ (not-true y g) ∙ ap (λ (t : Bool). t && unused (takesSecond o) (rd b (e + 6))) q ∙ sym (and-yes x _ (not-false x f)) ∙ sym entry-by
+      entry-attribute g = and-not-l y _ (not-true y g) ∙ ap (λ (t : Bool). t && takenOrZero (takesSecond o) (rd b (e + 6))) q ∙ sym (and-yes x _ (not-false x f)) ∙ sym entry-by
 
-      pub entry-second : not y ≡ false → (z : Bool) → z ≡ unused (takesSecond o) (rd b (e + 6)) → z ≡ entryFits b e
+      pub entry-second : not y ≡ false → (z : Bool) → z ≡ takenOrZero (takesSecond o) (rd b (e + 6)) → z ≡ entryFits b e
       entry-second g z r =
-          r ∙ sym (and-yes y (unused (takesSecond o) (rd b (e + 6))) (not-false y g))
-          ∙ ap (λ (t : Bool). t && unused (takesSecond o) (rd b (e + 6))) q ∙ sym (and-yes x _ (not-false x f)) ∙ sym entry-by
+          r ∙ sym (and-yes y (takenOrZero (takesSecond o) (rd b (e + 6))) (not-false y g))
+          ∙ ap (λ (t : Bool). t && takenOrZero (takesSecond o) (rd b (e + 6))) q ∙ sym (and-yes x _ (not-false x f)) ∙ sym entry-by
 
 -- The loop of `entries_fit`: what is left answers for all.
 pub record EntriesLeft (b : List ℕ) (n bytes at left room : ℕ) : Type 0 where

@@ -9,12 +9,12 @@ use lib.ListN.{length, getD}
 use lib.Seq.{drop-drop}
 use borrow.Author.Tests.{eq-eqb, ne-eqb}
 use Rattle.cedar.specs.Types.{Mode, strict, Atom, never, true′, false′, bool, long, string, anyset, anyent, Ty, atom, set, rec, act, ent, ext, Attrs, same}
-use Rattle.cedar.specs.Shape.{WF, Ordered}
+use Rattle.cedar.specs.Laws.Shape.{WF, Ordered}
 use Rattle.cedar.specs.TypeForm.{atomCode, enc, one, kindOf}
 use Rattle.cedar.specs.Result.{Result, ok, err, bind}
 use Rattle.cedar.specs.Subtype.{sub}
 use Rattle.cedar.specs.Bound.{bound, sameNames, joinRecord, lost}
-use Rattle.cedar.specs.Direct.{direct, directAttrs, directNames}
+use Rattle.cedar.specs.Laws.DirectBound.{direct, directAttrs, directNames}
 use Rattle.cedar.specs.Laws.TypeForm.{parse-iff}
 use Rattle.forms.specs.Parts.{part, rest, rd, kind}
 use Rattle.forms.specs.TypeBytes.{whole, dec, decA, namesOf}

@@ -12,7 +12,7 @@ use Rattle.cedar.specs.TypeForm.{enc}
 use Rattle.cedar.specs.Result.{Result, ok, err}
 use Rattle.cedar.specs.Subtype.{sub}
 use Rattle.cedar.specs.Bound.{bound}
-use Rattle.cedar.specs.Direct.{direct}
+use Rattle.cedar.specs.Laws.DirectBound.{direct}
 use Rattle.lengths.specs.declared.extents.Extent.the-variants.{Of, Not}
 use Rattle.lengths.specs.declared.kinds.Joined.{Joined}
 use Rattle.lengths.specs.declared.kinds.Joined.the-variants.{Kind, Not as JoinedNot}

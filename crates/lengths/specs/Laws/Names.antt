@@ -13,10 +13,10 @@ use borrow.Author.Tests.{lt-ltb, le-ltb, eq-eqb, ne-eqb, le-leb, lt-leb}
 use Rattle.cedar.specs.Types.{Mode, strict, permissive, Ty, ent, names, eqNames}
 use Rattle.cedar.specs.TypeForm.{enc}
 use Rattle.cedar.specs.Result.{ok}
-use Rattle.cedar.specs.Direct.{directNames}
+use Rattle.cedar.specs.Laws.DirectBound.{directNames}
 use Rattle.lengths.specs.declared.extents.Extent.the-variants.{Of, Not}
 use Rattle.lengths.specs.Extents.{cap, extentOf}
-use Rattle.cedar.specs.Shape.{Ascend}
+use Rattle.cedar.specs.Laws.Shape.{Ascend}
 use Rattle.cedar.specs.Bound.{insert, union}
 use Rattle.cedar.specs.Laws.Names.{union-ascend}
 use Rattle.forms.specs.Parts.{rest, rd}

@@ -14,7 +14,7 @@ use Rattle.cedar.specs.Types.{Mode, strict, permissive, isPermissive, eqFlag, T
 use Rattle.cedar.specs.TypeForm.{count, enc}
 use Rattle.cedar.specs.Result.{Result, ok, err, bind}
 use Rattle.cedar.specs.Bound.{absent, joinOne, sameNames}
-use Rattle.cedar.specs.Direct.{direct, directAttrs}
+use Rattle.cedar.specs.Laws.DirectBound.{direct, directAttrs}
 use Rattle.forms.specs.Parts.{part, rest, rd}
 use Rattle.forms.specs.TypeBytes.{decA, whole, dec, Sound}
 use Rattle.forms.specs.Laws.Attributes.{Entry, entry, entry-more, attrs-none, find-under, Past}

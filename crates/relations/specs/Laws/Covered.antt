@@ -10,7 +10,7 @@ use lib.Dec.{eqb}
 use lib.ListN.{getD}
 use borrow.Author.Tests.{ne-eqb, not-true, not-false}
 use Rattle.cedar.specs.Types.{Ty, Attrs, nil, attr, mem, names, find, present}
-use Rattle.cedar.specs.Shape.{Ascend}
+use Rattle.cedar.specs.Laws.Shape.{Ascend}
 use Rattle.cedar.specs.Consistency.{coveredNames}
 use Rattle.forms.specs.Parts.{rest, rd}
 use Rattle.forms.specs.Search.{below, used, foundAt}

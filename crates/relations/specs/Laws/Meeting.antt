@@ -10,7 +10,7 @@ use lib.Dec.{eqb}
 use lib.ListN.{getD}
 use borrow.Author.Tests.{not-true, not-false}
 use Rattle.cedar.specs.Types.{Ty, Attrs, nil, attr, names, find, maybe}
-use Rattle.cedar.specs.Shape.{Ascend}
+use Rattle.cedar.specs.Laws.Shape.{Ascend}
 use Rattle.cedar.specs.Consistency.{consistent, consistentAttrs}
 use Rattle.forms.specs.Parts.{part, rest, rd}
 use Rattle.forms.specs.Search.{below, used, foundAt}

@@ -9,7 +9,7 @@ use lib.Dec.{leb}
 use lib.ListN.{length}
 use borrow.Author.Tests.{leb-true, le-leb, eq-eqb, ne-eqb}
 use Rattle.cedar.specs.Types.{mem}
-use Rattle.cedar.specs.Shape.{Ascend}
+use Rattle.cedar.specs.Laws.Shape.{Ascend}
 use Rattle.cedar.specs.Disjoint.{shares}
 use Rattle.cedar.specs.Subtype.{subset}
 use Rattle.forms.specs.Parts.{rest, rd}

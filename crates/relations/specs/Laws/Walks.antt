@@ -10,7 +10,7 @@ use lib.Dec.{eqb}
 use lib.ListN.{getD}
 use borrow.Author.Tests.{not-true, not-false}
 use Rattle.cedar.specs.Types.{Mode, Ty, Attrs, nil, attr, names, find, maybe}
-use Rattle.cedar.specs.Shape.{Ascend}
+use Rattle.cedar.specs.Laws.Shape.{Ascend}
 use Rattle.cedar.specs.Subtype.{subFlag, sub, subAttrs}
 use Rattle.forms.specs.Parts.{part, rest, rd}
 use Rattle.forms.specs.Search.{foundAt}

@@ -8,14 +8,14 @@ use mathlib.Core.Path.{_≡_, refl, sym, ap, _∙_}
 use borrow.Author.Tests.{not-false}
 use lib.ListN.{length, getD}
 use Rattle.cedar.specs.Types.{Mode, Ty, Schema, present}
-use Rattle.cedar.specs.Shape.{Ordered}
+use Rattle.cedar.specs.Laws.Shape.{Ordered}
 use Rattle.cedar.specs.Bytes.{Bytes}
 use Rattle.cedar.specs.Limits.{standard}
 use Rattle.cedar.specs.Whole.{wholeType, wholeSchema}
 use Rattle.cedar.specs.Result.{Result}
 use Rattle.cedar.specs.Outcome.{Outcome, refused}
 use Rattle.cedar.specs.Bound.{bound}
-use Rattle.cedar.specs.Direct.{direct}
+use Rattle.cedar.specs.Laws.DirectBound.{direct}
 use Rattle.cedar.specs.Calls.{modeOf, writeType, boundCall}
 use Rattle.cedar.specs.Laws.Whole.{wholeType-reads}
 use Rattle.cedar.specs.Laws.Direct.{direct-bound}

@@ -3,7 +3,7 @@ use Rattle.schemas.specs.Laws.Finders.{function-at, function-not}
 use Rattle.conformance.specs.Laws.Calls.{call-unknown, call-none, call-other, call-arguments}
 use Rattle.conformance.proofs.Told.{no-yes}
 use Rattle.schemas.specs.SchemaBytes.{decS, argsOf}
-use Rattle.cedar.specs.Conformance.{shorter, fitAll}
+use Rattle.cedar.specs.Conformance.{shorter, ofArguments}
 use Rattle.cedar.specs.Limits.{standard}
 use Rattle.conformance.specs.Walks.{argumentsOf}
 use Rattle.forms.specs.ValueBytes.{memberRow, wholeV}
@@ -262,7 +262,7 @@ argument-fits-returns-5 : (t : ℕ) → argument-fits-lts.Need-returns-5 (
 argument-fits-returns-5 t c = let s = (c .before .before .before .before .before .before .before .before .before .before) in let m = (c .before .before .before .before) .match .rest in c .inside .ensures ∙ fit-call _ (s .args .asked .now) (s .args .levels) (s .args .v .now) (s .pre .1 .1 .0 .1) (s .pre .1 .1 .1) (m .0 .0 .1) (m .0 .1) (m .1) ((c .before .before .before) .if1 .left) ((c .before .before) .u16-at .result) ((c .before .before) .u16-at .ensures .0) ((c .before) .call-returns .result) ((c .before) .call-returns .ensures)
 
 abbrev arguments-fit-Inv-loop : arguments-fit-lts.InvT-loop
-arguments-fit-Inv-loop schema sections asked v levels n end e₀ b₀ left₀ k₀ e b left k = ArgumentsAhead levels (decS standard schema) (fitAll shorter (decS standard schema) (argumentsOf levels v) (argsOf asked)) left e b k
+arguments-fit-Inv-loop schema sections asked v levels n end e₀ b₀ left₀ k₀ e b left k = ArgumentsAhead levels (decS standard schema) (ofArguments shorter (decS standard schema) (argumentsOf levels v) (argsOf asked)) left e b k
 
 abbrev arguments-fit-μ-loop : arguments-fit-lts.MeasureT-loop
 arguments-fit-μ-loop schema sections asked v levels n end e₀ b₀ left₀ k₀ e b left k = left

@@ -1,5 +1,5 @@
 use Rattle.jobs.specs.Laws.Whole.{entry-over, entry-mode, entry-attribute, entry-second}
-use Rattle.cedar.specs.JobForm.{unused}
+use Rattle.cedar.specs.JobForm.{takenOrZero}
 use Prim.Native.Nat.{ℕ}
 use mathlib.Core.Bool.{Bool}
 use mathlib.Core.Path.{ap₂, _∙_}
@@ -33,7 +33,7 @@ taken-or-zero-requires c κs = search needs
 returns-2 : tie.Need-returns-2
 returns-2 c =
     let start = c .before .before .before .before .before .before .before .before in
-    entry-mode (start .args .job .now) (start .args .at) (c .before .before .before .before .before .if1 .left) (c .before .taken-or-zero .result) (c .before .taken-or-zero .ensures ∙ ap₂ (λ (t : Bool) (n : ℕ). unused t n) (c .before .before .before .before .takes-mode .ensures) (c .before .before .wide .ensures .0)) (c .if2 .taken)
+    entry-mode (start .args .job .now) (start .args .at) (c .before .before .before .before .before .if1 .left) (c .before .taken-or-zero .result) (c .before .taken-or-zero .ensures ∙ ap₂ (λ (t : Bool) (n : ℕ). takenOrZero t n) (c .before .before .before .before .takes-mode .ensures) (c .before .before .wide .ensures .0)) (c .if2 .taken)
 
 takes-attribute-requires : tie.Need-takes-attribute-requires
 takes-attribute-requires c κs = search needs
@@ -50,7 +50,7 @@ taken-or-zero-requires-2 c κs = search needs
 returns-3 : tie.Need-returns-3
 returns-3 c =
     let start = c .before .before .before .before .before .before .before .before .before .before .before .before in
-    entry-attribute (start .args .job .now) (start .args .at) (c .before .before .before .before .before .before .before .before .before .if1 .left) (c .before .before .before .before .before .taken-or-zero .result) (c .before .before .before .before .before .taken-or-zero .ensures ∙ ap₂ (λ (t : Bool) (n : ℕ). unused t n) (c .before .before .before .before .before .before .before .before .takes-mode .ensures) (c .before .before .before .before .before .before .wide .ensures .0)) (c .before .before .before .before .if2 .left) (c .before .taken-or-zero2 .result) (c .before .taken-or-zero2 .ensures ∙ ap₂ (λ (t : Bool) (n : ℕ). unused t n) (c .before .before .before .takes-attribute .ensures) (c .before .before .u16-at .ensures .0)) (c .if3 .taken)
+    entry-attribute (start .args .job .now) (start .args .at) (c .before .before .before .before .before .before .before .before .before .if1 .left) (c .before .before .before .before .before .taken-or-zero .result) (c .before .before .before .before .before .taken-or-zero .ensures ∙ ap₂ (λ (t : Bool) (n : ℕ). takenOrZero t n) (c .before .before .before .before .before .before .before .before .takes-mode .ensures) (c .before .before .before .before .before .before .wide .ensures .0)) (c .before .before .before .before .if2 .left) (c .before .taken-or-zero2 .result) (c .before .taken-or-zero2 .ensures ∙ ap₂ (λ (t : Bool) (n : ℕ). takenOrZero t n) (c .before .before .before .takes-attribute .ensures) (c .before .before .u16-at .ensures .0)) (c .if3 .taken)
 
 takes-second-requires : tie.Need-takes-second-requires
 takes-second-requires c κs = search needs
@@ -67,8 +67,8 @@ taken-or-zero-requires-3 c κs = search needs
 returns-4 : tie.Need-returns-4
 returns-4 c =
     let start = c .before .before .before .before .before .before .before .before .before .before .before .before .before .before .before in
-    entry-second (start .args .job .now) (start .args .at) (c .before .before .before .before .before .before .before .before .before .before .before .before .if1 .left) (c .before .before .before .before .before .before .before .before .taken-or-zero .result) (c .before .before .before .before .before .before .before .before .taken-or-zero .ensures ∙ ap₂ (λ (t : Bool) (n : ℕ). unused t n) (c .before .before .before .before .before .before .before .before .before .before .before .takes-mode .ensures) (c .before .before .before .before .before .before .before .before .before .wide .ensures .0)) (c .before .before .before .before .before .before .before .if2 .left) (c .before .before .before .before .taken-or-zero2 .result) (c .before .before .before .before .taken-or-zero2 .ensures ∙ ap₂ (λ (t : Bool) (n : ℕ). unused t n) (c .before .before .before .before .before .before .takes-attribute .ensures) (c .before .before .before .before .before .u16-at .ensures .0)) (c .before .before .before .if3 .left) (c .taken-or-zero3 .result)
-    (c .taken-or-zero3 .ensures ∙ ap₂ (λ (t : Bool) (n : ℕ). unused t n) (c .before .before .takes-second .ensures) (c .before .u16-at2 .ensures .0))
+    entry-second (start .args .job .now) (start .args .at) (c .before .before .before .before .before .before .before .before .before .before .before .before .if1 .left) (c .before .before .before .before .before .before .before .before .taken-or-zero .result) (c .before .before .before .before .before .before .before .before .taken-or-zero .ensures ∙ ap₂ (λ (t : Bool) (n : ℕ). takenOrZero t n) (c .before .before .before .before .before .before .before .before .before .before .before .takes-mode .ensures) (c .before .before .before .before .before .before .before .before .before .wide .ensures .0)) (c .before .before .before .before .before .before .before .if2 .left) (c .before .before .before .before .taken-or-zero2 .result) (c .before .before .before .before .taken-or-zero2 .ensures ∙ ap₂ (λ (t : Bool) (n : ℕ). takenOrZero t n) (c .before .before .before .before .before .before .takes-attribute .ensures) (c .before .before .before .before .before .u16-at .ensures .0)) (c .before .before .before .if3 .left) (c .taken-or-zero3 .result)
+    (c .taken-or-zero3 .ensures ∙ ap₂ (λ (t : Bool) (n : ℕ). takenOrZero t n) (c .before .before .takes-second .ensures) (c .before .u16-at2 .ensures .0))
 
 pub entry-fits-spec : {M : Type 1} → statement M
 entry-fits-spec =

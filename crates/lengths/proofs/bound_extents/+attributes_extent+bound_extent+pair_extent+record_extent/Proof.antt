@@ -7,7 +7,7 @@ use borrow.Author.Needs.{needs}
 use Rattle.cedar.specs.TypeForm.{enc}
 use Rattle.cedar.specs.Types.{find, atom}
 use Rattle.cedar.specs.Bound.{sameNames}
-use Rattle.cedar.specs.Direct.{directAttrs}
+use Rattle.cedar.specs.Laws.DirectBound.{directAttrs}
 use Rattle.forms.specs.Parts.{rd, part, rest, kind}
 use Rattle.forms.specs.TypeBytes.{dec, decA}
 use Rattle.forms.specs.Laws.Views.{not-empty, is-set, is-record, is-entity, is-action, is-extension}

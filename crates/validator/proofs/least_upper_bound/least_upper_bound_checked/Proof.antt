@@ -1,7 +1,7 @@
 -- `validator::least_upper_bound::least_upper_bound` meets its contract. Assumes nothing.
 use mathlib.Core.Path.{refl}
 use lib.ListN.{length}
-use Rattle.cedar.specs.Direct.{direct}
+use Rattle.cedar.specs.Laws.DirectBound.{direct}
 use Rattle.cedar.specs.Calls.{modeOf}
 use Rattle.forms.specs.TypeBytes.{dec}
 use Rattle.forms.specs.Modes.{asMode}

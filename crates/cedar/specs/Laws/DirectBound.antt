@@ -1,5 +1,5 @@
 -- The bound with no subtype test on the way down: two types of one kind are joined part by part, in one walk. On types in order it
--- is `bound` (Laws.Direct), and the code follows it.
+-- is `bound` (Direct), and the code follows it.
 use Prim.Native.Nat.{ℕ}
 use mathlib.Core.List.{List}
 use mathlib.Core.Bool.{cond}
