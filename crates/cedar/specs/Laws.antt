@@ -28,4 +28,5 @@ pub mod Lookup
 pub mod AttributeSound
 pub mod Calls
 pub mod Carried
+pub mod Sequence
 pub mod Starred
