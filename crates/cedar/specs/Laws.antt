@@ -29,4 +29,5 @@ pub mod AttributeSound
 pub mod Calls
 pub mod Carried
 pub mod Sequence
+pub mod SequenceExample
 pub mod Starred
