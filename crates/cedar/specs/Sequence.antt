@@ -1,5 +1,5 @@
--- Demand 3, its words and its claim, on bytes; the proof is `run-keeps` in Laws/Sequence.antt. First the list of types that bound
--- calls make and what each was made from, then what a value carries, then what it keeps, then the claim.
+-- Demand 3, its words and its claim, on bytes: the list of types that bound calls make and what each was made from; what lookup
+-- tells; what a value carries; what it keeps; then the claim, which `run-keeps` in Laws/Sequence.antt proves.
 use Prim.Native.Nat.{ℕ, zero, suc}
 use mathlib.Core.List.{List, [], _∷_, _++_}
 use mathlib.Core.Bool.{Bool, true, false, not, cond}
@@ -58,15 +58,16 @@ written (typed t) = some (enc t)
 written (attribute r t) = none
 written (named ns) = none
 
--- The list after a call on x and y: the caller copies its answer to the end, made from itself and from all that the two were made
--- from; a refused call adds nothing.
-abbrev pub copied : List Listed → Listed → Listed → Outcome → List Listed
-copied xs x y o = maybe xs (λ w. xs ++ (record { form = w; madeFrom = length xs ∷ (x .madeFrom ++ y .madeFrom) } ∷ [])) (written o)
+-- The list after a call on x and y: the caller copies the bytes of its answer to the end, made from itself and from all that the two
+-- were made from; a refused call adds nothing.
+abbrev pub copied : List Listed → Listed → Listed → Option (List ℕ) → List Listed
+copied xs x y none = xs
+copied xs x y (some w) = xs ++ (record { form = w; madeFrom = length xs ∷ (x .madeFrom ++ y .madeFrom) } ∷ [])
 
 -- The list after a step; a position that is not there adds nothing.
 abbrev pub afterStep : Limits → List ℕ → List Listed → Step → List Listed
 afterStep lim schema xs c =
-    maybe xs (λ x. maybe xs (λ y. copied xs x y (boundCall lim (c .mode) schema (x .form) (y .form) (c .room))) (standing xs (c .right))) (standing xs (c .left))
+    maybe xs (λ x. maybe xs (λ y. copied xs x y (written (boundCall lim (c .mode) schema (x .form) (y .form) (c .room)))) (standing xs (c .right))) (standing xs (c .left))
 
 -- The list after some steps.
 abbrev pub afterSteps : Limits → List ℕ → List Listed → List Step → List Listed
@@ -76,6 +77,11 @@ afterSteps lim schema xs (c ∷ cs) = afterSteps lim schema (afterStep lim schem
 -- A run: the list that begins with the types given, after the steps, all under one schema.
 abbrev pub run : Limits → List ℕ → List (List ℕ) → List Step → List Listed
 run lim schema given cs = afterSteps lim schema (givenFrom 0 given) cs
+
+-- Either entry of lookup finds the attribute a of the type t: required or not, of the type u.
+abbrev pub LooksUp : Limits → List ℕ → ℕ → List ℕ → Bool → Ty → Type 0
+LooksUp lim schema a t r u =
+    ((room : ℕ) × (work : ℕ) × (lookupCall lim schema a t room work ≡ attribute r u)) ⊎ (ownAttributeCall lim schema a t ≡ attribute r u)
 
 -- The value of a name among pairs.
 abbrev pub pairOf : ℕ → Pairs → Option Value
@@ -105,11 +111,6 @@ pub data Carries (lim : Limits) (c : Counts) (schema v : List ℕ) : List ℕ �
       → entityOf s k ≡ some e → Conforms lim c schema (encBody (e .isOpen, e .attrs)) w → Carries lim c schema v w
   ofMissing : {w : List ℕ} (s : Schema) (k i : ℕ) → wholeSchema lim schema ≡ some s → wholeValue lim v ≡ some (uid k i)
       → entityOf s k ≡ none → IsRecord lim w → Carries lim c schema v w
-
--- Either entry of lookup finds the attribute a of the type t: required or not, of the type u.
-abbrev pub LooksUp : Limits → List ℕ → ℕ → List ℕ → Bool → Ty → Type 0
-LooksUp lim schema a t r u =
-    ((room : ℕ) × (work : ℕ) × (lookupCall lim schema a t room work ≡ attribute r u)) ⊎ (ownAttributeCall lim schema a t ≡ attribute r u)
 
 -- A type of kind 11.
 abbrev pub isActionForm : List ℕ → Bool

@@ -21,7 +21,7 @@ use Rattle.cedar.specs.Conformance.{holds, Counts, hasName, conforms}
 use Rattle.cedar.specs.Conforms.{Conforms}
 use Rattle.cedar.specs.Outcome.{Outcome, refused, said, nothing, typed, attribute, named}
 use Rattle.cedar.specs.Calls.{stepFits, disjointCall, boundCall}
-use Rattle.cedar.specs.Sequence.{Listed, Step, standing, EachBytes, givenFrom, copied, afterStep, afterSteps, attributeOf, isActionForm, LooksUp, Kept, RunKeeps}
+use Rattle.cedar.specs.Sequence.{Listed, Step, standing, EachBytes, givenFrom, written, copied, afterStep, afterSteps, attributeOf, isActionForm, LooksUp, Kept, RunKeeps}
 use Rattle.cedar.specs.Laws.Tests.{not-T→false, none-some, none-of}
 use Rattle.cedar.specs.Laws.Names.{In, In-cases, In-append}
 use Rattle.cedar.specs.Laws.Whole.{TypeWithin, wholeType-reads}
@@ -202,7 +202,7 @@ module _ (lim : Limits) (small : lim .bytes < 65536) (c : Counts) (schema : List
           (λ f. bound-keeps lim small c schema (x .form) (y .form) (good .bytes j x ej) (good .bytes k y ek) mode room z e v (inr (good .keeps k y ek n u f (old-at n u (good .made k y ek n f) pn) v g)))));
     }
 
-  copied-good : (xs : List Listed) → Good xs → (j k : ℕ) (x y : Listed) → standing xs j ≡ some x → standing xs k ≡ some y → (mode room : ℕ) (o : Outcome) → boundCall lim mode schema (x .form) (y .form) room ≡ o → Good (copied xs x y o)
+  copied-good : (xs : List Listed) → Good xs → (j k : ℕ) (x y : Listed) → standing xs j ≡ some x → standing xs k ≡ some y → (mode room : ℕ) (o : Outcome) → boundCall lim mode schema (x .form) (y .form) room ≡ o → Good (copied xs x y (written o))
   unfolding new
   copied-good xs good j k x y ej ek mode room (refused n) e = good
   copied-good xs good j k x y ej ek mode room (said b) e = good
@@ -214,12 +214,12 @@ module _ (lim : Limits) (small : lim .bytes < 65536) (c : Counts) (schema : List
   step-good : (xs : List Listed) → Good xs → (s : Step) → Good (afterStep lim schema xs s)
   step-good xs good s = left (standing xs (s .left)) refl
     where
-      right : (x : Listed) (o : Option Listed) → standing xs (s .left) ≡ some x → standing xs (s .right) ≡ o → Good (maybe xs (λ y. copied xs x y (boundCall lim (s .mode) schema (x .form) (y .form) (s .room))) o)
+      right : (x : Listed) (o : Option Listed) → standing xs (s .left) ≡ some x → standing xs (s .right) ≡ o → Good (maybe xs (λ y. copied xs x y (written (boundCall lim (s .mode) schema (x .form) (y .form) (s .room)))) o)
       right x none p q = good
       right x (some y) p q = copied-good xs good (s .left) (s .right) x y p q (s .mode) (s .room) (boundCall lim (s .mode) schema (x .form) (y .form) (s .room)) refl
 
       left : (o : Option Listed) → standing xs (s .left) ≡ o
-          → Good (maybe xs (λ x. maybe xs (λ y. copied xs x y (boundCall lim (s .mode) schema (x .form) (y .form) (s .room))) (standing xs (s .right))) o)
+          → Good (maybe xs (λ x. maybe xs (λ y. copied xs x y (written (boundCall lim (s .mode) schema (x .form) (y .form) (s .room)))) (standing xs (s .right))) o)
       left none p = good
       left (some x) p = right x (standing xs (s .right)) p refl
 
@@ -242,22 +242,18 @@ standing-stays [] ys i x e = none-some e
 standing-stays (z ∷ xs) ys zero x e = e
 standing-stays (z ∷ xs) ys (suc i) x e = standing-stays xs ys i x e
 
-copied-stays : (xs : List Listed) (y z : Listed) (o : Outcome) (i : ℕ) (x : Listed) → standing xs i ≡ some x → standing (copied xs y z o) i ≡ some x
-copied-stays xs y z (refused n) i x e = e
-copied-stays xs y z (said b) i x e = e
-copied-stays xs y z nothing i x e = e
-copied-stays xs y z (typed t) i x e = standing-stays xs _ i x e
-copied-stays xs y z (attribute r t) i x e = e
-copied-stays xs y z (named ns) i x e = e
+copied-stays : (xs : List Listed) (y z : Listed) (w : Option (List ℕ)) (i : ℕ) (x : Listed) → standing xs i ≡ some x → standing (copied xs y z w) i ≡ some x
+copied-stays xs y z none i x e = e
+copied-stays xs y z (some w) i x e = standing-stays xs _ i x e
 
 step-stays : (lim : Limits) (schema : List ℕ) (xs : List Listed) (s : Step) (i : ℕ) (x : Listed) → standing xs i ≡ some x → standing (afterStep lim schema xs s) i ≡ some x
 step-stays lim schema xs s i x e = left (standing xs (s .left))
   where
-    right : (y : Listed) (o : Option Listed) → standing (maybe xs (λ z. copied xs y z (boundCall lim (s .mode) schema (y .form) (z .form) (s .room))) o) i ≡ some x
+    right : (y : Listed) (o : Option Listed) → standing (maybe xs (λ z. copied xs y z (written (boundCall lim (s .mode) schema (y .form) (z .form) (s .room)))) o) i ≡ some x
     right y none = e
-    right y (some z) = copied-stays xs y z (boundCall lim (s .mode) schema (y .form) (z .form) (s .room)) i x e
+    right y (some z) = copied-stays xs y z (written (boundCall lim (s .mode) schema (y .form) (z .form) (s .room))) i x e
 
-    left : (o : Option Listed) → standing (maybe xs (λ y. maybe xs (λ z. copied xs y z (boundCall lim (s .mode) schema (y .form) (z .form) (s .room))) (standing xs (s .right))) o) i ≡ some x
+    left : (o : Option Listed) → standing (maybe xs (λ y. maybe xs (λ z. copied xs y z (written (boundCall lim (s .mode) schema (y .form) (z .form) (s .room)))) (standing xs (s .right))) o) i ≡ some x
     left none = e
     left (some y) = right y (standing xs (s .right))
 
