@@ -31,4 +31,6 @@ pub mod Lookup
 pub mod AttributeSound
 pub mod Calls
 pub mod Carried
+pub mod Sequence
+pub mod SequenceExample
 pub mod Starred

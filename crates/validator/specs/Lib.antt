@@ -2,4 +2,3 @@ pub mod Answers
 pub mod Handed
 pub mod Uids
 pub mod Laws
-pub mod Sequence

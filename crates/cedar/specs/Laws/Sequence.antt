@@ -1,4 +1,4 @@
--- Demand 3: what holds of a value that conforms to a type, for every type that a sequence of bound calls makes from it.
+-- Demand 3, proved: a value that conforms to a listed type keeps what is said of it for every type made from that one.
 use Prim.Native.Nat.{ℕ, zero, suc, _+_, _<_}
 use native.Mathlib.Omega.{arith}
 use mathlib.Core.List.{List, [], _∷_, _++_}
@@ -8,51 +8,32 @@ use mathlib.Core.Option.{Option, none, some, Option·some-injective}
 use mathlib.Core.Logic.{_⊎_, inl, inr}
 use lib.Dec.{T}
 use lib.ListN.{length, length-append}
-use Rattle.cedar.specs.Types.{Ty, atom, set, rec, act, ent, ext, Value, Pairs, Entity, Schema, maybe, present, asAct, mem}
+use Rattle.cedar.specs.Types.{Ty, atom, set, rec, act, ent, ext, Value, Pairs, Entity, Schema, maybe, asAct}
 use Rattle.cedar.specs.Laws.Shape.{Ordered}
 use Rattle.cedar.specs.Bytes.{Bytes}
-use Rattle.cedar.specs.TypeForm.{enc, parse}
-use Rattle.cedar.specs.ValueForm.{encValue, parseValue}
-use Rattle.cedar.specs.Subtype.{sub}
+use Rattle.cedar.specs.TypeForm.{enc}
 use Rattle.cedar.specs.Limits.{Limits, standard}
 use Rattle.cedar.specs.Whole.{wholeSchema, wholeType, wholeValue}
 use Rattle.cedar.specs.Result.{ok}
 use Rattle.cedar.specs.Disjoint.{disjoint}
-use Rattle.cedar.specs.Bound.{bound}
 use Rattle.cedar.specs.Attribute.{entityOf, ownAttr, lookup, mayHave}
-use Rattle.cedar.specs.Conformance.{holds, Counts, shorter, hasName, conforms}
+use Rattle.cedar.specs.Conformance.{holds, Counts, hasName, conforms}
 use Rattle.cedar.specs.Conforms.{Conforms}
 use Rattle.cedar.specs.Outcome.{Outcome, refused, said, nothing, typed, attribute, named}
-use Rattle.cedar.specs.Calls.{stepFits, disjointCall, boundCall, mayHaveCall}
-use Rattle.cedar.specs.Sequence.{Listed, Step, standing, EachBytes, givenFrom, copied, afterStep, afterSteps, run, attributeOf, Carries, ofMissing, isActionForm, LooksUp}
+use Rattle.cedar.specs.Calls.{stepFits, disjointCall, boundCall}
+use Rattle.cedar.specs.Sequence.{Listed, Step, standing, EachBytes, givenFrom, written, copied, afterStep, afterSteps, attributeOf, isActionForm, LooksUp, Kept, RunKeeps}
 use Rattle.cedar.specs.Laws.Tests.{not-T→false, none-some, none-of}
 use Rattle.cedar.specs.Laws.Names.{In, In-cases, In-append}
 use Rattle.cedar.specs.Laws.Whole.{TypeWithin, wholeType-reads}
 use Rattle.cedar.specs.Laws.Verdicts.{Holds, Holds→yes, yes→Holds}
 use Rattle.cedar.specs.Laws.BoundWhole.{bound-whole}
 use Rattle.cedar.specs.Laws.Lengths.{record-length}
 use Rattle.cedar.specs.Laws.BoundSound.{bound-sound}
 use Rattle.cedar.specs.Laws.DisjointSound.{disjoint-sound}
 use Rattle.cedar.specs.Laws.Lookup.{record-part, lookup-WF}
 use Rattle.cedar.specs.Laws.AttributeSound.{CarriesPairs, Has, EntriesOrdered, lookup-sound, ownAttr-sound, mayHave-sound}
 use Rattle.cedar.specs.Laws.Calls.{boundCall-typed, disjointCall-said, lookupCall-found, ownAttributeCall-found, mayHaveCall-said, conforms-case, conforms-yes}
 use Rattle.cedar.specs.Laws.Carried.{attributeOf-name, attributeOf-some, entity-whole, carried-case}
-
--- What holds of the value v and the type t, all bytes.
-pub record Kept (lim : Limits) (c : Counts) (schema t v : List ℕ) : Type 0 where
-  -- The value conforms to the type.
-  pub conforming : Conforms lim c schema t v
-  -- It conforms to no type that disjoint finds disjoint from t, t given first or second.
-  pub notDisjoint : (u : List ℕ) → (disjointCall lim t u ≡ said true) ⊎ (disjointCall lim u t ≡ said true) → Conforms lim c schema u v → ⊥
-  -- Unless t is of kind 11, of each record value w whose attributes v carries: what lookup calls required is there,
-  pub required : T (not (isActionForm t)) → (w : List ℕ) → Carries lim c schema v w
-      → (a : ℕ) (y : Ty) → LooksUp lim schema a t true y → T (present (attributeOf lim a w))
-  -- what is there conforms to the type looked up,
-  pub typedAs : T (not (isActionForm t)) → (w : List ℕ) → Bytes w → Carries lim c schema v w
-      → (a : ℕ) (r : Bool) (y : Ty) → LooksUp lim schema a t r y → (x : List ℕ) → attributeOf lim a w ≡ some x → Conforms lim c schema (enc y) x
-  -- and what may-have denies is not there.
-  pub denied : T (not (isActionForm t)) → (w : List ℕ) → Carries lim c schema v w
-      → (a : ℕ) → mayHaveCall lim schema a t ≡ said false → attributeOf lim a w ≡ none
 
 not-action-form : (a : Ty) → T (not (isActionForm (enc a))) → asAct a ≡ none
 unfolding enc
@@ -221,7 +202,7 @@ module _ (lim : Limits) (small : lim .bytes < 65536) (c : Counts) (schema : List
           (λ f. bound-keeps lim small c schema (x .form) (y .form) (good .bytes j x ej) (good .bytes k y ek) mode room z e v (inr (good .keeps k y ek n u f (old-at n u (good .made k y ek n f) pn) v g)))));
     }
 
-  copied-good : (xs : List Listed) → Good xs → (j k : ℕ) (x y : Listed) → standing xs j ≡ some x → standing xs k ≡ some y → (mode room : ℕ) (o : Outcome) → boundCall lim mode schema (x .form) (y .form) room ≡ o → Good (copied xs x y o)
+  copied-good : (xs : List Listed) → Good xs → (j k : ℕ) (x y : Listed) → standing xs j ≡ some x → standing xs k ≡ some y → (mode room : ℕ) (o : Outcome) → boundCall lim mode schema (x .form) (y .form) room ≡ o → Good (copied xs x y (written o))
   unfolding new
   copied-good xs good j k x y ej ek mode room (refused n) e = good
   copied-good xs good j k x y ej ek mode room (said b) e = good
@@ -233,12 +214,12 @@ module _ (lim : Limits) (small : lim .bytes < 65536) (c : Counts) (schema : List
   step-good : (xs : List Listed) → Good xs → (s : Step) → Good (afterStep lim schema xs s)
   step-good xs good s = left (standing xs (s .left)) refl
     where
-      right : (x : Listed) (o : Option Listed) → standing xs (s .left) ≡ some x → standing xs (s .right) ≡ o → Good (maybe xs (λ y. copied xs x y (boundCall lim (s .mode) schema (x .form) (y .form) (s .room))) o)
+      right : (x : Listed) (o : Option Listed) → standing xs (s .left) ≡ some x → standing xs (s .right) ≡ o → Good (maybe xs (λ y. copied xs x y (written (boundCall lim (s .mode) schema (x .form) (y .form) (s .room)))) o)
       right x none p q = good
       right x (some y) p q = copied-good xs good (s .left) (s .right) x y p q (s .mode) (s .room) (boundCall lim (s .mode) schema (x .form) (y .form) (s .room)) refl
 
       left : (o : Option Listed) → standing xs (s .left) ≡ o
-          → Good (maybe xs (λ x. maybe xs (λ y. copied xs x y (boundCall lim (s .mode) schema (x .form) (y .form) (s .room))) (standing xs (s .right))) o)
+          → Good (maybe xs (λ x. maybe xs (λ y. copied xs x y (written (boundCall lim (s .mode) schema (x .form) (y .form) (s .room)))) (standing xs (s .right))) o)
       left none p = good
       left (some x) p = right x (standing xs (s .right)) p refl
 
@@ -246,42 +227,33 @@ module _ (lim : Limits) (small : lim .bytes < 65536) (c : Counts) (schema : List
   steps-good [] xs good = good
   steps-good (s ∷ ss) xs good = steps-good ss (afterStep lim schema xs s) (step-good xs good s)
 
-  -- Demand 3: in every run under one schema, from types given, any bytes, a value that conforms to a listed type keeps what is said
-  -- of it for every listed type that was made from that one.
-  pub run-keeps : (given : List (List ℕ)) (steps : List Step) → Bytes schema → EachBytes given
-      → (i j : ℕ) (x y : Listed) → standing (run lim schema given steps) i ≡ some x → standing (run lim schema given steps) j ≡ some y → T (mem i (y .madeFrom))
-      → (v : List ℕ) → Conforms lim c schema (x .form) v → Kept lim c schema (y .form) v
-  run-keeps given steps hs hg i j x y ei ej m v h =
-      let good = steps-good steps (givenFrom 0 given) (given-good given hg) in
-      kept lim c schema (y .form) v hs (good .bytes j y ej) (good .keeps j y ej i x m ei v h)
+-- Demand 3, within any limits whose lengths are two bytes.
+pub run-keeps : (lim : Limits) → lim .bytes < 65536 → RunKeeps lim
+run-keeps lim small c schema given steps hs hg i j x y ei ej m v h =
+    let good = steps-good lim small c schema steps (givenFrom 0 given) (given-good lim small c schema given hg) in
+    kept lim c schema (y .form) v hs (good .bytes j y ej) (good .keeps j y ej i x m ei v h)
 
--- Demand 3 at 01's limits.
-pub run-keeps-standard : (c : Counts) (schema : List ℕ) (given : List (List ℕ)) (steps : List Step) → Bytes schema → EachBytes given
-    → (i j : ℕ) (x y : Listed) → standing (run standard schema given steps) i ≡ some x → standing (run standard schema given steps) j ≡ some y → T (mem i (y .madeFrom))
-    → (v : List ℕ) → Conforms standard c schema (x .form) v → Kept standard c schema (y .form) v
-run-keeps-standard c schema = run-keeps standard (omega arith) c schema
+-- Demand 3, within 01's limits.
+pub run-keeps-standard : RunKeeps standard
+run-keeps-standard = run-keeps standard (omega arith)
 
 standing-stays : (xs ys : List Listed) (i : ℕ) (x : Listed) → standing xs i ≡ some x → standing (xs ++ ys) i ≡ some x
 standing-stays [] ys i x e = none-some e
 standing-stays (z ∷ xs) ys zero x e = e
 standing-stays (z ∷ xs) ys (suc i) x e = standing-stays xs ys i x e
 
-copied-stays : (xs : List Listed) (y z : Listed) (o : Outcome) (i : ℕ) (x : Listed) → standing xs i ≡ some x → standing (copied xs y z o) i ≡ some x
-copied-stays xs y z (refused n) i x e = e
-copied-stays xs y z (said b) i x e = e
-copied-stays xs y z nothing i x e = e
-copied-stays xs y z (typed t) i x e = standing-stays xs _ i x e
-copied-stays xs y z (attribute r t) i x e = e
-copied-stays xs y z (named ns) i x e = e
+copied-stays : (xs : List Listed) (y z : Listed) (w : Option (List ℕ)) (i : ℕ) (x : Listed) → standing xs i ≡ some x → standing (copied xs y z w) i ≡ some x
+copied-stays xs y z none i x e = e
+copied-stays xs y z (some w) i x e = standing-stays xs _ i x e
 
 step-stays : (lim : Limits) (schema : List ℕ) (xs : List Listed) (s : Step) (i : ℕ) (x : Listed) → standing xs i ≡ some x → standing (afterStep lim schema xs s) i ≡ some x
 step-stays lim schema xs s i x e = left (standing xs (s .left))
   where
-    right : (y : Listed) (o : Option Listed) → standing (maybe xs (λ z. copied xs y z (boundCall lim (s .mode) schema (y .form) (z .form) (s .room))) o) i ≡ some x
+    right : (y : Listed) (o : Option Listed) → standing (maybe xs (λ z. copied xs y z (written (boundCall lim (s .mode) schema (y .form) (z .form) (s .room)))) o) i ≡ some x
     right y none = e
-    right y (some z) = copied-stays xs y z (boundCall lim (s .mode) schema (y .form) (z .form) (s .room)) i x e
+    right y (some z) = copied-stays xs y z (written (boundCall lim (s .mode) schema (y .form) (z .form) (s .room))) i x e
 
-    left : (o : Option Listed) → standing (maybe xs (λ y. maybe xs (λ z. copied xs y z (boundCall lim (s .mode) schema (y .form) (z .form) (s .room))) (standing xs (s .right))) o) i ≡ some x
+    left : (o : Option Listed) → standing (maybe xs (λ y. maybe xs (λ z. copied xs y z (written (boundCall lim (s .mode) schema (y .form) (z .form) (s .room)))) (standing xs (s .right))) o) i ≡ some x
     left none = e
     left (some y) = right y (standing xs (s .right))
 
@@ -289,21 +261,3 @@ step-stays lim schema xs s i x e = left (standing xs (s .left))
 pub listed-stays : (lim : Limits) (schema : List ℕ) (steps : List Step) (xs : List Listed) (i : ℕ) (x : Listed) → standing xs i ≡ some x → standing (afterSteps lim schema xs steps) i ≡ some x
 listed-stays lim schema [] xs i x e = e
 listed-stays lim schema (s ∷ steps) xs i x e = listed-stays lim schema steps (afterStep lim schema xs s) i x (step-stays lim schema xs s i x e)
-
--- A run of one permissive bound, of R(1: Long) with R(1: String), and a call that is refused for its mode: open {} stands at the end,
--- made from itself and from both.
-pub run-example : run standard (0 ∷ 0 ∷ 0 ∷ 0 ∷ 0 ∷ 0 ∷ []) ((8 ∷ 0 ∷ 1 ∷ 0 ∷ 1 ∷ 0 ∷ 1 ∷ 1 ∷ 0 ∷ 4 ∷ []) ∷ (8 ∷ 0 ∷ 1 ∷ 0 ∷ 1 ∷ 0 ∷ 1 ∷ 1 ∷ 0 ∷ 5 ∷ []) ∷ [])
-    (record { mode = 1; room = 4; left = 0; right = 1 } ∷ record { mode = 2; room = 4; left = 0; right = 2 } ∷ record { mode = 1; room = 4; left = 0; right = 3 } ∷ [])
-    ≡ record { form = 8 ∷ 0 ∷ 1 ∷ 0 ∷ 1 ∷ 0 ∷ 1 ∷ 1 ∷ 0 ∷ 4 ∷ []; madeFrom = 0 ∷ [] } ∷ record { form = 8 ∷ 0 ∷ 1 ∷ 0 ∷ 1 ∷ 0 ∷ 1 ∷ 1 ∷ 0 ∷ 5 ∷ []; madeFrom = 1 ∷ [] }
-    ∷ record { form = 8 ∷ 1 ∷ 0 ∷ 0 ∷ []; madeFrom = 2 ∷ 0 ∷ 1 ∷ [] } ∷ []
-unfolding parse bound sub enc
-run-example = refl
-
--- Why kind 11 is left out: under the empty schema the uid 04 01 00 00 00 conforms to the action type 0b 01 00 00 00, may-have denies
--- that type the attribute 0, and the uid carries the record 06 01 00 00 00 01 00 00, which has it.
-pub action-carries : Conforms standard shorter (0 ∷ 0 ∷ 0 ∷ 0 ∷ 0 ∷ 0 ∷ []) (11 ∷ 1 ∷ 0 ∷ 0 ∷ 0 ∷ []) (4 ∷ 1 ∷ 0 ∷ 0 ∷ 0 ∷ [])
-    × (mayHaveCall standard (0 ∷ 0 ∷ 0 ∷ 0 ∷ 0 ∷ 0 ∷ []) 0 (11 ∷ 1 ∷ 0 ∷ 0 ∷ 0 ∷ []) ≡ said false)
-    × Carries standard shorter (0 ∷ 0 ∷ 0 ∷ 0 ∷ 0 ∷ 0 ∷ []) (4 ∷ 1 ∷ 0 ∷ 0 ∷ 0 ∷ []) (6 ∷ 1 ∷ 0 ∷ 0 ∷ 0 ∷ 1 ∷ 0 ∷ 0 ∷ [])
-    × (attributeOf standard 0 (6 ∷ 1 ∷ 0 ∷ 0 ∷ 0 ∷ 1 ∷ 0 ∷ 0 ∷ []) ≡ some (0 ∷ []))
-unfolding parse parseValue encValue conforms
-action-carries = (refl, refl, ofMissing (record { entities = []; actions = []; functions = [] }) 1 0 refl refl refl tt, refl)
