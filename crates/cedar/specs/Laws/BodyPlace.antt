@@ -28,7 +28,7 @@ pub record Among (at a : ℕ) (xs : Attrs) (y : Bool × Ty) : Type 0 where
   pub place : bodyFrom at a xs ≡ some (at + length (bodies ahead), at + length (bodies ahead) + length (enc (y .1)))
 
 -- Two places with the same ends.
-same-place : {s e s′ e′ : ℕ} → s ≡ s′ → e ≡ e′ → _≡_ {A = Option (ℕ × ℕ)} (some (s, e)) (some (s′, e′))
+pub same-place : {s e s′ e′ : ℕ} → s ≡ s′ → e ≡ e′ → _≡_ {A = Option (ℕ × ℕ)} (some (s, e)) (some (s′, e′))
 same-place p q = cc
 
 -- The first attribute.
@@ -61,7 +61,7 @@ among (attr k r t xs) at a y e = cond-case (eqb a k) e
     (λ h p. among-next at a k r t xs y h (among xs (at + length (enc t)) a y p))
 
 -- What is not found has no place.
-from-none : (xs : Attrs) (at a : ℕ) → find a xs ≡ none → bodyFrom at a xs ≡ none
+pub from-none : (xs : Attrs) (at a : ℕ) → find a xs ≡ none → bodyFrom at a xs ≡ none
 from-none nil at a e = refl
 from-none (attr k r t xs) at a e = cond-case (eqb a k) e (λ h p. none-some (sym p)) (λ h p. rw (not-T→false (eqb a k) (T-not (eqb a k) h)) (from-none xs (at + length (enc t)) a p))
 
