@@ -22,6 +22,11 @@ abbrev pub Placed : ℕ → List ℕ → Option (Bool × Ty) → Place → Type 
 Placed l b o (At s e q) = (s ≤ e) × (e ≤ length b) × (whole l (part s e b) ≡ true) × (o ≡ some (q, dec l (part s e b)))
 Placed l b o Nothing = o ≡ none
 
+-- Where a place starts and ends.
+abbrev pub spanOf : Place → Option (ℕ × ℕ)
+spanOf (At s e q) = some (s, e)
+spanOf Nothing = none
+
 -- An attribute of an entity type in a schema's bytes: no longer than a form may be.
 abbrev pub PlacedIn : List ℕ → Option (Bool × Ty) → Place → Type 0
 PlacedIn b o (At s e q) = Placed 15 b o (At s e q) × (e ≤ s + 4096)

@@ -8,13 +8,14 @@ use forms::search::find;
 use forms::widths::Width;
 ghost use mathlib.Core.Path.{_≡_};
 ghost use mathlib.Core.Bool.{true};
-ghost use Prim.Native.Nat.{_+_, _*_, _-_, _≤_};
-ghost use lib.ListN.{length};
+ghost use Prim.Native.Nat.{_+_, _*_, _-_};
 ghost use Rattle.cedar.specs.Types.{find as findIn};
 ghost use Rattle.cedar.specs.Attribute.{ownAttr};
-ghost use Rattle.forms.specs.Parts.{part, rest, rd};
-ghost use Rattle.forms.specs.TypeBytes.{whole, dec, decA, Sound};
-ghost use Rattle.attributes.specs.Place.{Listed, Placed};
+ghost use Rattle.cedar.specs.BodyPlace.{bodyFrom, bodyPlace};
+ghost use Rattle.forms.specs.Parts.{rd};
+ghost use Rattle.forms.specs.TypeBytes.{whole, dec};
+ghost use Rattle.lengths.specs.Pairs.{attrsAt};
+ghost use Rattle.attributes.specs.Place.{Listed, Placed, spanOf};
 
 // Where an attribute's type starts and ends in the form that lists it, and whether it is required.
 pub enum Place {
@@ -25,7 +26,8 @@ pub enum Place {
 // The attribute of a list whose count stands at `at`.
 fn listed_attribute(t: &[u8], at: usize, name: usize, levels: usize) -> Place
     requires { ⌜ Listed levels «at» (now t) ⌝ }
-    ensures { λ r. ⌜ Placed levels (now (t .entry)) (findIn name (decA (dec levels) (rd (now (t .entry)) «at») (part («at» + 2) («at» + 2 + 5 * rd (now (t .entry)) «at») (now (t .entry))) (rest («at» + 2 + 5 * rd (now (t .entry)) «at») (now (t .entry))))) r ⌝ }
+    ensures { λ r. ⌜ Placed levels (now (t .entry)) (findIn name (attrsAt levels «at» (now (t .entry)))) r ⌝ }
+    ensures { λ r. ⌜ spanOf r ≡ bodyFrom («at» + 2 + 5 * rd (now (t .entry)) «at») name (attrsAt levels «at» (now (t .entry))) ⌝ }
 {
     let n = u16_at(t, at);
     let start = at + Width::COUNT;
@@ -48,6 +50,7 @@ fn listed_attribute(t: &[u8], at: usize, name: usize, levels: usize) -> Place
 pub fn own_attribute(t: &[u8], name: usize, levels: usize) -> Place
     requires { ⌜ whole levels (now t) ≡ true ⌝ }
     ensures { λ r. ⌜ Placed (levels - 1) (now (t .entry)) (ownAttr name (dec levels (now (t .entry)))) r ⌝ }
+    ensures { λ r. ⌜ spanOf r ≡ bodyPlace name (dec levels (now (t .entry))) ⌝ }
 {
     let k = t[0];
     if k == Kind::RECORD {

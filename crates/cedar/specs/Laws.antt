@@ -28,6 +28,7 @@ pub mod SubtypeSound
 pub mod BoundSound
 pub mod DisjointSound
 pub mod Lookup
+pub mod BodyPlace
 pub mod AttributeSound
 pub mod Calls
 pub mod Carried

@@ -8,6 +8,7 @@ pub mod ValueForm
 pub mod ListForm
 pub mod SchemaForm
 pub mod Whole
+pub mod BodyPlace
 pub mod Result
 pub mod Disjoint
 pub mod Subtype

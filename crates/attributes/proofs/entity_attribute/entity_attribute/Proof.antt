@@ -36,16 +36,16 @@ enum-told-2 : tie.Need-enum-told-2
 enum-told-2 c = search needs
 
 returns-2 : tie.Need-returns-2
-returns-2 c = entity-lacks (entity-at ((c .before .before .before .before .before .before .before .before .before) .pre) ((c .before .before .before .before .before .before .before .before .before) .args .entity) ((c .before .before .before .before .before .before .before) .find-entity .result) ((c .before .before .before .before .before .before .before) .find-entity .ensures) ((c .before .before .before .before .before) .start .given .0 .0) ((c .before .before .before .before .before) .start .given .0 .1 .0) ((c .before .before .before .before .before) .start .given .0 .1 .1 .0) ((c .before .before .before .before .before) .start .given .1)) ((c .before .before .before .before .before .before .before .before .before) .args .name) ((c .before .before) .own-attribute .result) ((c .before .before) .own-attribute .ensures) (c .enum-told2 .given .1)
+returns-2 c = entity-lacks (entity-at ((c .before .before .before .before .before .before .before .before .before) .pre) ((c .before .before .before .before .before .before .before .before .before) .args .entity) ((c .before .before .before .before .before .before .before) .find-entity .result) ((c .before .before .before .before .before .before .before) .find-entity .ensures) ((c .before .before .before .before .before) .start .given .0 .0) ((c .before .before .before .before .before) .start .given .0 .1 .0) ((c .before .before .before .before .before) .start .given .0 .1 .1 .0) ((c .before .before .before .before .before) .start .given .1)) ((c .before .before .before .before .before .before .before .before .before) .args .name) ((c .before .before) .own-attribute .result) ((c .before .before) .own-attribute .ensures .0) (c .enum-told2 .given .1)
 
 add-t13 : tie.Need-add-t13
-add-t13 c = omega (arith, entity-sums (entity-at ((c .before .before .before .before .before .before .before .before .before .before) .pre) ((c .before .before .before .before .before .before .before .before .before .before) .args .entity) ((c .before .before .before .before .before .before .before .before) .find-entity .result) ((c .before .before .before .before .before .before .before .before) .find-entity .ensures) ((c .before .before .before .before .before .before) .start .given .0 .0) ((c .before .before .before .before .before .before) .start .given .0 .1 .0) ((c .before .before .before .before .before .before) .start .given .0 .1 .1 .0) ((c .before .before .before .before .before .before) .start .given .1)) ((c .before .before .before .before .before .before .before .before .before .before) .args .name) ((c .before .before .before) .own-attribute .result) ((c .before .before .before) .own-attribute .ensures) ((c .before) .s .given .0 .0) ((c .before) .s .given .0 .1 .0) ((c .before) .s .given .0 .1 .1 .0) ((c .before) .s .given .1) .0)
+add-t13 c = omega (arith, entity-sums (entity-at ((c .before .before .before .before .before .before .before .before .before .before) .pre) ((c .before .before .before .before .before .before .before .before .before .before) .args .entity) ((c .before .before .before .before .before .before .before .before) .find-entity .result) ((c .before .before .before .before .before .before .before .before) .find-entity .ensures) ((c .before .before .before .before .before .before) .start .given .0 .0) ((c .before .before .before .before .before .before) .start .given .0 .1 .0) ((c .before .before .before .before .before .before) .start .given .0 .1 .1 .0) ((c .before .before .before .before .before .before) .start .given .1)) ((c .before .before .before .before .before .before .before .before .before .before) .args .name) ((c .before .before .before) .own-attribute .result) ((c .before .before .before) .own-attribute .ensures .0) ((c .before) .s .given .0 .0) ((c .before) .s .given .0 .1 .0) ((c .before) .s .given .0 .1 .1 .0) ((c .before) .s .given .1) .0)
 
 add-t16 : tie.Need-add-t16
-add-t16 c = omega (arith, entity-sums (entity-at ((c .before .before .before .before .before .before .before .before .before .before) .pre) ((c .before .before .before .before .before .before .before .before .before .before) .args .entity) ((c .before .before .before .before .before .before .before .before) .find-entity .result) ((c .before .before .before .before .before .before .before .before) .find-entity .ensures) ((c .before .before .before .before .before .before) .start .given .0 .0) ((c .before .before .before .before .before .before) .start .given .0 .1 .0) ((c .before .before .before .before .before .before) .start .given .0 .1 .1 .0) ((c .before .before .before .before .before .before) .start .given .1)) ((c .before .before .before .before .before .before .before .before .before .before) .args .name) ((c .before .before .before) .own-attribute .result) ((c .before .before .before) .own-attribute .ensures) ((c .before) .s .given .0 .0) ((c .before) .s .given .0 .1 .0) ((c .before) .s .given .0 .1 .1 .0) ((c .before) .s .given .1) .1)
+add-t16 c = omega (arith, entity-sums (entity-at ((c .before .before .before .before .before .before .before .before .before .before) .pre) ((c .before .before .before .before .before .before .before .before .before .before) .args .entity) ((c .before .before .before .before .before .before .before .before) .find-entity .result) ((c .before .before .before .before .before .before .before .before) .find-entity .ensures) ((c .before .before .before .before .before .before) .start .given .0 .0) ((c .before .before .before .before .before .before) .start .given .0 .1 .0) ((c .before .before .before .before .before .before) .start .given .0 .1 .1 .0) ((c .before .before .before .before .before .before) .start .given .1)) ((c .before .before .before .before .before .before .before .before .before .before) .args .name) ((c .before .before .before) .own-attribute .result) ((c .before .before .before) .own-attribute .ensures .0) ((c .before) .s .given .0 .0) ((c .before) .s .given .0 .1 .0) ((c .before) .s .given .0 .1 .1 .0) ((c .before) .s .given .1) .1)
 
 returns-3 : tie.Need-returns-3
-returns-3 c = entity-has (entity-at ((c .before .before .before .before .before .before .before .before .before .before) .pre) ((c .before .before .before .before .before .before .before .before .before .before) .args .entity) ((c .before .before .before .before .before .before .before .before) .find-entity .result) ((c .before .before .before .before .before .before .before .before) .find-entity .ensures) ((c .before .before .before .before .before .before) .start .given .0 .0) ((c .before .before .before .before .before .before) .start .given .0 .1 .0) ((c .before .before .before .before .before .before) .start .given .0 .1 .1 .0) ((c .before .before .before .before .before .before) .start .given .1)) ((c .before .before .before .before .before .before .before .before .before .before) .args .name) ((c .before .before .before) .own-attribute .result) ((c .before .before .before) .own-attribute .ensures) ((c .before) .s .given .0 .0) ((c .before) .s .given .0 .1 .0) ((c .before) .s .given .0 .1 .1 .0) ((c .before) .s .given .1)
+returns-3 c = entity-has (entity-at ((c .before .before .before .before .before .before .before .before .before .before) .pre) ((c .before .before .before .before .before .before .before .before .before .before) .args .entity) ((c .before .before .before .before .before .before .before .before) .find-entity .result) ((c .before .before .before .before .before .before .before .before) .find-entity .ensures) ((c .before .before .before .before .before .before) .start .given .0 .0) ((c .before .before .before .before .before .before) .start .given .0 .1 .0) ((c .before .before .before .before .before .before) .start .given .0 .1 .1 .0) ((c .before .before .before .before .before .before) .start .given .1)) ((c .before .before .before .before .before .before .before .before .before .before) .args .name) ((c .before .before .before) .own-attribute .result) ((c .before .before .before) .own-attribute .ensures .0) ((c .before) .s .given .0 .0) ((c .before) .s .given .0 .1 .0) ((c .before) .s .given .0 .1 .1 .0) ((c .before) .s .given .1)
 
 pub entity-attribute-spec : {M : Type 1} → statement M
 entity-attribute-spec =

@@ -60,28 +60,28 @@ enum-told : tie.Need-enum-told
 enum-told c = search needs
 
 returns-2 : tie.Need-returns-2
-returns-2 c = own-none (stepFits standard (length ((c .before .before .before .before .before .before .before .before .before) .args .work .now))) (decS standard ((c .before .before .before .before .before .before .before .before .before) .args .schema .now)) ((c .before .before .before .before .before .before .before .before .before) .args .name) 16 ((c .before .before .before .before .before .before .before .before .before) .args .t .now) ((c .before .before .before .before .before .before .before .before .before) .pre .1 .good) ((c .before .before .before) .if1 .left) (place-none 15 ((c .before .before .before .before .before .before .before .before .before) .args .t .now) (ownAttr ((c .before .before .before .before .before .before .before .before .before) .args .name) (dec 16 ((c .before .before .before .before .before .before .before .before .before) .args .t .now))) ((c .before .before) .own-attribute .result) (c .enum-told .given .1) ((c .before .before) .own-attribute .ensures))
+returns-2 c = own-none (stepFits standard (length ((c .before .before .before .before .before .before .before .before .before) .args .work .now))) (decS standard ((c .before .before .before .before .before .before .before .before .before) .args .schema .now)) ((c .before .before .before .before .before .before .before .before .before) .args .name) 16 ((c .before .before .before .before .before .before .before .before .before) .args .t .now) ((c .before .before .before .before .before .before .before .before .before) .pre .1 .good) ((c .before .before .before) .if1 .left) (place-none 15 ((c .before .before .before .before .before .before .before .before .before) .args .t .now) (ownAttr ((c .before .before .before .before .before .before .before .before .before) .args .name) (dec 16 ((c .before .before .before .before .before .before .before .before .before) .args .t .now))) ((c .before .before) .own-attribute .result) (c .enum-told .given .1) ((c .before .before) .own-attribute .ensures .0))
 
 sub-copy : tie.Need-sub-copy
-sub-copy c = omega (arith, (place-at 15 ((c .before .before .before .before .before .before .before .before .before .before) .args .t .now) (ownAttr ((c .before .before .before .before .before .before .before .before .before .before) .args .name) (dec 16 ((c .before .before .before .before .before .before .before .before .before .before) .args .t .now))) ((c .before .before .before) .own-attribute .result) ((c .before) .start .given .0 .0) ((c .before) .start .given .0 .1 .0) ((c .before) .start .given .0 .1 .1 .0) ((c .before) .start .given .1) ((c .before .before .before) .own-attribute .ensures)) .0, (place-at 15 ((c .before .before .before .before .before .before .before .before .before .before) .args .t .now) (ownAttr ((c .before .before .before .before .before .before .before .before .before .before) .args .name) (dec 16 ((c .before .before .before .before .before .before .before .before .before .before) .args .t .now))) ((c .before .before .before) .own-attribute .result) ((c .before) .start .given .0 .0) ((c .before) .start .given .0 .1 .0) ((c .before) .start .given .0 .1 .1 .0) ((c .before) .start .given .1) ((c .before .before .before) .own-attribute .ensures)) .1)
+sub-copy c = omega (arith, (place-at 15 ((c .before .before .before .before .before .before .before .before .before .before) .args .t .now) (ownAttr ((c .before .before .before .before .before .before .before .before .before .before) .args .name) (dec 16 ((c .before .before .before .before .before .before .before .before .before .before) .args .t .now))) ((c .before .before .before) .own-attribute .result) ((c .before) .start .given .0 .0) ((c .before) .start .given .0 .1 .0) ((c .before) .start .given .0 .1 .1 .0) ((c .before) .start .given .1) ((c .before .before .before) .own-attribute .ensures .0)) .0, (place-at 15 ((c .before .before .before .before .before .before .before .before .before .before) .args .t .now) (ownAttr ((c .before .before .before .before .before .before .before .before .before .before) .args .name) (dec 16 ((c .before .before .before .before .before .before .before .before .before .before) .args .t .now))) ((c .before .before .before) .own-attribute .result) ((c .before) .start .given .0 .0) ((c .before) .start .given .0 .1 .0) ((c .before) .start .given .0 .1 .1 .0) ((c .before) .start .given .1) ((c .before .before .before) .own-attribute .ensures .0)) .1)
 
 part-copy-start : tie.Need-part-copy-start
-part-copy-start c = omega (arith, (place-at 15 ((c .before .before .before .before .before .before .before .before .before .before) .args .t .now) (ownAttr ((c .before .before .before .before .before .before .before .before .before .before) .args .name) (dec 16 ((c .before .before .before .before .before .before .before .before .before .before) .args .t .now))) ((c .before .before .before) .own-attribute .result) ((c .before) .start .given .0 .0) ((c .before) .start .given .0 .1 .0) ((c .before) .start .given .0 .1 .1 .0) ((c .before) .start .given .1) ((c .before .before .before) .own-attribute .ensures)) .0, (place-at 15 ((c .before .before .before .before .before .before .before .before .before .before) .args .t .now) (ownAttr ((c .before .before .before .before .before .before .before .before .before .before) .args .name) (dec 16 ((c .before .before .before .before .before .before .before .before .before .before) .args .t .now))) ((c .before .before .before) .own-attribute .result) ((c .before) .start .given .0 .0) ((c .before) .start .given .0 .1 .0) ((c .before) .start .given .0 .1 .1 .0) ((c .before) .start .given .1) ((c .before .before .before) .own-attribute .ensures)) .1)
+part-copy-start c = omega (arith, (place-at 15 ((c .before .before .before .before .before .before .before .before .before .before) .args .t .now) (ownAttr ((c .before .before .before .before .before .before .before .before .before .before) .args .name) (dec 16 ((c .before .before .before .before .before .before .before .before .before .before) .args .t .now))) ((c .before .before .before) .own-attribute .result) ((c .before) .start .given .0 .0) ((c .before) .start .given .0 .1 .0) ((c .before) .start .given .0 .1 .1 .0) ((c .before) .start .given .1) ((c .before .before .before) .own-attribute .ensures .0)) .0, (place-at 15 ((c .before .before .before .before .before .before .before .before .before .before) .args .t .now) (ownAttr ((c .before .before .before .before .before .before .before .before .before .before) .args .name) (dec 16 ((c .before .before .before .before .before .before .before .before .before .before) .args .t .now))) ((c .before .before .before) .own-attribute .result) ((c .before) .start .given .0 .0) ((c .before) .start .given .0 .1 .0) ((c .before) .start .given .0 .1 .1 .0) ((c .before) .start .given .1) ((c .before .before .before) .own-attribute .ensures .0)) .1)
 
 part-copy-end : tie.Need-part-copy-end
-part-copy-end c = omega (arith, (place-at 15 ((c .before .before .before .before .before .before .before .before .before .before) .args .t .now) (ownAttr ((c .before .before .before .before .before .before .before .before .before .before) .args .name) (dec 16 ((c .before .before .before .before .before .before .before .before .before .before) .args .t .now))) ((c .before .before .before) .own-attribute .result) ((c .before) .start .given .0 .0) ((c .before) .start .given .0 .1 .0) ((c .before) .start .given .0 .1 .1 .0) ((c .before) .start .given .1) ((c .before .before .before) .own-attribute .ensures)) .0, (place-at 15 ((c .before .before .before .before .before .before .before .before .before .before) .args .t .now) (ownAttr ((c .before .before .before .before .before .before .before .before .before .before) .args .name) (dec 16 ((c .before .before .before .before .before .before .before .before .before .before) .args .t .now))) ((c .before .before .before) .own-attribute .result) ((c .before) .start .given .0 .0) ((c .before) .start .given .0 .1 .0) ((c .before) .start .given .0 .1 .1 .0) ((c .before) .start .given .1) ((c .before .before .before) .own-attribute .ensures)) .1)
+part-copy-end c = omega (arith, (place-at 15 ((c .before .before .before .before .before .before .before .before .before .before) .args .t .now) (ownAttr ((c .before .before .before .before .before .before .before .before .before .before) .args .name) (dec 16 ((c .before .before .before .before .before .before .before .before .before .before) .args .t .now))) ((c .before .before .before) .own-attribute .result) ((c .before) .start .given .0 .0) ((c .before) .start .given .0 .1 .0) ((c .before) .start .given .0 .1 .1 .0) ((c .before) .start .given .1) ((c .before .before .before) .own-attribute .ensures .0)) .0, (place-at 15 ((c .before .before .before .before .before .before .before .before .before .before) .args .t .now) (ownAttr ((c .before .before .before .before .before .before .before .before .before .before) .args .name) (dec 16 ((c .before .before .before .before .before .before .before .before .before .before) .args .t .now))) ((c .before .before .before) .own-attribute .result) ((c .before) .start .given .0 .0) ((c .before) .start .given .0 .1 .0) ((c .before) .start .given .0 .1 .1 .0) ((c .before) .start .given .1) ((c .before .before .before) .own-attribute .ensures .0)) .1)
 
 copy-requires : tie.Need-copy-requires
-copy-requires c κs = let l : length (part ((c .before .before .before) .start .given .0 .0) ((c .before .before .before) .start .given .0 .1 .0) ((c .before .before .before .before .before .before .before .before .before .before .before .before) .args .t .now)) ≤ length ((c .before .before .before .before .before .before .before .before .before .before .before .before) .args .last .now) = omega (arith, length-part ((c .before .before .before) .start .given .0 .0) ((c .before .before .before) .start .given .0 .1 .0) ((c .before .before .before .before .before .before .before .before .before .before .before .before) .args .t .now) ((place-at 15 ((c .before .before .before .before .before .before .before .before .before .before .before .before) .args .t .now) (ownAttr ((c .before .before .before .before .before .before .before .before .before .before .before .before) .args .name) (dec 16 ((c .before .before .before .before .before .before .before .before .before .before .before .before) .args .t .now))) ((c .before .before .before .before .before) .own-attribute .result) ((c .before .before .before) .start .given .0 .0) ((c .before .before .before) .start .given .0 .1 .0) ((c .before .before .before) .start .given .0 .1 .1 .0) ((c .before .before .before) .start .given .1) ((c .before .before .before .before .before) .own-attribute .ensures)) .1), (place-at 15 ((c .before .before .before .before .before .before .before .before .before .before .before .before) .args .t .now) (ownAttr ((c .before .before .before .before .before .before .before .before .before .before .before .before) .args .name) (dec 16 ((c .before .before .before .before .before .before .before .before .before .before .before .before) .args .t .now))) ((c .before .before .before .before .before) .own-attribute .result) ((c .before .before .before) .start .given .0 .0) ((c .before .before .before) .start .given .0 .1 .0) ((c .before .before .before) .start .given .0 .1 .1 .0) ((c .before .before .before) .start .given .1) ((c .before .before .before .before .before) .own-attribute .ensures)) .1, (c .before .before .before .before .before .before .before .before .before .before .before .before) .pre .1 .few, (c .before .before .before .before .before .before .before .before .before .before .before .before) .pre .1 .room) in l
+copy-requires c κs = let l : length (part ((c .before .before .before) .start .given .0 .0) ((c .before .before .before) .start .given .0 .1 .0) ((c .before .before .before .before .before .before .before .before .before .before .before .before) .args .t .now)) ≤ length ((c .before .before .before .before .before .before .before .before .before .before .before .before) .args .last .now) = omega (arith, length-part ((c .before .before .before) .start .given .0 .0) ((c .before .before .before) .start .given .0 .1 .0) ((c .before .before .before .before .before .before .before .before .before .before .before .before) .args .t .now) ((place-at 15 ((c .before .before .before .before .before .before .before .before .before .before .before .before) .args .t .now) (ownAttr ((c .before .before .before .before .before .before .before .before .before .before .before .before) .args .name) (dec 16 ((c .before .before .before .before .before .before .before .before .before .before .before .before) .args .t .now))) ((c .before .before .before .before .before) .own-attribute .result) ((c .before .before .before) .start .given .0 .0) ((c .before .before .before) .start .given .0 .1 .0) ((c .before .before .before) .start .given .0 .1 .1 .0) ((c .before .before .before) .start .given .1) ((c .before .before .before .before .before) .own-attribute .ensures .0)) .1), (place-at 15 ((c .before .before .before .before .before .before .before .before .before .before .before .before) .args .t .now) (ownAttr ((c .before .before .before .before .before .before .before .before .before .before .before .before) .args .name) (dec 16 ((c .before .before .before .before .before .before .before .before .before .before .before .before) .args .t .now))) ((c .before .before .before .before .before) .own-attribute .result) ((c .before .before .before) .start .given .0 .0) ((c .before .before .before) .start .given .0 .1 .0) ((c .before .before .before) .start .given .0 .1 .1 .0) ((c .before .before .before) .start .given .1) ((c .before .before .before .before .before) .own-attribute .ensures .0)) .1, (c .before .before .before .before .before .before .before .before .before .before .before .before) .pre .1 .few, (c .before .before .before .before .before .before .before .before .before .before .before .before) .pre .1 .room) in l
 
 sub-t25 : tie.Need-sub-t25
-sub-t25 c = omega (arith, (place-at 15 ((c .before .before .before .before .before .before .before .before .before .before .before .before .before .before .before) .args .t .now) (ownAttr ((c .before .before .before .before .before .before .before .before .before .before .before .before .before .before .before) .args .name) (dec 16 ((c .before .before .before .before .before .before .before .before .before .before .before .before .before .before .before) .args .t .now))) ((c .before .before .before .before .before .before .before .before) .own-attribute .result) ((c .before .before .before .before .before .before) .start .given .0 .0) ((c .before .before .before .before .before .before) .start .given .0 .1 .0) ((c .before .before .before .before .before .before) .start .given .0 .1 .1 .0) ((c .before .before .before .before .before .before) .start .given .1) ((c .before .before .before .before .before .before .before .before) .own-attribute .ensures)) .0)
+sub-t25 c = omega (arith, (place-at 15 ((c .before .before .before .before .before .before .before .before .before .before .before .before .before .before .before) .args .t .now) (ownAttr ((c .before .before .before .before .before .before .before .before .before .before .before .before .before .before .before) .args .name) (dec 16 ((c .before .before .before .before .before .before .before .before .before .before .before .before .before .before .before) .args .t .now))) ((c .before .before .before .before .before .before .before .before) .own-attribute .result) ((c .before .before .before .before .before .before) .start .given .0 .0) ((c .before .before .before .before .before .before) .start .given .0 .1 .0) ((c .before .before .before .before .before .before) .start .given .0 .1 .1 .0) ((c .before .before .before .before .before .before) .start .given .1) ((c .before .before .before .before .before .before .before .before) .own-attribute .ensures .0)) .0)
 
 same-length-3 : tie.Need-same-length-3
 same-length-3 c = search needs
 
 returns-3 : tie.Need-returns-3
-returns-3 c = own-found (stepFits standard (length ((c .before .before .before .before .before .before .before .before .before .before .before .before .before .before .before) .args .work .now))) (decS standard ((c .before .before .before .before .before .before .before .before .before .before .before .before .before .before .before) .args .schema .now)) ((c .before .before .before .before .before .before .before .before .before .before .before .before .before .before .before) .args .name) 16 ((c .before .before .before .before .before .before .before .before .before .before .before .before .before .before .before) .args .t .now) ((c .before .before .before .before .before .before .before .before .before .before .before .before .before .before .before) .pre .1 .good) ((c .before .before .before .before .before .before .before .before .before) .if1 .left) ((c .before .before .before .before .before .before) .start .given .0 .1 .1 .0) _ ((place-at 15 ((c .before .before .before .before .before .before .before .before .before .before .before .before .before .before .before) .args .t .now) (ownAttr ((c .before .before .before .before .before .before .before .before .before .before .before .before .before .before .before) .args .name) (dec 16 ((c .before .before .before .before .before .before .before .before .before .before .before .before .before .before .before) .args .t .now))) ((c .before .before .before .before .before .before .before .before) .own-attribute .result) ((c .before .before .before .before .before .before) .start .given .0 .0) ((c .before .before .before .before .before .before) .start .given .0 .1 .0) ((c .before .before .before .before .before .before) .start .given .0 .1 .1 .0) ((c .before .before .before .before .before .before) .start .given .1) ((c .before .before .before .before .before .before .before .before) .own-attribute .ensures)) .3) ((c .before .before) .copy .last .1 .0) (held-copy ((c .before .before .before .before .before .before .before .before .before .before .before .before .before .before .before) .args .t .now) ((c .before .before .before .before .before .before .before .before .before .before .before .before .before .before .before) .args .last .now) ((c .before .before) .copy .last .1 .0) ((c .before .before .before .before .before .before) .start .given .0 .0) ((c .before .before .before .before .before .before) .start .given .0 .1 .0) ((place-at 15 ((c .before .before .before .before .before .before .before .before .before .before .before .before .before .before .before) .args .t .now) (ownAttr ((c .before .before .before .before .before .before .before .before .before .before .before .before .before .before .before) .args .name) (dec 16 ((c .before .before .before .before .before .before .before .before .before .before .before .before .before .before .before) .args .t .now))) ((c .before .before .before .before .before .before .before .before) .own-attribute .result) ((c .before .before .before .before .before .before) .start .given .0 .0) ((c .before .before .before .before .before .before) .start .given .0 .1 .0) ((c .before .before .before .before .before .before) .start .given .0 .1 .1 .0) ((c .before .before .before .before .before .before) .start .given .1) ((c .before .before .before .before .before .before .before .before) .own-attribute .ensures)) .0) ((place-at 15 ((c .before .before .before .before .before .before .before .before .before .before .before .before .before .before .before) .args .t .now) (ownAttr ((c .before .before .before .before .before .before .before .before .before .before .before .before .before .before .before) .args .name) (dec 16 ((c .before .before .before .before .before .before .before .before .before .before .before .before .before .before .before) .args .t .now))) ((c .before .before .before .before .before .before .before .before) .own-attribute .result) ((c .before .before .before .before .before .before) .start .given .0 .0) ((c .before .before .before .before .before .before) .start .given .0 .1 .0) ((c .before .before .before .before .before .before) .start .given .0 .1 .1 .0) ((c .before .before .before .before .before .before) .start .given .1) ((c .before .before .before .before .before .before .before .before) .own-attribute .ensures)) .1) (omega (arith, (place-at 15 ((c .before .before .before .before .before .before .before .before .before .before .before .before .before .before .before) .args .t .now) (ownAttr ((c .before .before .before .before .before .before .before .before .before .before .before .before .before .before .before) .args .name) (dec 16 ((c .before .before .before .before .before .before .before .before .before .before .before .before .before .before .before) .args .t .now))) ((c .before .before .before .before .before .before .before .before) .own-attribute .result) ((c .before .before .before .before .before .before) .start .given .0 .0) ((c .before .before .before .before .before .before) .start .given .0 .1 .0) ((c .before .before .before .before .before .before) .start .given .0 .1 .1 .0) ((c .before .before .before .before .before .before) .start .given .1) ((c .before .before .before .before .before .before .before .before) .own-attribute .ensures)) .1, (c .before .before .before .before .before .before .before .before .before .before .before .before .before .before .before) .pre .1 .few)) ((c .before .before .before .before .before .before .before .before .before .before .before .before .before .before .before) .pre .1 .room) ((c .before .before) .copy .kept .1 .0) ((place-at 15 ((c .before .before .before .before .before .before .before .before .before .before .before .before .before .before .before) .args .t .now) (ownAttr ((c .before .before .before .before .before .before .before .before .before .before .before .before .before .before .before) .args .name) (dec 16 ((c .before .before .before .before .before .before .before .before .before .before .before .before .before .before .before) .args .t .now))) ((c .before .before .before .before .before .before .before .before) .own-attribute .result) ((c .before .before .before .before .before .before) .start .given .0 .0) ((c .before .before .before .before .before .before) .start .given .0 .1 .0) ((c .before .before .before .before .before .before) .start .given .0 .1 .1 .0) ((c .before .before .before .before .before .before) .start .given .1) ((c .before .before .before .before .before .before .before .before) .own-attribute .ensures)) .2) (enc-dec 15 (part ((c .before .before .before .before .before .before) .start .given .0 .0) ((c .before .before .before .before .before .before) .start .given .0 .1 .0) ((c .before .before .before .before .before .before .before .before .before .before .before .before .before .before .before) .args .t .now)) (Bytes-part ((c .before .before .before .before .before .before) .start .given .0 .0) ((c .before .before .before .before .before .before) .start .given .0 .1 .0) ((c .before .before .before .before .before .before .before .before .before .before .before .before .before .before .before) .args .t .now) (Bytes-index ((c .before .before .before .before .before .before .before .before .before .before .before .before .before .before .before) .args .t .now) (λ i. omega (arith, (c .before .before .before .before .before .before .before .before .before .before .before .before .before) .shared-slice-known2 .given i)))) ((place-at 15 ((c .before .before .before .before .before .before .before .before .before .before .before .before .before .before .before) .args .t .now) (ownAttr ((c .before .before .before .before .before .before .before .before .before .before .before .before .before .before .before) .args .name) (dec 16 ((c .before .before .before .before .before .before .before .before .before .before .before .before .before .before .before) .args .t .now))) ((c .before .before .before .before .before .before .before .before) .own-attribute .result) ((c .before .before .before .before .before .before) .start .given .0 .0) ((c .before .before .before .before .before .before) .start .given .0 .1 .0) ((c .before .before .before .before .before .before) .start .given .0 .1 .1 .0) ((c .before .before .before .before .before .before) .start .given .1) ((c .before .before .before .before .before .before .before .before) .own-attribute .ensures)) .2)) ((c .before .before) .copy .ensures))
+returns-3 c = own-found (stepFits standard (length ((c .before .before .before .before .before .before .before .before .before .before .before .before .before .before .before) .args .work .now))) (decS standard ((c .before .before .before .before .before .before .before .before .before .before .before .before .before .before .before) .args .schema .now)) ((c .before .before .before .before .before .before .before .before .before .before .before .before .before .before .before) .args .name) 16 ((c .before .before .before .before .before .before .before .before .before .before .before .before .before .before .before) .args .t .now) ((c .before .before .before .before .before .before .before .before .before .before .before .before .before .before .before) .pre .1 .good) ((c .before .before .before .before .before .before .before .before .before) .if1 .left) ((c .before .before .before .before .before .before) .start .given .0 .1 .1 .0) _ ((place-at 15 ((c .before .before .before .before .before .before .before .before .before .before .before .before .before .before .before) .args .t .now) (ownAttr ((c .before .before .before .before .before .before .before .before .before .before .before .before .before .before .before) .args .name) (dec 16 ((c .before .before .before .before .before .before .before .before .before .before .before .before .before .before .before) .args .t .now))) ((c .before .before .before .before .before .before .before .before) .own-attribute .result) ((c .before .before .before .before .before .before) .start .given .0 .0) ((c .before .before .before .before .before .before) .start .given .0 .1 .0) ((c .before .before .before .before .before .before) .start .given .0 .1 .1 .0) ((c .before .before .before .before .before .before) .start .given .1) ((c .before .before .before .before .before .before .before .before) .own-attribute .ensures .0)) .3) ((c .before .before) .copy .last .1 .0) (held-copy ((c .before .before .before .before .before .before .before .before .before .before .before .before .before .before .before) .args .t .now) ((c .before .before .before .before .before .before .before .before .before .before .before .before .before .before .before) .args .last .now) ((c .before .before) .copy .last .1 .0) ((c .before .before .before .before .before .before) .start .given .0 .0) ((c .before .before .before .before .before .before) .start .given .0 .1 .0) ((place-at 15 ((c .before .before .before .before .before .before .before .before .before .before .before .before .before .before .before) .args .t .now) (ownAttr ((c .before .before .before .before .before .before .before .before .before .before .before .before .before .before .before) .args .name) (dec 16 ((c .before .before .before .before .before .before .before .before .before .before .before .before .before .before .before) .args .t .now))) ((c .before .before .before .before .before .before .before .before) .own-attribute .result) ((c .before .before .before .before .before .before) .start .given .0 .0) ((c .before .before .before .before .before .before) .start .given .0 .1 .0) ((c .before .before .before .before .before .before) .start .given .0 .1 .1 .0) ((c .before .before .before .before .before .before) .start .given .1) ((c .before .before .before .before .before .before .before .before) .own-attribute .ensures .0)) .0) ((place-at 15 ((c .before .before .before .before .before .before .before .before .before .before .before .before .before .before .before) .args .t .now) (ownAttr ((c .before .before .before .before .before .before .before .before .before .before .before .before .before .before .before) .args .name) (dec 16 ((c .before .before .before .before .before .before .before .before .before .before .before .before .before .before .before) .args .t .now))) ((c .before .before .before .before .before .before .before .before) .own-attribute .result) ((c .before .before .before .before .before .before) .start .given .0 .0) ((c .before .before .before .before .before .before) .start .given .0 .1 .0) ((c .before .before .before .before .before .before) .start .given .0 .1 .1 .0) ((c .before .before .before .before .before .before) .start .given .1) ((c .before .before .before .before .before .before .before .before) .own-attribute .ensures .0)) .1) (omega (arith, (place-at 15 ((c .before .before .before .before .before .before .before .before .before .before .before .before .before .before .before) .args .t .now) (ownAttr ((c .before .before .before .before .before .before .before .before .before .before .before .before .before .before .before) .args .name) (dec 16 ((c .before .before .before .before .before .before .before .before .before .before .before .before .before .before .before) .args .t .now))) ((c .before .before .before .before .before .before .before .before) .own-attribute .result) ((c .before .before .before .before .before .before) .start .given .0 .0) ((c .before .before .before .before .before .before) .start .given .0 .1 .0) ((c .before .before .before .before .before .before) .start .given .0 .1 .1 .0) ((c .before .before .before .before .before .before) .start .given .1) ((c .before .before .before .before .before .before .before .before) .own-attribute .ensures .0)) .1, (c .before .before .before .before .before .before .before .before .before .before .before .before .before .before .before) .pre .1 .few)) ((c .before .before .before .before .before .before .before .before .before .before .before .before .before .before .before) .pre .1 .room) ((c .before .before) .copy .kept .1 .0) ((place-at 15 ((c .before .before .before .before .before .before .before .before .before .before .before .before .before .before .before) .args .t .now) (ownAttr ((c .before .before .before .before .before .before .before .before .before .before .before .before .before .before .before) .args .name) (dec 16 ((c .before .before .before .before .before .before .before .before .before .before .before .before .before .before .before) .args .t .now))) ((c .before .before .before .before .before .before .before .before) .own-attribute .result) ((c .before .before .before .before .before .before) .start .given .0 .0) ((c .before .before .before .before .before .before) .start .given .0 .1 .0) ((c .before .before .before .before .before .before) .start .given .0 .1 .1 .0) ((c .before .before .before .before .before .before) .start .given .1) ((c .before .before .before .before .before .before .before .before) .own-attribute .ensures .0)) .2) (enc-dec 15 (part ((c .before .before .before .before .before .before) .start .given .0 .0) ((c .before .before .before .before .before .before) .start .given .0 .1 .0) ((c .before .before .before .before .before .before .before .before .before .before .before .before .before .before .before) .args .t .now)) (Bytes-part ((c .before .before .before .before .before .before) .start .given .0 .0) ((c .before .before .before .before .before .before) .start .given .0 .1 .0) ((c .before .before .before .before .before .before .before .before .before .before .before .before .before .before .before) .args .t .now) (Bytes-index ((c .before .before .before .before .before .before .before .before .before .before .before .before .before .before .before) .args .t .now) (λ i. omega (arith, (c .before .before .before .before .before .before .before .before .before .before .before .before .before) .shared-slice-known2 .given i)))) ((place-at 15 ((c .before .before .before .before .before .before .before .before .before .before .before .before .before .before .before) .args .t .now) (ownAttr ((c .before .before .before .before .before .before .before .before .before .before .before .before .before .before .before) .args .name) (dec 16 ((c .before .before .before .before .before .before .before .before .before .before .before .before .before .before .before) .args .t .now))) ((c .before .before .before .before .before .before .before .before) .own-attribute .result) ((c .before .before .before .before .before .before) .start .given .0 .0) ((c .before .before .before .before .before .before) .start .given .0 .1 .0) ((c .before .before .before .before .before .before) .start .given .0 .1 .1 .0) ((c .before .before .before .before .before .before) .start .given .1) ((c .before .before .before .before .before .before .before .before) .own-attribute .ensures .0)) .2)) ((c .before .before) .copy .ensures))
 
 pub look-up-spec : {M : Type 1} → statement M
 look-up-spec =

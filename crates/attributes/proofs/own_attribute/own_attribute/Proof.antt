@@ -1,3 +1,7 @@
+-- `attributes::own_attribute::own_attribute` meets its contract. Assumes nothing.
+use mathlib.Core.Path.{sym}
+use Rattle.cedar.specs.Laws.BodyPlace.{body-none}
+use Rattle.forms.specs.TypeBytes.{dec}
 use Rattle.forms.specs.Laws.Views.{not-empty, is-record, is-action}
 use Rattle.attributes.specs.Laws.Place.{record-listed, action-listed, record-placed, action-placed, other-placed}
 use Rattle.attributes.proofs.own_attribute.own_attribute.Statement.{statement}
@@ -6,37 +10,32 @@ use Rattle.attributes.proofs.own_attribute.own_attribute.Reads as reads
 use Rattle.attributes.proofs.own_attribute.own_attribute.Lts as lts
 use Rattle.attributes.proofs.own_attribute.listed_attribute.Reads as listed-attribute-reads
 
--- src/own_attribute.rt:46:13
 shared-slice-read-k : tie.Need-shared-slice-read-k
 shared-slice-read-k c = not-empty ((c .before .before) .args .levels) ((c .before .before) .args .t .now) ((c .before .before) .pre)
 
--- src/own_attribute.rt:48:45
 sub-listed-attribute : tie.Need-sub-listed-attribute
 sub-listed-attribute c = is-record ((c .before .before .before) .args .levels) ((c .before .before .before) .args .t .now) ((c .before .before .before) .pre) (c .if1 .taken) .deep
 
--- src/own_attribute.rt:48:9
 listed-attribute-requires : tie.Need-listed-attribute-requires
 listed-attribute-requires c κs = record-listed ((c .before .before .before) .args .levels) ((c .before .before .before) .args .t .now) ((c .before .before .before) .pre) (c .if1 .taken)
 
--- src/own_attribute.rt:48:9
 returns : tie.Need-returns
 returns c = record-placed ((c .before .before .before .before) .args .name) ((c .before .before .before .before) .args .levels) ((c .before .before .before .before) .args .t .now) ((c .before .before .before .before) .pre) (c .listed-attribute .result) (c .before .if1 .taken) (c .listed-attribute .ensures)
 
--- src/own_attribute.rt:51:45
 sub-listed-attribute-2 : tie.Need-sub-listed-attribute-2
 sub-listed-attribute-2 c = is-action ((c .before .before .before .before) .args .levels) ((c .before .before .before .before) .args .t .now) ((c .before .before .before .before) .pre) (c .if2 .taken) .deep
 
--- src/own_attribute.rt:51:9
 listed-attribute-requires-2 : tie.Need-listed-attribute-requires-2
 listed-attribute-requires-2 c κs = action-listed ((c .before .before .before .before) .args .levels) ((c .before .before .before .before) .args .t .now) ((c .before .before .before .before) .pre) (c .if2 .taken)
 
--- src/own_attribute.rt:51:9
 returns-2 : tie.Need-returns-2
 returns-2 c = action-placed ((c .before .before .before .before .before) .args .name) ((c .before .before .before .before .before) .args .levels) ((c .before .before .before .before .before) .args .t .now) ((c .before .before .before .before .before) .pre) (c .listed-attribute2 .result) (c .before .if2 .taken) (c .listed-attribute2 .ensures)
 
--- src/own_attribute.rt:42:1
 returns-3 : tie.Need-returns-3
-returns-3 c = other-placed ((c .before .before .before .before) .args .name) ((c .before .before .before .before) .args .levels) ((c .before .before .before .before) .args .t .now) ((c .before .before .before .before) .pre) (c .before .if1 .left) (c .if2 .left)
+returns-3 c =
+    let start = c .before .before .before .before in
+    let none-there = other-placed (start .args .name) (start .args .levels) (start .args .t .now) (start .pre) (c .before .if1 .left) (c .if2 .left) in
+    (none-there, sym (body-none (start .args .name) (dec (start .args .levels) (start .args .t .now)) none-there))
 
 pub own-attribute-spec : {M : Type 1} → statement M
 own-attribute-spec =
