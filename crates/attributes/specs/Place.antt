@@ -1,11 +1,12 @@
 -- Where an attribute stands in a form. Assumes nothing: these are definitions.
-use Prim.Native.Nat.{ℕ, _+_, _*_, _≤_}
+use Prim.Native.Nat.{ℕ, _+_, _*_, _-_, _≤_}
 use mathlib.Core.List.{List}
 use mathlib.Core.Bool.{Bool, true}
 use mathlib.Core.Option.{Option, none, some}
 use mathlib.Core.Path.{_≡_}
 use lib.ListN.{length}
 use Rattle.cedar.specs.Types.{Ty}
+use Rattle.cedar.specs.Limits.{standard}
 use Rattle.forms.specs.Parts.{part, rest, rd}
 use Rattle.forms.specs.TypeBytes.{whole, dec, Sound}
 use Rattle.attributes.specs.declared.own_attribute.Place.{Place}
@@ -29,5 +30,5 @@ spanOf Nothing = none
 
 -- An attribute of an entity type in a schema's bytes: no longer than a form may be.
 abbrev pub PlacedIn : List ℕ → Option (Bool × Ty) → Place → Type 0
-PlacedIn b o (At s e q) = Placed 15 b o (At s e q) × (e ≤ s + 4096)
+PlacedIn b o (At s e q) = Placed (standard .levels - 1) b o (At s e q) × (e ≤ s + standard .bytes)
 PlacedIn b o Nothing = o ≡ none

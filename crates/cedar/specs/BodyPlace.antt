@@ -7,7 +7,7 @@ use lib.Dec.{eqb}
 use lib.ListN.{length}
 use Rattle.cedar.specs.Types.{Ty, atom, set, rec, act, ent, ext, Attrs, nil, attr}
 use Rattle.cedar.specs.Bytes.{_>>=_}
-use Rattle.cedar.specs.TypeForm.{count, enc}
+use Rattle.cedar.specs.TypeForm.{count, enc, entryWidth}
 use Rattle.cedar.specs.Limits.{Limits}
 use Rattle.cedar.specs.Whole.{wholeType}
 
@@ -18,10 +18,6 @@ recordHead = 4
 -- Those of an action: its kind, its entity type, the count.
 abbrev pub actionHead : ℕ
 actionHead = 5
-
--- The bytes of an entry: name, required byte, length of the body.
-abbrev pub entryWidth : ℕ
-entryWidth = 5
 
 -- The place of a's body, where the first body starts at `at`: behind the bodies of the attributes before a.
 abbrev pub bodyFrom : ℕ → ℕ → Attrs → Option (ℕ × ℕ)

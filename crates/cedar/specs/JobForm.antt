@@ -98,7 +98,8 @@ pub record Job : Type 0 where
   pub schema : List ℕ
   pub questions : List (Question × (List ℕ × List ℕ))
 
--- The schema's length, the count of questions, their entries, the schema, the bodies, and no byte over.
+-- The schema's length, the count of questions, their entries, of 8 bytes as `readQuestion` takes them, the schema, the bodies, and no
+-- byte over.
 abbrev pub parseJob : List ℕ → Option Job
 parseJob b = do
   (n, b₁) ← word b

@@ -84,7 +84,8 @@ abbrev pub functionsOf : List ((ℕ × Option ℕ) × List Arg) → List Functio
 functionsOf [] = []
 functionsOf (x ∷ xs) = record { name = x .0 .0; returns = x .0 .1; args = x .1 } ∷ functionsOf xs
 
--- The three counts, the entries of the three sections, then their bodies, and no byte over; p reads a type.
+-- The three counts, the entries of the three sections, of 5, 6 and 7 bytes as their readers take them, then their bodies, and no byte
+-- over; p reads a type.
 abbrev pub parseSchema : (List ℕ → Option Ty) → List ℕ → Option Schema
 parseSchema p b = do
   (m, b₁) ← word b

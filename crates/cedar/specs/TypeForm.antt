@@ -82,6 +82,10 @@ readAttr b = do
   (l, b₃) ← word b₂
   some ((n, r), l, b₃)
 
+-- The bytes of an attribute's entry: name, required byte, length of the body.
+abbrev pub entryWidth : ℕ
+entryWidth = 5
+
 -- Attributes ascend by name.
 abbrev pub ascendingAttr : ℕ → ℕ × Bool → Option ℕ
 ascendingAttr low h = ascending low (h .0)
@@ -94,7 +98,7 @@ attrsOf (x ∷ xs) = attr (x .0 .0) (x .0 .1) (x .1) (attrsOf xs)
 -- A count, so many entries, and their bodies; p reads a body.
 abbrev pub parseAttrs : (List ℕ → Option Ty) → List ℕ → Option Attrs
 parseAttrs p b = do
-  xs ← parseCounted readAttr ascendingAttr (λ h. p) 5 0 b
+  xs ← parseCounted readAttr ascendingAttr (λ h. p) entryWidth 0 b
   some (attrsOf xs)
 
 -- What follows the first byte; p reads a part.

@@ -10,11 +10,11 @@ use lib.ListN.{length, take, drop, length-append}
 use lib.Seq.{take-append-seam, drop-append-seam}
 use Rattle.cedar.specs.Types.{Ty, atom, set, rec, act, ent, ext, Attrs, nil, attr, find}
 use Rattle.cedar.specs.Bytes.{Bytes, u16, flag}
-use Rattle.cedar.specs.TypeForm.{count, enc, entries, bodies}
+use Rattle.cedar.specs.TypeForm.{recordCode, actionCode, count, enc, entries, bodies, entryWidth}
 use Rattle.cedar.specs.Limits.{Limits}
 use Rattle.cedar.specs.Whole.{wholeType}
 use Rattle.cedar.specs.Attribute.{ownAttr}
-use Rattle.cedar.specs.BodyPlace.{recordHead, actionHead, entryWidth, bodyFrom, bodyPlace, bodyIn}
+use Rattle.cedar.specs.BodyPlace.{recordHead, actionHead, bodyFrom, bodyPlace, bodyIn}
 use Rattle.cedar.specs.Laws.Tests.{T→true, not-T→false, cond-case, none-some}
 use Rattle.cedar.specs.Laws.Lengths.{length-entries}
 use Rattle.cedar.specs.Laws.Whole.{wholeType-reads}
@@ -106,8 +106,8 @@ pub body-stands : (a : ℕ) (t : Ty) (y : Bool × Ty) → ownAttr a t ≡ some y
 unfolding enc
 body-stands a (atom k) y e = none-some e
 body-stands a (set t) y e = none-some e
-body-stands a (rec o xs) y e = table-stands (8 ∷ flag o ∷ u16 (count xs)) xs a y e
-body-stands a (act n xs) y e = table-stands (11 ∷ u16 n ++ u16 (count xs)) xs a y e
+body-stands a (rec o xs) y e = table-stands (recordCode ∷ flag o ∷ u16 (count xs)) xs a y e
+body-stands a (act n xs) y e = table-stands (actionCode ∷ u16 n ++ u16 (count xs)) xs a y e
 body-stands a (ent ns) y e = none-some e
 body-stands a (ext n) y e = none-some e
 
