@@ -1,5 +1,6 @@
 // What a step over a job's questions is made of.
 use crate::questions::Cursor;
+use forms::limits::Limits;
 
 // A line of so many bytes and the next cursor, or no question.
 pub enum Step {
@@ -12,7 +13,7 @@ pub enum Step {
 pub struct Buffers;
 
 impl Buffers {
-    pub const RESULT: usize = 4096;
+    pub const RESULT: usize = Limits::BYTES;
 
     pub const WORK: usize = 8192;
 
