@@ -1,4 +1,4 @@
--- Laws for the entries' proofs.
+-- Laws for the entries' proofs; then what their contracts tell a caller, in the terms of the theorem on sequences of bounds.
 pub mod Questions
 pub mod Schemas
 pub mod Values
@@ -15,3 +15,5 @@ pub mod Bound
 pub mod Lookup
 pub mod Fold
 pub mod Names
+pub mod Answers
+pub mod Caller

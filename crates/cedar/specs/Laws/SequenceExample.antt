@@ -53,6 +53,7 @@ noForm = 13 ∷ []
 abbrev schema : List ℕ
 schema = 1 ∷ 0 ∷ 0 ∷ 0 ∷ 0 ∷ 0 ∷ 2 ∷ 0 ∷ 0 ∷ 16 ∷ 0 ∷ 8 ∷ 0 ∷ 2 ∷ 0 ∷ 1 ∷ 0 ∷ 1 ∷ 1 ∷ 0 ∷ 2 ∷ 0 ∷ 0 ∷ 1 ∷ 0 ∷ 4 ∷ 5 ∷ []
 
+-- The same as a tree.
 abbrev tree : Schema
 tree = record {
   entities = record { name = 2; enumerated = false; isOpen = false; attrs = attr 1 true (atom long) (attr 2 false (atom string) nil) } ∷ [];
@@ -70,8 +71,8 @@ uid4 = 4 ∷ 4 ∷ 0 ∷ 9 ∷ 0 ∷ []
 abbrev seven : List ℕ
 seven = 2 ∷ 7 ∷ 0 ∷ 0 ∷ 0 ∷ 0 ∷ 0 ∷ 0 ∷ 0 ∷ []
 
-abbrev letter : List ℕ
-letter = 3 ∷ 1 ∷ 0 ∷ 97 ∷ []
+abbrev aString : List ℕ
+aString = 3 ∷ 1 ∷ 0 ∷ 97 ∷ []
 
 abbrev fields : List ℕ
 fields = 6 ∷ 2 ∷ 0 ∷ 1 ∷ 0 ∷ 9 ∷ 0 ∷ 2 ∷ 0 ∷ 4 ∷ 0 ∷ 2 ∷ 7 ∷ 0 ∷ 0 ∷ 0 ∷ 0 ∷ 0 ∷ 0 ∷ 0 ∷ 3 ∷ 1 ∷ 0 ∷ 97 ∷ []
@@ -228,9 +229,12 @@ keeps-disjoint-second = uid2-either .notDisjoint entity6 (inr refl)
 pub keeps-required : T (present (attributeOf standard 1 fields))
 keeps-required = fields-opened .required tt fields own-pairs 1 (atom long) first-entry
 
--- Required of the uid with an entry: what it carries has the attribute 1.
-pub keeps-required-of-entry : T (present (attributeOf standard 1 fields))
-keeps-required-of-entry = uid2-entity .required tt fields with-entry 1 (atom long) required-of-entry
+-- Required of the uid with an entry: whatever it carries has the attribute 1, so this record has.
+pub keeps-required-of-entry : (w : List ℕ) → Carries standard shorter schema uid2 w → T (present (attributeOf standard 1 w))
+keeps-required-of-entry w g = uid2-entity .required tt w g 1 (atom long) required-of-entry
+
+pub keeps-required-there : T (present (attributeOf standard 1 fields))
+keeps-required-there = keeps-required-of-entry fields with-entry
 
 -- Typed, by lookup's second entry: what the record has there is a Long.
 pub keeps-typed : Conforms standard shorter schema (4 ∷ []) seven
@@ -238,14 +242,17 @@ unfolding enc parseValue encValue
 keeps-typed = fields-opened .typedAs tt fields fields-bytes own-pairs 1 true (atom long) second-entry seven refl
 
 -- Typed though optional, of the uid with an entry: what it carries at 2 is a string.
-pub keeps-typed-of-entry : Conforms standard shorter schema (5 ∷ []) letter
+pub keeps-typed-of-entry : Conforms standard shorter schema (5 ∷ []) aString
 unfolding enc parseValue encValue
-keeps-typed-of-entry = uid2-entity .typedAs tt fields fields-bytes with-entry 2 false (atom string) optional-of-entry letter refl
+keeps-typed-of-entry = uid2-entity .typedAs tt fields fields-bytes with-entry 2 false (atom string) optional-of-entry aString refl
 
--- Denied: may-have says no of entity 2 and the attribute 3, and what the uid carries lacks it.
-pub keeps-denied : attributeOf standard 3 fields ≡ none
+-- Denied: may-have says no of entity 2 and the attribute 3, and whatever the uid carries lacks it, so this record does.
+pub keeps-denied : (w : List ℕ) → Carries standard shorter schema uid2 w → attributeOf standard 3 w ≡ none
 unfolding parse
-keeps-denied = uid2-entity .denied tt fields with-entry 3 refl
+keeps-denied w g = uid2-entity .denied tt w g 3 refl
+
+pub keeps-denied-there : attributeOf standard 3 fields ≡ none
+keeps-denied-there = keeps-denied fields with-entry
 
 -- The uid without an entry may carry any attribute, as here 2; so may-have cannot deny it of the two entities together.
 pub keeps-undenied : mayHaveCall standard schema 2 either ≡ said false → ⊥

@@ -1,0 +1,173 @@
+-- From the entries' contracts to the theorem on sequences of bounds: what a caller sees is what the theorem's run, `LooksUp`,
+-- disjoint's yes, may-have's no and `Conforms` speak of. Assumes nothing.
+use Prim.Native.Nat.{ℕ, _<_}
+use native.Mathlib.Omega.{arith}
+use mathlib.Core.List.{List}
+use mathlib.Core.Bool.{Bool, true, false}
+use mathlib.Core.Path.{_≡_, refl, sym, ap, _∙_}
+use mathlib.Core.Option.{Option, none, some}
+use mathlib.Core.Logic.{_↔_, inl, inr}
+use lib.ListN.{length, take}
+use lib.Seq.{take-append-seam}
+use Rattle.cedar.specs.Types.{Ty, Schema, maybe}
+use Rattle.cedar.specs.TypeForm.{enc}
+use Rattle.cedar.specs.Limits.{Limits}
+use Rattle.cedar.specs.Whole.{wholeSchema, wholeType}
+use Rattle.cedar.specs.Result.{Result, ok, err, badSchema, badFirst}
+use Rattle.cedar.specs.Bound.{bound}
+use Rattle.cedar.specs.Attribute.{ownAttr}
+use Rattle.cedar.specs.Conformance.{shorter}
+use Rattle.cedar.specs.Conforms.{Conforms}
+use Rattle.cedar.specs.Outcome.{Outcome, refused, said, nothing, typed, attribute, named, bytesOf, resultAfter}
+use Rattle.cedar.specs.Calls.{ask, modeOf, writeType, disjointCall, boundCall, lookupCall, ownAttributeCall, mayHaveCall, conformsCall}
+use Rattle.cedar.specs.Sequence.{written, LooksUp}
+use Rattle.cedar.specs.Laws.Calls.{ask-case, answer-case, conformsCall-yes}
+use Rattle.validator.specs.Answers.{answerOf, Answered, AnsweredIn}
+use Rattle.validator.specs.Handed.{toldOf, Handed}
+use Rattle.validator.specs.declared.answers.Answer.{Answer}
+use Rattle.validator.specs.declared.answers.Answer.the-variants.{Refused, Yes, No, Nothing, Wrote, Attribute}
+
+-- What a caller copies, by the answer that it sees: after `Wrote n` the first n bytes of its buffer, else nothing.
+abbrev pub copies : Answer → List ℕ → Option (List ℕ)
+copies (Refused n) after = none
+copies Yes after = none
+copies No after = none
+copies Nothing after = none
+copies (Wrote n) after = some (take n after)
+copies (Attribute r n) after = none
+
+apart : {C : Type 0} → _≡_ {A = ℕ} 0 1 → C
+apart e = absurd (omega arith)
+
+type-unnamed : {C : Type 0} (lim : Limits) (room : ℕ) (r : Result Ty) (ns : List ℕ) → writeType lim room r ≡ named ns → C
+type-unnamed lim room (ok t) ns e = answer-case lim room (enc t) (typed t) (named ns) tt e λ l p. apart (cc)
+type-unnamed lim room (err n) ns e = apart (cc)
+
+-- A bound call answers with no name list, the other outcome whose answer is `Wrote`.
+bound-unnamed : {C : Type 0} (lim : Limits) (mode : ℕ) (schema t₀ t₁ : List ℕ) (room : ℕ) (ns : List ℕ) → boundCall lim mode schema t₀ t₁ room ≡ named ns → C
+bound-unnamed lim mode schema t₀ t₁ room ns e =
+    ask-case _ (modeOf mode) _ (named ns) tt e λ m em e₁.
+    ask-case _ (wholeSchema lim schema) _ (named ns) tt e₁ λ s es e₂.
+    ask-case _ (wholeType lim t₀) _ (named ns) tt e₂ λ a ea e₃.
+    ask-case _ (wholeType lim t₁) _ (named ns) tt e₃ λ b eb e₄.
+    type-unnamed lim room (bound m a b) ns e₄
+
+-- A call that answers with no name list: what it wrote is what the caller copies.
+written-copies : (o : Outcome) → ((ns : List ℕ) → o ≡ named ns → ⊥) → (before after : List ℕ) (r : Answer) → Answered o before after r → written o ≡ copies r after
+written-copies (refused n) u before after r h = sym (ap (λ (z : Answer). copies z after) (h .answer))
+written-copies (said true) u before after r h = sym (ap (λ (z : Answer). copies z after) (h .answer))
+written-copies (said false) u before after r h = sym (ap (λ (z : Answer). copies z after) (h .answer))
+written-copies nothing u before after r h = sym (ap (λ (z : Answer). copies z after) (h .answer))
+written-copies (typed t) u before after r h =
+    sym (ap (λ (z : Answer). copies z after) (h .answer) ∙ ap (λ (l : List ℕ). some (take (length (enc t)) l)) (h .result) ∙ ap (λ (l : List ℕ). some l) (take-append-seam (enc t) _))
+written-copies (attribute q t) u before after r h = sym (ap (λ (z : Answer). copies z after) (h .answer))
+written-copies (named ns) u before after r h = absurd (u ns refl)
+
+module _ (lim : Limits) (mode : ℕ) (schema t₀ t₁ before after : List ℕ) (r : Answer) (h : Answered (boundCall lim mode schema t₀ t₁ (length before)) before after r) where
+  -- Bound: what the theorem's run copies is what the caller copies:
+  pub bound-copies : written (boundCall lim mode schema t₀ t₁ (length before)) ≡ copies r after
+  bound-copies = written-copies (boundCall lim mode schema t₀ t₁ (length before)) (λ ns e. bound-unnamed lim mode schema t₀ t₁ (length before) ns e) before after r h
+
+  -- after `Wrote n`, the first n bytes of the buffer;
+  pub bound-wrote : (n : ℕ) → r ≡ Wrote n → written (boundCall lim mode schema t₀ t₁ (length before)) ≡ some (take n after)
+  bound-wrote n e = bound-copies ∙ ap (λ (z : Answer). copies z after) e
+
+  -- after a refusal, nothing.
+  pub bound-refused : (n : ℕ) → r ≡ Refused n → written (boundCall lim mode schema t₀ t₁ (length before)) ≡ none
+  bound-refused n e = bound-copies ∙ ap (λ (z : Answer). copies z after) e
+
+-- `Attribute q n` is an attribute of that flag, and n is its type's length.
+attribute-seen : {C : Type 0} (o : Outcome) (q : Bool) (n : ℕ) → answerOf o ≡ Attribute q n → ((y : Ty) → o ≡ attribute q y → length (enc y) ≡ n → C) → C
+attribute-seen (refused m) q n e k = apart (cc)
+attribute-seen (said true) q n e k = apart (cc)
+attribute-seen (said false) q n e k = apart (cc)
+attribute-seen nothing q n e k = apart (cc)
+attribute-seen (typed t) q n e k = apart (cc)
+attribute-seen (attribute p t) q n e k = k t (cc) (cc)
+attribute-seen (named ns) q n e k = apart (cc)
+
+-- Lookup: after `Attribute q n`, the first n bytes of the buffer are the form of a type that is looked up, with the flag q.
+pub lookup-finds : (lim : Limits) (schema : List ℕ) (a : ℕ) (t before after work workAfter : List ℕ) (r : Answer) (q : Bool) (n : ℕ)
+    → AnsweredIn (lookupCall lim schema a t (length before) (length work)) before after work workAfter r → r ≡ Attribute q n
+    → (y : Ty) × LooksUp lim schema a t q y × (enc y ≡ take n after)
+lookup-finds lim schema a t before after work workAfter r q n h e =
+    attribute-seen (lookupCall lim schema a t (length before) (length work)) q n (sym (h .answer) ∙ e) λ y p l.
+    let f : after ≡ resultAfter (attribute q y) before = h .result ∙ ap (λ (o : Outcome). resultAfter o before) p in
+    (y, inl (length before, length work, p), sym (ap (take n) f ∙ ap (λ (m : ℕ). take m (resultAfter (attribute q y) before)) (sym l) ∙ take-append-seam (enc y) _))
+
+-- The letter that is told beside a part.
+abbrev letter : Bool → ℕ
+letter true = 114
+letter false = 111
+
+no-letter : {C : Type 0} (q : Bool) (n : ℕ) → letter q ≡ n → n < 4 → C
+no-letter true n e l = absurd (omega arith)
+no-letter false n e l = absurd (omega arith)
+
+letter-flag : (q b : Bool) (t : Ty) → letter q ≡ toldOf (attribute b t) → b ≡ q
+letter-flag true true t e = refl
+letter-flag true false t e = absurd (omega arith)
+letter-flag false true t e = absurd (omega arith)
+letter-flag false false t e = refl
+
+-- The second entry's outcome, by its questions' answers.
+abbrev owned : Option Schema → Option Ty → (Ty → Option (Bool × Ty)) → Outcome
+owned p o f = ask badSchema p (λ s. ask badFirst o (λ u. maybe nothing (λ y. attribute (y .0) (y .1)) (f u)))
+
+-- It refuses with 2 or 3 alone, so a letter is an attribute's.
+letter-seen : (p : Option Schema) (o : Option Ty) (f : Ty → Option (Bool × Ty)) (q : Bool) → letter q ≡ toldOf (owned p o f) → (y : Ty) × (owned p o f ≡ attribute q y)
+letter-seen none o f q e = no-letter q 2 e (omega arith)
+letter-seen (some s) none f q e = no-letter q 3 e (omega arith)
+letter-seen (some s) (some u) f q e = go (f u) e
+  where
+    go : (x : Option (Bool × Ty)) → letter q ≡ toldOf (maybe nothing (λ y. attribute (y .0) (y .1)) x) → (y : Ty) × (maybe nothing (λ y. attribute (y .0) (y .1)) x ≡ attribute q y)
+    go none h = no-letter q 0 h (omega arith)
+    go (some (b, t)) h = (t, ap (λ (z : Bool). attribute z t) (letter-flag q b t h))
+
+part-finds : (lim : Limits) (schema : List ℕ) (a : ℕ) (t part : List ℕ) (told : ℕ) (q : Bool) → Handed (ownAttributeCall lim schema a t) part told → told ≡ letter q
+    → (y : Ty) × LooksUp lim schema a t q y × (enc y ≡ part)
+part-finds lim schema a t part told q h e =
+    let (y, p) = letter-seen (wholeSchema lim schema) (wholeType lim t) (ownAttr a) q (sym e ∙ h .which) in
+    (y, inr p, sym (h .handed ∙ ap bytesOf p))
+
+module _ (lim : Limits) (schema : List ℕ) (a : ℕ) (t part : List ℕ) (told : ℕ) (h : Handed (ownAttributeCall lim schema a t) part told) where
+  -- Lookup's second entry: a part told as r (114) is the form of a type that is looked up as required,
+  pub part-required : told ≡ 114 → (y : Ty) × LooksUp lim schema a t true y × (enc y ≡ part)
+  part-required e = part-finds lim schema a t part told true h e
+
+  -- and one told as o (111), as optional.
+  pub part-optional : told ≡ 111 → (y : Ty) × LooksUp lim schema a t false y × (enc y ≡ part)
+  part-optional e = part-finds lim schema a t part told false h e
+
+yes-said : (o : Outcome) → answerOf o ≡ Yes → o ≡ said true
+yes-said (refused m) e = apart (cc)
+yes-said (said true) e = refl
+yes-said (said false) e = apart (cc)
+yes-said nothing e = apart (cc)
+yes-said (typed t) e = apart (cc)
+yes-said (attribute p t) e = apart (cc)
+yes-said (named ns) e = apart (cc)
+
+no-said : (o : Outcome) → answerOf o ≡ No → o ≡ said false
+no-said (refused m) e = apart (cc)
+no-said (said true) e = apart (cc)
+no-said (said false) e = refl
+no-said nothing e = apart (cc)
+no-said (typed t) e = apart (cc)
+no-said (attribute p t) e = apart (cc)
+no-said (named ns) e = apart (cc)
+
+-- Disjoint: Yes is its yes.
+pub disjoint-yes : (lim : Limits) (t₀ t₁ : List ℕ) (r : Answer) → r ≡ answerOf (disjointCall lim t₀ t₁) → (r ≡ Yes) ↔ (disjointCall lim t₀ t₁ ≡ said true)
+disjoint-yes lim t₀ t₁ r h = ((λ e. yes-said (disjointCall lim t₀ t₁) (sym h ∙ e)), (λ e. h ∙ ap answerOf e))
+
+-- May-have: No is its no.
+pub may-have-no : (lim : Limits) (schema : List ℕ) (a : ℕ) (t : List ℕ) (r : Answer) → r ≡ answerOf (mayHaveCall lim schema a t) → (r ≡ No) ↔ (mayHaveCall lim schema a t ≡ said false)
+may-have-no lim schema a t r h = ((λ e. no-said (mayHaveCall lim schema a t) (sym h ∙ e)), (λ e. h ∙ ap answerOf e))
+
+-- Conformance: Yes is conforming.
+pub conforms-said : (lim : Limits) (schema t v : List ℕ) (r : Answer) → r ≡ answerOf (conformsCall lim schema t v) → (r ≡ Yes) ↔ Conforms lim shorter schema t v
+conforms-said lim schema t v r h = (
+  (λ e. conformsCall-yes lim schema t v .0 (yes-said (conformsCall lim schema t v) (sym h ∙ e))),
+  (λ c. h ∙ ap answerOf (conformsCall-yes lim schema t v .1 c)),
+)
