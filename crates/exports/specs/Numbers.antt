@@ -6,7 +6,6 @@ use mathlib.Core.Path.{_≡_}
 use lib.ListN.{length, replicate}
 use Rattle.cedar.specs.Outcome.{Outcome, resultAfter}
 use Rattle.validator.specs.Answers.{answerOf}
-use Rattle.validator.specs.Handed.{Within, Stands}
 use Rattle.validator.specs.declared.answers.Answer.{Answer}
 use Rattle.validator.specs.declared.answers.Answer.the-variants.{Refused, Yes, No, Nothing, Wrote, Attribute}
 use Rattle.validator.specs.declared.own_attribute_type.OwnPart.{OwnPart}
@@ -84,10 +83,3 @@ abbrev pub Narrow : OwnPart → Type 0
 Narrow (parts.Refused n) = Unit {0}
 Narrow parts.Nothing = Unit {0}
 Narrow (parts.At s e q) = (s ≤ 4096) × (e ≤ 4096)
-
--- A call that tells a part of the form b: the number of a place within b at which its outcome stands.
-pub record PartNumbered (o : Outcome) (b : List ℕ) (r : ℕ) : Type 0 where
-  pub place : OwnPart
-  pub within : Within b place
-  pub stands : Stands o b place
-  pub number : r ≡ partNumber place

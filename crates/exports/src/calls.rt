@@ -17,9 +17,11 @@ use validator::typecheck_restricted_expr::typecheck_restricted_expr;
 ghost use mathlib.Core.Path.{_≡_};
 ghost use lib.ListN.{length};
 ghost use Rattle.cedar.specs.Limits.{standard};
+ghost use Rattle.cedar.specs.BodyPlace.{bodyIn};
 ghost use Rattle.cedar.specs.Calls.{subtypeCall, boundCall, foldCall, lookupCall, ownAttributeCall, mayHaveCall, namesCall, literalCall, conformsCall, disjointCall, consistentCall, convertCall};
 ghost use Rattle.validator.specs.Answers.{answerOf};
-ghost use Rattle.exports.specs.Numbers.{answerNumber, Numbered, NumberedIn, PartNumbered};
+ghost use Rattle.validator.specs.Handed.{partOf};
+ghost use Rattle.exports.specs.Numbers.{answerNumber, Numbered, NumberedIn, partNumber};
 
 // Whether no entity is of both types.
 #[no_mangle]
@@ -82,9 +84,9 @@ pub extern "C" fn tirncheav_lookup_attribute_type(
 // The attribute of a record or an action, as a part of t.
 #[no_mangle]
 pub extern "C" fn tirncheav_own_attribute_type(schema: &[u8], attr: u16, t: &[u8]) -> u64
-    ensures { λ r. ⌜ PartNumbered (ownAttributeCall standard (now (schema .entry)) attr (now (t .entry))) (now (t .entry)) r ⌝ }
+    ensures { λ r. ⌜ r ≡ partNumber (partOf (ownAttributeCall standard (now (schema .entry)) attr (now (t .entry))) (bodyIn standard attr (now (t .entry)))) ⌝ }
 {
-    part_number(own_attribute_part_checked(check_schema(schema), attr, t))
+    part_number(own_attribute_part_checked(schema, check_schema(schema), attr, t))
 }
 
 // Whether a value of a type might have an attribute.

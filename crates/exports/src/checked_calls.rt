@@ -14,11 +14,13 @@ use validator::typecheck_restricted_expr::typecheck_restricted_expr_checked;
 ghost use mathlib.Core.Path.{_≡_};
 ghost use lib.ListN.{length};
 ghost use Rattle.cedar.specs.Limits.{standard};
+ghost use Rattle.cedar.specs.BodyPlace.{bodyIn};
 ghost use Rattle.cedar.specs.Calls.{subtypeCall, boundCall, foldCall, lookupCall, ownAttributeCall, mayHaveCall, namesCall, literalCall, conformsCall};
 ghost use Rattle.schemas.specs.SchemaBytes.{checked};
 ghost use Rattle.validator.specs.Answers.{answerOf};
+ghost use Rattle.validator.specs.Handed.{partOf};
 ghost use Rattle.exports.specs.Checks.{checkNumber};
-ghost use Rattle.exports.specs.Numbers.{answerNumber, Numbered, NumberedIn, PartNumbered};
+ghost use Rattle.exports.specs.Numbers.{answerNumber, Numbered, NumberedIn, partNumber};
 
 // Whether a type is a subtype of another.
 #[no_mangle]
@@ -32,7 +34,7 @@ pub extern "C" fn tirncheav_is_subtype_checked(
     requires { ⌜ check ≡ checkNumber (checked (now schema)) ⌝ }
     ensures { λ r. ⌜ r ≡ answerNumber (answerOf (subtypeCall standard mode (now (schema .entry)) (now (t0 .entry)) (now (t1 .entry)))) ⌝ }
 {
-    answer_number(is_subtype_checked(check_again(schema, check), mode, t0, t1))
+    answer_number(is_subtype_checked(schema, check_again(schema, check), mode, t0, t1))
 }
 
 // The least upper bound of two types.
@@ -48,7 +50,7 @@ pub extern "C" fn tirncheav_least_upper_bound_checked(
     requires { ⌜ check ≡ checkNumber (checked (now schema)) ⌝ }
     ensures { λ r. ⌜ Numbered (boundCall standard mode (now (schema .entry)) (now (t0 .entry)) (now (t1 .entry)) (length (now (out .entry)))) (now (out .entry)) (now (out .exit)) r ⌝ }
 {
-    answer_number(least_upper_bound_checked(check_again(schema, check), mode, t0, t1, out))
+    answer_number(least_upper_bound_checked(schema, check_again(schema, check), mode, t0, t1, out))
 }
 
 // The least upper bound of a list of types.
@@ -65,6 +67,7 @@ pub extern "C" fn tirncheav_reduce_to_least_upper_bound_checked(
     ensures { λ r. ⌜ NumberedIn (foldCall standard mode (now (schema .entry)) (now (list .entry)) (length (now (out .entry))) (length (now (work .entry)))) (now (out .entry)) (now (out .exit)) (now (work .entry)) (now (work .exit)) r ⌝ }
 {
     answer_number(reduce_to_least_upper_bound_checked(
+        schema,
         check_again(schema, check),
         mode,
         list,
@@ -105,9 +108,9 @@ pub extern "C" fn tirncheav_own_attribute_type_checked(
     t: &[u8],
 ) -> u64
     requires { ⌜ check ≡ checkNumber (checked (now schema)) ⌝ }
-    ensures { λ r. ⌜ PartNumbered (ownAttributeCall standard (now (schema .entry)) attr (now (t .entry))) (now (t .entry)) r ⌝ }
+    ensures { λ r. ⌜ r ≡ partNumber (partOf (ownAttributeCall standard (now (schema .entry)) attr (now (t .entry))) (bodyIn standard attr (now (t .entry)))) ⌝ }
 {
-    part_number(own_attribute_part_checked(check_again(schema, check), attr, t))
+    part_number(own_attribute_part_checked(schema, check_again(schema, check), attr, t))
 }
 
 // Whether a value of a type might have an attribute.

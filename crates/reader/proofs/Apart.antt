@@ -1,7 +1,7 @@
 -- A kept schema, taken apart: what it owns beside R gives what its block and its check own beside R. A function that passes its parts on to a callee cites this, with what the other arguments own for R.
 --     mach         the struct's machine value, of the block's and of the check's
 --     check-typed  the check's machine value has its type
---     apart        both parts.        check-only   the check alone, for a callee that does not read the block
+--     apart        both parts
 -- Assumes `Given`, for the calculus alone.
 use mathlib.Core.Path.{_≡_}
 use mathlib.Core.List.{[], _∷_}
@@ -75,6 +75,3 @@ module _ (κ : Lft) where
             qed W (‵ (fsep Own R) ∷ []) ∵ fsplit ! $ use1 W (given (mach ∷ [] ≡ mach ∷ []) (‵ (all-own (D .parts) L vd))) (own-open 𝓤 H A W D L vd mach) $ learn ! (λ _. fsplit ! $ move ! (1 ∷ []) $ fsplit ! $
             -- [what check owns; true; what block owns; R]
             move ! (0 ∷ 3 ∷ []) $ fjoin ! $ move ! (2 ∷ 0 ∷ []) $ fjoin ! $ keep ! (0 ∷ []) $ done !)
-
-        pub check-only : ent 𝓤 (sem 𝓤 H A (fsep Own R)) (sem 𝓤 H A (fsep Check R))
-        check-only = qed W (‵ (fsep Own R) ∷ []) ∵ use1 W (‵ (fsep Block (fsep Check R))) apart $ fsplit ! $ keep ! (1 ∷ []) $ done !

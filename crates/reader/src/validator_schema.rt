@@ -14,6 +14,7 @@ use validator::typecheck_restricted_expr::typecheck_restricted_expr_checked;
 ghost use mathlib.Core.Path.{_≡_};
 ghost use lib.ListN.{length};
 ghost use Rattle.cedar.specs.Limits.{standard};
+ghost use Rattle.cedar.specs.BodyPlace.{bodyIn};
 ghost use Rattle.cedar.specs.Calls.{subtypeCall, boundCall, foldCall, lookupCall, ownAttributeCall, mayHaveCall, namesCall, conformsCall, literalCall};
 ghost use Rattle.validator.specs.Answers.{answerOf, Answered, AnsweredIn};
 ghost use Rattle.validator.specs.Handed.{Handed};
@@ -39,14 +40,14 @@ impl<'a> ValidatorSchema<'a> {
         requires { ⌜ Sound self ⌝ }
         ensures { λ r. ⌜ r ≡ answerOf (subtypeCall standard mode (now (self .entry .block)) (now (t0 .entry)) (now (t1 .entry))) ⌝ }
     {
-        is_subtype_checked(self.check, mode, t0, t1)
+        is_subtype_checked(self.block, self.check, mode, t0, t1)
     }
 
     pub fn least_upper_bound(self, mode: u8, t0: &[u8], t1: &[u8], out: &mut [u8]) -> Answer
         requires { ⌜ Sound self ⌝ }
         ensures { λ r. ⌜ Answered (boundCall standard mode (now (self .entry .block)) (now (t0 .entry)) (now (t1 .entry)) (length (now (out .entry)))) (now (out .entry)) (now (out .exit)) r ⌝ }
     {
-        least_upper_bound_checked(self.check, mode, t0, t1, out)
+        least_upper_bound_checked(self.block, self.check, mode, t0, t1, out)
     }
 
     pub fn reduce_to_least_upper_bound(
@@ -59,7 +60,7 @@ impl<'a> ValidatorSchema<'a> {
         requires { ⌜ Sound self ⌝ }
         ensures { λ r. ⌜ AnsweredIn (foldCall standard mode (now (self .entry .block)) (now (list .entry)) (length (now (out .entry))) (length (now (work .entry)))) (now (out .entry)) (now (out .exit)) (now (work .entry)) (now (work .exit)) r ⌝ }
     {
-        reduce_to_least_upper_bound_checked(self.check, mode, list, out, work)
+        reduce_to_least_upper_bound_checked(self.block, self.check, mode, list, out, work)
     }
 
     pub fn lookup_attribute_type(
@@ -77,9 +78,9 @@ impl<'a> ValidatorSchema<'a> {
 
     pub fn own_attribute_type<'b>(self, attr: u16, t: &'b [u8], told: &mut u8) -> &'b [u8]
         requires { ⌜ Sound self ⌝ }
-        ensures { λ r. ⌜ Handed (ownAttributeCall standard (now (self .entry .block)) attr (now (t .entry))) (now r) (now (told .exit)) ⌝ }
+        ensures { λ r. ⌜ Handed (ownAttributeCall standard (now (self .entry .block)) attr (now (t .entry))) (bodyIn standard attr (now (t .entry))) (t .entry) r (now (told .exit)) ⌝ }
     {
-        own_attribute_type_checked(self.check, attr, t, told)
+        own_attribute_type_checked(self.block, self.check, attr, t, told)
     }
 
     pub fn may_have_attr(self, attr: u16, t: &[u8]) -> Answer

@@ -4,6 +4,7 @@ use crate::calls::Form;
 use crate::print::print_left;
 use crate::print::print_part;
 use jobs::Operation;
+use schemas::whole::check_schema;
 use validator::all_attributes::all_attributes;
 use validator::answers::Answer;
 use validator::are_types_disjoint::are_types_disjoint;
@@ -14,6 +15,7 @@ use validator::is_subtype::is_subtype;
 use validator::least_upper_bound::least_upper_bound;
 use validator::lookup_attribute_type::lookup_attribute_type;
 use validator::may_have_attr::may_have_attr;
+use validator::own_attribute_type::own_attribute_part_checked;
 use validator::own_attribute_type::own_attribute_type;
 use validator::reduce_to_least_upper_bound::reduce_to_least_upper_bound;
 use validator::typecheck_restricted_expr::typecheck_restricted_expr;
@@ -74,7 +76,8 @@ fn print_lent(
 fn print_own(schema: &[u8], attribute: u16, form: &[u8]) {
     let mut told = Calls::UNTOUCHED;
     let part = own_attribute_type(schema, attribute, form, &mut told);
-    print_part(told, part);
+    let place = own_attribute_part_checked(schema, check_schema(schema), attribute, form);
+    print_part(told, place, part);
 }
 
 // A buffer before a call.

@@ -1,6 +1,8 @@
-// The line of a call: refusal or 0, answer, and between brackets the bytes of its result buffer and of its workspace.
+// The line of a call: refusal or 0, answer, and between brackets the bytes of its result buffer and of its workspace; of the second entry
+// of lookup, where the part stands and its bytes.
 use streams::write_output;
 use validator::answers::Answer;
+use validator::own_attribute_type::OwnPart;
 use validator::own_attribute_type::Told;
 
 // Prints a number.
@@ -34,7 +36,7 @@ fn print_refusal(n: u8) {
     write_output(b" -");
 }
 
-// Prints an answer of so many bytes.
+// Prints a word and a number.
 fn print_wrote(word: &[u8], n: usize) {
     write_output(word);
     print_number(n);
@@ -75,14 +77,23 @@ pub fn print_left(answer: Answer, result: &[u8], work: &[u8]) {
     write_output(b"\n");
 }
 
-// Prints what the second entry of lookup told, and the part that it handed back.
-pub fn print_part(told: u8, part: &[u8]) {
+// Prints where a part starts and ends.
+fn print_place(word: &[u8], place: OwnPart) {
+    let OwnPart::At(start, end, _) = place else {
+        return;
+    };
+    print_wrote(word, start);
+    print_wrote(b"..", end);
+}
+
+// Prints what the second entry of lookup told, where the part stands, and the part that it handed back.
+pub fn print_part(told: u8, place: OwnPart, part: &[u8]) {
     match told {
         Told::NOTHING => {
             write_output(b"0 none");
         }
-        Told::REQUIRED => print_wrote(b"0 r:", part.len()),
-        Told::OPTIONAL => print_wrote(b"0 o:", part.len()),
+        Told::REQUIRED => print_place(b"0 r:", place),
+        Told::OPTIONAL => print_place(b"0 o:", place),
         n => print_refusal(n),
     }
     print_bytes(part);

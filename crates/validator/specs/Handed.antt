@@ -1,27 +1,30 @@
 -- What the entry that hands back a part says. Assumes nothing: these are definitions.
-use Prim.Native.Nat.{ℕ, _≤_}
+use Prim.Native.Nat.{ℕ, _+_}
 use mathlib.Core.List.{List}
 use mathlib.Core.Bool.{true, false}
+use mathlib.Core.Option.{Option}
 use mathlib.Core.Path.{_≡_}
-use lib.ListN.{length}
-use Rattle.cedar.specs.Types.{Ty}
-use Rattle.cedar.specs.TypeForm.{enc}
+use denote.Ref.{RefT, ptr, now}
+use Rattle.cedar.specs.Types.{maybe}
 use Rattle.cedar.specs.Outcome.{Outcome, refused, said, nothing, typed, attribute, named, bytesOf}
 use Rattle.forms.specs.Parts.{part}
 use Rattle.validator.specs.declared.own_attribute_type.OwnPart.{OwnPart}
 use Rattle.validator.specs.declared.own_attribute_type.OwnPart.the-variants.{Refused, Nothing, At}
 
--- The place lies within the form, and the form within its limit.
-abbrev pub Within : List ℕ → OwnPart → Type 0
-Within b (Refused n) = Unit {0}
-Within b Nothing = Unit {0}
-Within b (At s e q) = (s ≤ e) × (e ≤ length b) × (length b ≤ 4096)
+-- Where the part stands, by what the call comes to and the place of the attribute's body: a refusal, none, or start, end and flag.
+abbrev pub partOf : Outcome → Option (ℕ × ℕ) → OwnPart
+partOf (refused n) place = Refused n
+partOf (said b) place = Nothing
+partOf nothing place = Nothing
+partOf (typed t) place = Nothing
+partOf (attribute q t) place = maybe Nothing (λ p. At (p .0) (p .1) q) place
+partOf (named ns) place = Nothing
 
--- What a call comes to, by the place: the refusal; none; an attribute, with its flag, whose type is what stands there.
-abbrev pub Stands : Outcome → List ℕ → OwnPart → Type 0
-Stands o b (Refused n) = o ≡ refused n
-Stands o b Nothing = o ≡ nothing
-Stands o b (At s e q) = (t : Ty) × (o ≡ attribute q t) × (part s e b ≡ enc t)
+-- Its start and end; for none or a refusal, the empty part before the form's first byte.
+abbrev pub spanOf : OwnPart → ℕ × ℕ
+spanOf (Refused n) = (0, 0)
+spanOf Nothing = (0, 0)
+spanOf (At s e q) = (s, e)
 
 -- The byte beside the part: a refusal's number; 0 for none; the letters of a line, r (114) for required and o (111) for optional.
 abbrev pub toldOf : Outcome → ℕ
@@ -33,7 +36,14 @@ toldOf (attribute true t) = 114
 toldOf (attribute false t) = 111
 toldOf (named ns) = 0
 
--- The part is the answer's bytes, none at all for none or a refusal, and the byte beside it says which.
-pub record Handed (o : Outcome) (part : List ℕ) (told : ℕ) : Type 0 where
-  pub handed : part ≡ bytesOf o
+-- The slice r is the part of the slice t from start to end: it points there, and these are its bytes.
+pub record IsPart (span : ℕ × ℕ) (t r : RefT (List ℕ)) : Type 0 where
+  pub block : ptr r .0 ≡ ptr t .0
+  pub offset : ptr r .1 ≡ ptr t .1 + span .0
+  pub bytes : now r ≡ part (span .0) (span .1) (now t)
+
+-- What is handed back of t: the answer's bytes, none at all for none or a refusal, where they stand in t; the byte beside it says which.
+pub record Handed (o : Outcome) (place : Option (ℕ × ℕ)) (t r : RefT (List ℕ)) (told : ℕ) : Type 0 where
+  pub handed : now r ≡ bytesOf o
+  pub stands : IsPart (spanOf (partOf o place)) t r
   pub which : told ≡ toldOf o

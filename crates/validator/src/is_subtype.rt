@@ -7,17 +7,16 @@ use forms::types::whole_type;
 use relations::modes::is_mode;
 use schemas::whole::Checked;
 use schemas::whole::check_schema;
-ghost use mathlib.Core.List.{List};
 ghost use mathlib.Core.Path.{_≡_};
-ghost use Prim.Native.Nat.{ℕ};
 ghost use Rattle.cedar.specs.Limits.{standard};
 ghost use Rattle.cedar.specs.Calls.{subtypeCall};
 ghost use Rattle.schemas.specs.SchemaBytes.{checked};
 ghost use Rattle.validator.specs.Answers.{answerOf};
 
-// The answer under any schema that was checked before, with this outcome.
-pub fn is_subtype_checked(check: Checked, mode: u8, t0: &[u8], t1: &[u8]) -> Answer
-    ensures { λ r. ⌜ ((schema : List ℕ) → check ≡ checked schema → r ≡ answerOf (subtypeCall standard mode schema (now (t0 .entry)) (now (t1 .entry)))) ⌝ }
+// The answer under a schema that was checked before.
+pub fn is_subtype_checked(schema: &[u8], check: Checked, mode: u8, t0: &[u8], t1: &[u8]) -> Answer
+    requires { ⌜ check ≡ checked (now schema) ⌝ }
+    ensures { λ r. ⌜ r ≡ answerOf (subtypeCall standard mode (now (schema .entry)) (now (t0 .entry)) (now (t1 .entry))) ⌝ }
 {
     if !is_mode(mode) {
         return Answer::Refused(Refusal::MODE);
@@ -37,5 +36,5 @@ pub fn is_subtype_checked(check: Checked, mode: u8, t0: &[u8], t1: &[u8]) -> Ans
 pub fn is_subtype(mode: u8, schema: &[u8], t0: &[u8], t1: &[u8]) -> Answer
     ensures { λ r. ⌜ r ≡ answerOf (subtypeCall standard mode (now (schema .entry)) (now (t0 .entry)) (now (t1 .entry))) ⌝ }
 {
-    is_subtype_checked(check_schema(schema), mode, t0, t1)
+    is_subtype_checked(schema, check_schema(schema), mode, t0, t1)
 }

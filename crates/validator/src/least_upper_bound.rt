@@ -10,24 +10,24 @@ use lengths::extents::Extent;
 use relations::modes::is_mode;
 use schemas::whole::Checked;
 use schemas::whole::check_schema;
-ghost use mathlib.Core.List.{List};
 ghost use mathlib.Core.Path.{_≡_};
-ghost use Prim.Native.Nat.{ℕ};
 ghost use lib.ListN.{length};
 ghost use Rattle.cedar.specs.Limits.{standard};
 ghost use Rattle.cedar.specs.Calls.{boundCall};
 ghost use Rattle.schemas.specs.SchemaBytes.{checked};
 ghost use Rattle.validator.specs.Answers.{Answered};
 
-// The answer under any schema that was checked before, with this outcome.
+// The answer under a schema that was checked before.
 pub fn least_upper_bound_checked(
+    schema: &[u8],
     check: Checked,
     mode: u8,
     t0: &[u8],
     t1: &[u8],
     out: &mut [u8],
 ) -> Answer
-    ensures { λ r. ⌜ ((schema : List ℕ) → check ≡ checked schema → Answered (boundCall standard mode schema (now (t0 .entry)) (now (t1 .entry)) (length (now (out .entry)))) (now (out .entry)) (now (out .exit)) r) ⌝ }
+    requires { ⌜ check ≡ checked (now schema) ⌝ }
+    ensures { λ r. ⌜ Answered (boundCall standard mode (now (schema .entry)) (now (t0 .entry)) (now (t1 .entry)) (length (now (out .entry)))) (now (out .entry)) (now (out .exit)) r ⌝ }
 {
     if !is_mode(mode) {
         return Answer::Refused(Refusal::MODE);
@@ -56,5 +56,5 @@ pub fn least_upper_bound_checked(
 pub fn least_upper_bound(mode: u8, schema: &[u8], t0: &[u8], t1: &[u8], out: &mut [u8]) -> Answer
     ensures { λ r. ⌜ Answered (boundCall standard mode (now (schema .entry)) (now (t0 .entry)) (now (t1 .entry)) (length (now (out .entry)))) (now (out .entry)) (now (out .exit)) r ⌝ }
 {
-    least_upper_bound_checked(check_schema(schema), mode, t0, t1, out)
+    least_upper_bound_checked(schema, check_schema(schema), mode, t0, t1, out)
 }

@@ -6,13 +6,12 @@ use forms::refusals::Refusal;
 use forms::types::whole_type;
 use schemas::whole::Checked;
 use schemas::whole::check_schema;
-ghost use mathlib.Core.List.{List};
 ghost use mathlib.Core.Path.{_≡_};
-ghost use Prim.Native.Nat.{ℕ};
 ghost use Rattle.cedar.specs.Limits.{standard};
+ghost use Rattle.cedar.specs.BodyPlace.{bodyIn};
 ghost use Rattle.cedar.specs.Calls.{ownAttributeCall};
 ghost use Rattle.schemas.specs.SchemaBytes.{checked};
-ghost use Rattle.validator.specs.Handed.{Within, Stands, Handed};
+ghost use Rattle.validator.specs.Handed.{partOf, Handed};
 
 // What the entry says beside the part, where it is no refusal's number.
 pub struct Told;
@@ -32,9 +31,10 @@ pub enum OwnPart {
     At(usize, usize, bool),
 }
 
-// The place under any schema that was checked before, with this outcome.
-pub fn own_attribute_part_checked(check: Checked, attr: u16, t: &[u8]) -> OwnPart
-    ensures { λ r. ⌜ Within (now (t .entry)) r × ((schema : List ℕ) → check ≡ checked schema → Stands (ownAttributeCall standard schema attr (now (t .entry))) (now (t .entry)) r) ⌝ }
+// The place under a schema that was checked before.
+pub fn own_attribute_part_checked(schema: &[u8], check: Checked, attr: u16, t: &[u8]) -> OwnPart
+    requires { ⌜ check ≡ checked (now schema) ⌝ }
+    ensures { λ r. ⌜ r ≡ partOf (ownAttributeCall standard (now (schema .entry)) attr (now (t .entry))) (bodyIn standard attr (now (t .entry))) ⌝ }
 {
     let Checked::Whole(_) = check else {
         return OwnPart::Refused(Refusal::SCHEMA);
@@ -48,16 +48,18 @@ pub fn own_attribute_part_checked(check: Checked, attr: u16, t: &[u8]) -> OwnPar
     OwnPart::At(start, end, required)
 }
 
-// The answer under any schema that was checked before, with this outcome.
+// The answer under a schema that was checked before.
 pub fn own_attribute_type_checked<'a>(
+    schema: &[u8],
     check: Checked,
     attr: u16,
     t: &'a [u8],
     told: &mut u8,
 ) -> &'a [u8]
-    ensures { λ r. ⌜ ((schema : List ℕ) → check ≡ checked schema → Handed (ownAttributeCall standard schema attr (now (t .entry))) (now r) (now (told .exit))) ⌝ }
+    requires { ⌜ check ≡ checked (now schema) ⌝ }
+    ensures { λ r. ⌜ Handed (ownAttributeCall standard (now (schema .entry)) attr (now (t .entry))) (bodyIn standard attr (now (t .entry))) (t .entry) r (now (told .exit)) ⌝ }
 {
-    match own_attribute_part_checked(check, attr, t) {
+    match own_attribute_part_checked(schema, check, attr, t) {
         OwnPart::Refused(e) => {
             *told = e;
             &t[..0]
@@ -79,7 +81,7 @@ pub fn own_attribute_type_checked<'a>(
 
 // The attribute's type, as a part of t: empty for none or a refusal. `told` is the refusal's number, none, optional or required.
 pub fn own_attribute_type<'a>(schema: &[u8], attr: u16, t: &'a [u8], told: &mut u8) -> &'a [u8]
-    ensures { λ r. ⌜ Handed (ownAttributeCall standard (now (schema .entry)) attr (now (t .entry))) (now r) (now (told .exit)) ⌝ }
+    ensures { λ r. ⌜ Handed (ownAttributeCall standard (now (schema .entry)) attr (now (t .entry))) (bodyIn standard attr (now (t .entry))) (t .entry) r (now (told .exit)) ⌝ }
 {
-    own_attribute_type_checked(check_schema(schema), attr, t, told)
+    own_attribute_type_checked(schema, check_schema(schema), attr, t, told)
 }

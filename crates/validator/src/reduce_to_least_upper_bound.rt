@@ -11,18 +11,24 @@ use forms::refusals::Refusal;
 use relations::modes::is_mode;
 use schemas::whole::Checked;
 use schemas::whole::check_schema;
-ghost use mathlib.Core.List.{List};
 ghost use mathlib.Core.Path.{_≡_};
-ghost use Prim.Native.Nat.{ℕ};
 ghost use lib.ListN.{length};
 ghost use Rattle.cedar.specs.Limits.{standard};
 ghost use Rattle.cedar.specs.Calls.{foldCall};
 ghost use Rattle.schemas.specs.SchemaBytes.{checked};
 ghost use Rattle.validator.specs.Answers.{Answered, AnsweredIn};
 
-// The answer under any schema that was checked before, with this outcome; the workspace as the steps left it.
-fn reduced(check: Checked, mode: u8, list: &[u8], out: &mut [u8], work: &mut [u8]) -> Answer
-    ensures { λ r. ⌜ ((schema : List ℕ) → check ≡ checked schema → Answered (foldCall standard mode schema (now (list .entry)) (length (now (out .entry))) (length (now (work .entry)))) (now (out .entry)) (now (out .exit)) r) ⌝ }
+// The answer, with the workspace as the steps left it.
+fn reduced(
+    schema: &[u8],
+    check: Checked,
+    mode: u8,
+    list: &[u8],
+    out: &mut [u8],
+    work: &mut [u8],
+) -> Answer
+    requires { ⌜ check ≡ checked (now schema) ⌝ }
+    ensures { λ r. ⌜ Answered (foldCall standard mode (now (schema .entry)) (now (list .entry)) (length (now (out .entry))) (length (now (work .entry)))) (now (out .entry)) (now (out .exit)) r ⌝ }
 {
     if !is_mode(mode) {
         return Answer::Refused(Refusal::MODE);
@@ -46,17 +52,19 @@ fn reduced(check: Checked, mode: u8, list: &[u8], out: &mut [u8], work: &mut [u8
     }
 }
 
-// The answer under any schema that was checked before, with this outcome.
+// The answer under a schema that was checked before.
 pub fn reduce_to_least_upper_bound_checked(
+    schema: &[u8],
     check: Checked,
     mode: u8,
     list: &[u8],
     out: &mut [u8],
     work: &mut [u8],
 ) -> Answer
-    ensures { λ r. ⌜ ((schema : List ℕ) → check ≡ checked schema → AnsweredIn (foldCall standard mode schema (now (list .entry)) (length (now (out .entry))) (length (now (work .entry)))) (now (out .entry)) (now (out .exit)) (now (work .entry)) (now (work .exit)) r) ⌝ }
+    requires { ⌜ check ≡ checked (now schema) ⌝ }
+    ensures { λ r. ⌜ AnsweredIn (foldCall standard mode (now (schema .entry)) (now (list .entry)) (length (now (out .entry))) (length (now (work .entry)))) (now (out .entry)) (now (out .exit)) (now (work .entry)) (now (work .exit)) r ⌝ }
 {
-    let answer = reduced(check, mode, list, out, work);
+    let answer = reduced(schema, check, mode, list, out, work);
     clear(work);
     answer
 }
@@ -70,5 +78,5 @@ pub fn reduce_to_least_upper_bound(
 ) -> Answer
     ensures { λ r. ⌜ AnsweredIn (foldCall standard mode (now (schema .entry)) (now (list .entry)) (length (now (out .entry))) (length (now (work .entry)))) (now (out .entry)) (now (out .exit)) (now (work .entry)) (now (work .exit)) r ⌝ }
 {
-    reduce_to_least_upper_bound_checked(check_schema(schema), mode, list, out, work)
+    reduce_to_least_upper_bound_checked(schema, check_schema(schema), mode, list, out, work)
 }

@@ -4,14 +4,20 @@ use native.Mathlib.Omega.{arith}
 use mathlib.Core.List.{List}
 use mathlib.Core.Bool.{Bool, true, false}
 use mathlib.Core.Path.{_≡_, refl, ap, sym, subst, _∙_}
+use lib.ListN.{getD}
+use denote.Ref.{RefT, now}
 use Rattle.cedar.specs.Outcome.{Outcome}
+use Rattle.cedar.specs.Limits.{standard}
+use Rattle.cedar.specs.BodyPlace.{bodyIn}
+use Rattle.cedar.specs.Calls.{ownAttributeCall}
 use Rattle.validator.specs.declared.answers.Answer.{Answer}
 use Rattle.validator.specs.declared.answers.Answer.the-variants.{Refused, Yes, No, Nothing, Wrote, Attribute}
 use Rattle.validator.specs.Answers.{Answered, AnsweredIn}
-use Rattle.validator.specs.Handed.{Within, Stands}
+use Rattle.validator.specs.Handed.{partOf}
+use Rattle.validator.specs.Laws.Handed.{here-found}
 use Rattle.validator.specs.declared.own_attribute_type.OwnPart.{OwnPart}
 use Rattle.validator.specs.declared.own_attribute_type.OwnPart.the-variants as places
-use Rattle.exports.specs.Numbers.{answerNumber, answerWith, readAnswer, Brief, Numbered, NumberedIn, partNumber, partWith, readPart, Narrow, PartNumbered}
+use Rattle.exports.specs.Numbers.{answerNumber, answerWith, readAnswer, Brief, Numbered, NumberedIn, partNumber, partWith, readPart, Narrow}
 
 -- A kind, and what stands above it.
 parts : (k n : ℕ) → k < 256 → readAnswer (k + 256 * n) ≡ answerWith k n
@@ -89,10 +95,13 @@ pub one-part : (p q : OwnPart) → Narrow p → Narrow q → partNumber p ≡ pa
 one-part p q hp hq e = sym (reads-part p hp) ∙ ap readPart e ∙ reads-part q hq
 
 -- A place within a whole form.
-pub narrow : (b : List ℕ) (p : OwnPart) → Within b p → Narrow p
-narrow b (places.Refused n) h = tt
-narrow b places.Nothing h = tt
-narrow b (places.At s e q) h = (omega (arith, h .0, h .1, h .2), omega (arith, h .1, h .2))
+pub narrow : (schema : List ℕ) (a : ℕ) (t : RefT (List ℕ)) → ((i : ℕ) → getD (now t) i 0 < 256) → (p : OwnPart) → p ≡ partOf (ownAttributeCall standard schema a (now t)) (bodyIn standard a (now t)) → Narrow p
+narrow schema a t known p e = go p refl
+  where
+    go : (x : OwnPart) → p ≡ x → Narrow x
+    go (places.Refused n) i = tt
+    go places.Nothing i = tt
+    go (places.At s z q) i = let f = here-found schema a t known p e s z q i in (omega (arith, f .order, f .inside, f .few), omega (arith, f .inside, f .few))
 
 pub at-narrow : (p : OwnPart) (s e : ℕ) (q : Bool) → Narrow p → p ≡ places.At s e q → (s ≤ 4096) × (e ≤ 4096)
 at-narrow p s e q h at = subst Narrow at h
@@ -106,7 +115,3 @@ part-required-number p s e q at h = sym (ap partNumber (at ∙ ap (places.At s e
 
 pub part-optional-number : (p : OwnPart) (s e : ℕ) (q : Bool) → p ≡ places.At s e q → q ≡ false → 7 + 256 * (s + 65536 * e) ≡ partNumber p
 part-optional-number p s e q at h = sym (ap partNumber (at ∙ ap (places.At s e) h))
-
--- The number of where an outcome stands.
-pub part-numbered : {o : Outcome} (b : List ℕ) (p : OwnPart) (r : ℕ) → Within b p → Stands o b p → r ≡ partNumber p → PartNumbered o b r
-part-numbered b p r w s e = record { place = p; within = w; stands = s; number = e }

@@ -1,63 +1,177 @@
 -- The outcome of the entry that hands back a part, by its cases. Assumes nothing.
-use Prim.Native.Nat.{ℕ, _≤_, _<_}
+use Prim.Native.Nat.{ℕ, _+_, _≤_, _<_}
+use native.Mathlib.Omega.{arith}
 use mathlib.Core.List.{List, []}
 use mathlib.Core.Bool.{Bool, true, false}
-use mathlib.Core.Option.{none, some}
-use mathlib.Core.Path.{_≡_, refl, ap, sym, subst}
+use mathlib.Core.Option.{Option, none, some}
+use mathlib.Core.Path.{_≡_, refl, ap, sym, subst, _∙_}
 use lib.ListN.{length, getD}
+use denote.Ref.{RefT, ptr, now}
 use Rattle.cedar.specs.Types.{Ty, Schema}
+use Rattle.cedar.specs.Bytes.{Bytes}
+use Rattle.cedar.specs.TypeForm.{enc}
 use Rattle.cedar.specs.Limits.{standard}
 use Rattle.cedar.specs.Whole.{wholeType, wholeSchema}
-use Rattle.cedar.specs.Outcome.{Outcome, refused, nothing, attribute}
+use Rattle.cedar.specs.Outcome.{Outcome, refused, nothing, attribute, bytesOf}
 use Rattle.cedar.specs.Attribute.{ownAttr}
+use Rattle.cedar.specs.BodyPlace.{bodyPlace, bodyIn}
 use Rattle.cedar.specs.Calls.{ownAttributeCall}
+use Rattle.cedar.specs.Laws.Whole.{wholeType-reads}
+use Rattle.cedar.specs.Laws.BodyPlace.{Stands, body-in-stands}
 use Rattle.forms.specs.Parts.{part}
-use Rattle.forms.specs.TypeBytes.{whole, dec}
-use Rattle.forms.specs.Laws.Bytes.{Bytes-index, Bytes-part, enc-dec}
-use Rattle.validator.specs.Handed.{Within, Stands, toldOf, Handed}
+use Rattle.forms.specs.Laws.Bytes.{Bytes-index}
+use Rattle.attributes.specs.declared.own_attribute.Place.{Place}
+use Rattle.attributes.specs.declared.own_attribute.Place.the-variants as places
+use Rattle.attributes.specs.Place.{spanOf as placeSpan}
+use Rattle.validator.specs.Handed.{partOf, spanOf, toldOf, IsPart, Handed}
 use Rattle.validator.specs.declared.own_attribute_type.OwnPart.{OwnPart}
 use Rattle.validator.specs.declared.own_attribute_type.OwnPart.the-variants.{Refused, Nothing, At}
 
--- The schema is not whole: 2.
-pub stands-no-schema : (schema : List ℕ) (a : ℕ) (b : List ℕ) → wholeSchema standard schema ≡ none → ownAttributeCall standard schema a b ≡ refused 2
-stands-no-schema schema a b e = rw e refl
+-- The part, question by question.
+module _ (schema : List ℕ) (a : ℕ) (b : List ℕ) where
+  abbrev pub partHere : OwnPart
+  partHere = partOf (ownAttributeCall standard schema a b) (bodyIn standard a b)
 
-module _ (schema : List ℕ) (w : Schema) (f : wholeSchema standard schema ≡ some w) (a : ℕ) (b : List ℕ) where
-  -- The type is not whole: 3.
-  pub stands-no-type : wholeType standard b ≡ none → ownAttributeCall standard schema a b ≡ refused 3
-  stands-no-type e = rw (f, e) refl
+  -- The schema is not whole: 2.
+  pub part-no-schema : wholeSchema standard schema ≡ none → Refused 2 ≡ partHere
+  part-no-schema e = rw e refl
 
-  -- There is no such attribute.
-  pub stands-nothing : (u : Ty) → wholeType standard b ≡ some u → ownAttr a u ≡ none → ownAttributeCall standard schema a b ≡ nothing
-  stands-nothing u e q = rw (f, e, q) refl
+  module _ (w : Schema) (f : wholeSchema standard schema ≡ some w) where
+    -- The type is not whole: 3.
+    pub part-no-type : wholeType standard b ≡ none → Refused 3 ≡ partHere
+    part-no-type e = rw (f, e) refl
 
-  -- The attribute found at s to e, with its flag.
-  pub stands-at : ((i : ℕ) → getD b i 0 < 256) → wholeType standard b ≡ some (dec 16 b) → (s e : ℕ) (q : Bool)
-      → (s ≤ e) × (e ≤ length b) × (whole 15 (part s e b) ≡ true) × (ownAttr a (dec 16 b) ≡ some (q, dec 15 (part s e b)))
-      → Stands (ownAttributeCall standard schema a b) b (At s e q)
-  stands-at known h s e q at = (dec 15 (part s e b), rw (f, h, at .3) refl, sym (enc-dec 15 (part s e b) (Bytes-part s e b (Bytes-index b known)) (at .2)))
+    module _ (u : Ty) (e : wholeType standard b ≡ some u) where
+      -- There is no such attribute.
+      pub part-nothing : ownAttr a u ≡ none → Nothing ≡ partHere
+      part-nothing o = rw (f, e, o) refl
 
--- What is handed back, by the place.
-module _ (o : Outcome) (b : List ℕ) (r : OwnPart) (h : Stands o b r) where
-  pub handed-refused : (n : ℕ) → r ≡ Refused n → Handed o [] n
-  handed-refused n e = let z : o ≡ refused n = subst (Stands o b) e h in rw z (record { handed = refl; which = refl })
+      -- The attribute found from s to z, with its flag.
+      pub part-at : (q : Bool) (y : Ty) → ownAttr a u ≡ some (q, y) → (r : Place) (s z : ℕ) → r ≡ places.At s z q → placeSpan r ≡ bodyPlace a u → At s z q ≡ partHere
+      part-at q y o r s z at p = let here : bodyPlace a u ≡ some (s, z) = sym p ∙ ap placeSpan at in rw (f, e, o, here) refl
 
-  pub handed-nothing : r ≡ Nothing → Handed o [] 0
-  handed-nothing e = let z : o ≡ nothing = subst (Stands o b) e h in rw z (record { handed = refl; which = refl })
+-- What the call comes to on bytes: a refusal; none; an attribute, whose type's form stands at its place.
+pub data Comes (b : List ℕ) (o : Outcome) (place : Option (ℕ × ℕ)) : Type 0 where
+  refuses : (n : ℕ) → o ≡ refused n → Comes b o place
+  lacks : o ≡ nothing → Comes b o place
+  has : (q : Bool) (y : Ty) → o ≡ attribute q y → Stands b place (enc y) → length b ≤ 4096 → Comes b o place
 
-  module _ (s e : ℕ) (q : Bool) (at : r ≡ At s e q) where
-    stood : Stands o b (At s e q)
-    stood = subst (Stands o b) at h
+pub comes : (schema : List ℕ) (a : ℕ) (b : List ℕ) → Bytes b → Comes b (ownAttributeCall standard schema a b) (bodyIn standard a b)
+comes schema a b h = go (wholeSchema standard schema) refl (wholeType standard b) refl
+  where
+    own : (w : Schema) → wholeSchema standard schema ≡ some w → (u : Ty) → wholeType standard b ≡ some u → (y : Option (Bool × Ty)) → ownAttr a u ≡ y
+        → Comes b (ownAttributeCall standard schema a b) (bodyIn standard a b)
+    own w e u f none g = lacks (rw (e, f, g) refl)
+    own w e u f (some y) g =
+        let r = (wholeType-reads standard) .into b u h f in
+        has (y .0) (y .1) (rw (e, f, g) refl) (body-in-stands standard a b u f h y g) (subst (λ (l : List ℕ). length l ≤ 4096) (r .0) (r .1 .1))
 
-    told : (n : ℕ) → n ≡ toldOf (attribute q (stood .0)) → Handed o (part s e b) n
-    told n m = rw (stood .1) (record { handed = stood .2; which = m })
+    go : (x : Option Schema) → wholeSchema standard schema ≡ x → (t : Option Ty) → wholeType standard b ≡ t → Comes b (ownAttributeCall standard schema a b) (bodyIn standard a b)
+    go none e t f = refuses 2 (rw e refl)
+    go (some w) e none f = refuses 3 (rw (e, f) refl)
+    go (some w) e (some u) f = own w e u f (ownAttr a u) refl
 
-    pub handed-required : q ≡ true → Handed o (part s e b) 114
-    handed-required y = told 114 (ap (λ (z : Bool). toldOf (attribute z (stood .0))) (sym y))
+-- An attribute with its flag, and the form b from s to z.
+pub record Found (b : List ℕ) (o : Outcome) (s z : ℕ) (q : Bool) : Type 0 where
+  pub type : Ty
+  pub is : o ≡ attribute q type
+  pub order : s ≤ z
+  pub inside : z ≤ length b
+  pub few : length b ≤ 4096
+  pub bytes : part s z b ≡ enc type
 
-    pub handed-optional : q ≡ false → Handed o (part s e b) 111
-    handed-optional y = told 111 (ap (λ (z : Bool). toldOf (attribute z (stood .0))) (sym y))
+-- What is handed back, by the part.
+module _ (t : RefT (List ℕ)) (o : Outcome) (place : Option (ℕ × ℕ)) (c : Comes (now t) o place) (p : OwnPart) (e : p ≡ partOf o place) where
+  refused-as : (n : ℕ) → o ≡ refused n → p ≡ Refused n
+  refused-as n i = e ∙ ap (λ (z : Outcome). partOf z place) i
 
--- The place lies within the form.
-pub within-at : (b : List ℕ) (r : OwnPart) (s e : ℕ) (q : Bool) → r ≡ At s e q → Within b r → (s ≤ e) × (e ≤ length b) × (length b ≤ 4096)
-within-at b r s e q at h = subst (Within b) at h
+  nothing-as : o ≡ nothing → p ≡ Nothing
+  nothing-as i = e ∙ ap (λ (z : Outcome). partOf z place) i
+
+  at-as : (q : Bool) (y : Ty) → o ≡ attribute q y → (s : Stands (now t) place (enc y)) → p ≡ At (s .start) (s .end) q
+  at-as q y i s = e ∙ ap (λ (z : Outcome). partOf z place) i ∙ ap (λ (z : Option (ℕ × ℕ)). partOf (attribute q y) z) (s .is)
+
+  -- The empty part before the first byte.
+  front : {r : RefT (List ℕ)} → ptr r ≡ ptr t → now r ≡ [] → (x : OwnPart) → spanOf x ≡ (0, 0) → IsPart (spanOf x) t r
+  front {r} i j x z = subst (λ (s : ℕ × ℕ). IsPart s t r) (sym z) record { block = ap (λ (k : ℕ × ℕ). k .0) i; offset = ap (λ (k : ℕ × ℕ). k .1) i ∙ omega arith; bytes = j }
+
+  clash : {A : Type 0} {x y : OwnPart} → p ≡ x → p ≡ y → (x ≡ y → A) → A
+  clash i j f = f (sym i ∙ j)
+
+  handed-refused : (n : ℕ) → p ≡ Refused n → (r : RefT (List ℕ)) → ptr r ≡ ptr t → now r ≡ [] → Handed o place t r n
+  handed-refused n q r i j = go c
+    where
+      go : Comes (now t) o place → Handed o place t r n
+      go (refuses m k) = clash (refused-as m k) q λ z.
+          let same : m ≡ n = cc in
+          record { handed = j ∙ sym (ap bytesOf k); stands = front i j (partOf o place) (ap spanOf (sym e ∙ q)); which = sym same ∙ sym (ap toldOf k) }
+      go (lacks k) = clash (nothing-as k) q λ z. absurd (let y : _≡_ {A = ℕ} 0 1 = cc in omega arith)
+      go (has b y k s l) = clash (at-as b y k s) q λ z. absurd (let y : _≡_ {A = ℕ} 0 1 = cc in omega arith)
+
+  handed-nothing : p ≡ Nothing → (r : RefT (List ℕ)) → ptr r ≡ ptr t → now r ≡ [] → Handed o place t r 0
+  handed-nothing q r i j = go c
+    where
+      go : Comes (now t) o place → Handed o place t r 0
+      go (refuses m k) = clash (refused-as m k) q λ z. absurd (let y : _≡_ {A = ℕ} 0 1 = cc in omega arith)
+      go (lacks k) = record { handed = j ∙ sym (ap bytesOf k); stands = front i j (partOf o place) (ap spanOf (sym e ∙ q)); which = sym (ap toldOf k) }
+      go (has b y k s l) = clash (at-as b y k s) q λ z. absurd (let y : _≡_ {A = ℕ} 0 1 = cc in omega arith)
+
+  -- From s to z, with the flag q.
+  module _ (s z : ℕ) (q : Bool) (at : p ≡ At s z q) where
+    found : Found (now t) o s z q
+    found = go c
+      where
+        go : Comes (now t) o place → Found (now t) o s z q
+        go (refuses m k) = clash (refused-as m k) at λ i. absurd (let y : _≡_ {A = ℕ} 0 1 = cc in omega arith)
+        go (lacks k) = clash (nothing-as k) at λ i. absurd (let y : _≡_ {A = ℕ} 0 1 = cc in omega arith)
+        go (has b y k w l) = clash (at-as b y k w) at λ i.
+            let es : w .start ≡ s = cc in
+            let ez : w .end ≡ z = cc in
+            let eq : b ≡ q = cc in
+            record {
+              type = y;
+              is = k ∙ ap (λ (x : Bool). attribute x y) eq;
+              order = omega (arith, es, ez, w .order);
+              inside = omega (arith, ez, w .inside);
+              few = l;
+              bytes = ap (λ (x : ℕ). part x z (now t)) (sym es) ∙ ap (λ (x : ℕ). part (w .start) x (now t)) (sym ez) ∙ w .bytes;
+            }
+
+    module _ (r : RefT (List ℕ)) (block : ptr r .0 ≡ ptr t .0) (offset : ptr r .1 ≡ ptr t .1 + s) (bytes : now r ≡ part s z (now t)) where
+      told : (n : ℕ) → n ≡ toldOf (attribute q (found .type)) → Handed o place t r n
+      told n m = record {
+        handed = bytes ∙ found .bytes ∙ sym (ap bytesOf (found .is));
+        stands = subst (λ (x : ℕ × ℕ). IsPart x t r) (sym (ap spanOf (sym e ∙ at))) record { block = block; offset = offset; bytes = bytes };
+        which = m ∙ sym (ap toldOf (found .is));
+      }
+
+      handed-required : q ≡ true → Handed o place t r 114
+      handed-required y = told 114 (ap (λ (x : Bool). toldOf (attribute x (found .type))) (sym y))
+
+      handed-optional : q ≡ false → Handed o place t r 111
+      handed-optional y = told 111 (ap (λ (x : Bool). toldOf (attribute x (found .type))) (sym y))
+
+-- The same of the call.
+module _ (schema : List ℕ) (a : ℕ) (t : RefT (List ℕ)) (known : (i : ℕ) → getD (now t) i 0 < 256) (p : OwnPart) (e : p ≡ partHere schema a (now t)) where
+  comes-here : Comes (now t) (ownAttributeCall standard schema a (now t)) (bodyIn standard a (now t))
+  comes-here = comes schema a (now t) (Bytes-index (now t) known)
+
+  abbrev HandedHere : RefT (List ℕ) → ℕ → Type 0
+  HandedHere r n = Handed (ownAttributeCall standard schema a (now t)) (bodyIn standard a (now t)) t r n
+
+  pub here-refused : (n : ℕ) → p ≡ Refused n → (r : RefT (List ℕ)) → ptr r ≡ ptr t → now r ≡ [] → HandedHere r n
+  here-refused = handed-refused t _ _ comes-here p e
+
+  pub here-nothing : p ≡ Nothing → (r : RefT (List ℕ)) → ptr r ≡ ptr t → now r ≡ [] → HandedHere r 0
+  here-nothing = handed-nothing t _ _ comes-here p e
+
+  module _ (s z : ℕ) (q : Bool) (at : p ≡ At s z q) where
+    pub here-found : Found (now t) (ownAttributeCall standard schema a (now t)) s z q
+    here-found = found t _ _ comes-here p e s z q at
+
+    module _ (r : RefT (List ℕ)) (block : ptr r .0 ≡ ptr t .0) (offset : ptr r .1 ≡ ptr t .1 + s) (bytes : now r ≡ part s z (now t)) where
+      pub here-required : q ≡ true → HandedHere r 114
+      here-required = handed-required t _ _ comes-here p e s z q at r block offset bytes
+
+      pub here-optional : q ≡ false → HandedHere r 111
+      here-optional = handed-optional t _ _ comes-here p e s z q at r block offset bytes

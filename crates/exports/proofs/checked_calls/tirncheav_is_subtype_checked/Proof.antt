@@ -15,15 +15,12 @@ is-subtype-checked-requires c κs = search needs
 answer-number-requires : tie.Need-answer-number-requires
 answer-number-requires c κs =
     let start = c .before .before .before .before .before in
-    let check-again = c .before in
-    brief (c .is-subtype-checked .result) (subtype-short (start .args .schema .now) (start .args .mode) (start .args .t0 .now) (start .args .t1 .now)) (c .is-subtype-checked .ensures (start .args .schema .now) (check-again .check-again .ensures))
+    brief (c .is-subtype-checked .result) (subtype-short (start .args .schema .now) (start .args .mode) (start .args .t0 .now) (start .args .t1 .now)) (c .is-subtype-checked .ensures)
 
 returns : tie.Need-returns
 returns c =
-    let start = c .before .before .before .before .before .before in
-    let check-again = c .before .before in
     let is-subtype-checked = c .before in
-    c .answer-number .ensures ∙ ap answerNumber (is-subtype-checked .is-subtype-checked .ensures (start .args .schema .now) (check-again .check-again .ensures))
+    c .answer-number .ensures ∙ ap answerNumber (is-subtype-checked .is-subtype-checked .ensures)
 
 pub tirncheav-is-subtype-checked-spec : {M : Type 1} → statement M
 tirncheav-is-subtype-checked-spec =

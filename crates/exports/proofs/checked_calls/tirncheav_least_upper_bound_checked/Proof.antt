@@ -17,19 +17,16 @@ least-upper-bound-checked-requires c κs = search needs
 answer-number-requires : tie.Need-answer-number-requires
 answer-number-requires c κs =
     let start = c .before .before .before .before .before .before .before .before .before in
-    let check-again = c .before .before .before .before in
     let least-upper-bound-checked = c .before .before in
-    brief (least-upper-bound-checked .least-upper-bound-checked .result) (bound-short (start .args .schema .now) (start .args .mode) (start .args .t0 .now) (start .args .t1 .now) (length (start .args .out .now))) ((least-upper-bound-checked .least-upper-bound-checked .ensures (start .args .schema .now) (check-again .check-again .ensures)) .answer)
+    brief (least-upper-bound-checked .least-upper-bound-checked .result) (bound-short (start .args .schema .now) (start .args .mode) (start .args .t0 .now) (start .args .t1 .now) (length (start .args .out .now))) ((least-upper-bound-checked .least-upper-bound-checked .ensures) .answer)
 
 same-length : tie.Need-same-length
 same-length c = search needs
 
 returns : tie.Need-returns
 returns c =
-    let start = c .before .before .before .before .before .before .before .before .before .before in
-    let check-again = c .before .before .before .before .before in
     let least-upper-bound-checked = c .before .before .before in
-    numbered (c .answer-number .result) (c .answer-number .ensures) (least-upper-bound-checked .least-upper-bound-checked .ensures (start .args .schema .now) (check-again .check-again .ensures))
+    numbered (c .answer-number .result) (c .answer-number .ensures) (least-upper-bound-checked .least-upper-bound-checked .ensures)
 
 pub tirncheav-least-upper-bound-checked-spec : {M : Type 1} → statement M
 tirncheav-least-upper-bound-checked-spec =

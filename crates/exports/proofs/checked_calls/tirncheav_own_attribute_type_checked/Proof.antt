@@ -1,5 +1,8 @@
 -- `exports::checked_calls::tirncheav_own_attribute_type_checked` meets its contract. Assumes nothing.
-use Rattle.exports.specs.Laws.Numbers.{narrow, part-numbered}
+use native.Mathlib.Omega.{arith}
+use mathlib.Core.Path.{ap, _∙_}
+use Rattle.exports.specs.Numbers.{partNumber}
+use Rattle.exports.specs.Laws.Numbers.{narrow}
 use borrow.Author.Needs.{needs}
 use Rattle.exports.proofs.checked_calls.tirncheav_own_attribute_type_checked.Statement.{
   statement,
@@ -15,14 +18,13 @@ own-attribute-part-checked-requires c κs = search needs
 part-number-requires : tie.Need-part-number-requires
 part-number-requires c κs =
     let start = c .before .before .before .before in
-    narrow (start .args .t .now) (c .own-attribute-part-checked .result) (c .own-attribute-part-checked .ensures .0)
+    let known = c .before .before in
+    narrow (start .args .schema .now) (start .args .attr) (start .args .t) (λ i. omega (arith, known .shared-slice-known2 .given i)) (c .own-attribute-part-checked .result) (c .own-attribute-part-checked .ensures)
 
 returns : tie.Need-returns
 returns c =
-    let start = c .before .before .before .before .before in
-    let check-again = c .before .before in
-    let own-attribute-part-checked = c .before in
-    part-numbered (start .args .t .now) (own-attribute-part-checked .own-attribute-part-checked .result) (c .part-number .result) (own-attribute-part-checked .own-attribute-part-checked .ensures .0) (own-attribute-part-checked .own-attribute-part-checked .ensures .1 (start .args .schema .now) (check-again .check-again .ensures)) (c .part-number .ensures)
+    let part = c .before in
+    c .part-number .ensures ∙ ap partNumber (part .own-attribute-part-checked .ensures)
 
 pub tirncheav-own-attribute-type-checked-spec : {M : Type 1} → statement M
 tirncheav-own-attribute-type-checked-spec =

@@ -18,9 +18,8 @@ reduce-to-least-upper-bound-checked-requires c κs = search needs
 answer-number-requires : tie.Need-answer-number-requires
 answer-number-requires c κs =
     let start = c .before .before .before .before .before .before .before .before .before .before .before .before in
-    let check-again = c .before .before .before .before .before .before .before in
     let reduce-to-least-upper-bound-checked = c .before .before .before .before in
-    brief (reduce-to-least-upper-bound-checked .reduce-to-least-upper-bound-checked .result) (fold-short (start .args .schema .now) (start .args .mode) (start .args .list .now) (length (start .args .out .now)) (length (start .args .work .now))) ((reduce-to-least-upper-bound-checked .reduce-to-least-upper-bound-checked .ensures (start .args .schema .now) (check-again .check-again .ensures)) .answer)
+    brief (reduce-to-least-upper-bound-checked .reduce-to-least-upper-bound-checked .result) (fold-short (start .args .schema .now) (start .args .mode) (start .args .list .now) (length (start .args .out .now)) (length (start .args .work .now))) ((reduce-to-least-upper-bound-checked .reduce-to-least-upper-bound-checked .ensures) .answer)
 
 same-length : tie.Need-same-length
 same-length c = search needs
@@ -30,10 +29,8 @@ same-length-2 c = search needs
 
 returns : tie.Need-returns
 returns c =
-    let start = c .before .before .before .before .before .before .before .before .before .before .before .before .before in
-    let check-again = c .before .before .before .before .before .before .before .before in
     let reduce-to-least-upper-bound-checked = c .before .before .before .before .before in
-    numbered-in (c .answer-number .result) (c .answer-number .ensures) (reduce-to-least-upper-bound-checked .reduce-to-least-upper-bound-checked .ensures (start .args .schema .now) (check-again .check-again .ensures))
+    numbered-in (c .answer-number .result) (c .answer-number .ensures) (reduce-to-least-upper-bound-checked .reduce-to-least-upper-bound-checked .ensures)
 
 pub tirncheav-reduce-to-least-upper-bound-checked-spec : {M : Type 1} → statement M
 tirncheav-reduce-to-least-upper-bound-checked-spec =

@@ -15,9 +15,9 @@ is-mode-requires c κs = search needs
 
 returns : tie.Need-returns
 returns c =
-    let start = c .before .before .before .before in
+    let start = c .before .before .before .before .before in
     let is-mode = c .before in
-    λ s q. subtype-mode (start .args .mode) s (start .args .t0 .now) (start .args .t1 .now) (missing (modeOf (start .args .mode)) (is-mode .is-mode .result) (is-mode .is-mode .ensures) (c .if1 .taken))
+    subtype-mode (start .args .mode) (start .args .schema .now) (start .args .t0 .now) (start .args .t1 .now) (missing (modeOf (start .args .mode)) (is-mode .is-mode .result) (is-mode .is-mode .ensures) (c .if1 .taken))
 
 enum-told : tie.Need-enum-told
 enum-told c = search needs
@@ -27,40 +27,40 @@ enum-told-2 c = search needs
 
 returns-2 : tie.Need-returns-2
 returns-2 c =
-    let start = c .before .before .before .before .before .before in
+    let start = c .before .before .before .before .before .before .before in
     let is-mode = c .before .before .before in
     let else1 = c .before .before in
-    λ s q. subtype-schema (start .args .mode) s (start .args .t0 .now) (start .args .t1 .now) _ (mode-is (start .args .mode) (sym (is-mode .is-mode .ensures) ∙ not-false (is-mode .is-mode .result) (else1 .if1 .left))) (checked-missing s (start .args .check) q (c .enum-told2 .given .1))
+    subtype-schema (start .args .mode) (start .args .schema .now) (start .args .t0 .now) (start .args .t1 .now) _ (mode-is (start .args .mode) (sym (is-mode .is-mode .ensures) ∙ not-false (is-mode .is-mode .result) (else1 .if1 .left))) (checked-missing (start .args .schema .now) (start .args .check) (start .pre) (c .enum-told2 .given .1))
 
 whole-type-requires : tie.Need-whole-type-requires
 whole-type-requires c κs = search needs
 
 returns-3 : tie.Need-returns-3
 returns-3 c =
-    let start = c .before .before .before .before .before .before .before .before in
+    let start = c .before .before .before .before .before .before .before .before .before in
     let is-mode = c .before .before .before .before .before in
     let else1 = c .before .before .before .before in
     let at-enum-told = c .before .before in
     let whole-type = c .before in
-    λ s q. subtype-first (start .args .mode) s (start .args .t0 .now) (start .args .t1 .now) _ (mode-is (start .args .mode) (sym (is-mode .is-mode .ensures) ∙ not-false (is-mode .is-mode .result) (else1 .if1 .left))) _ (checked-there s (start .args .check) q (at-enum-told .enum-told .given .0 .0) (at-enum-told .enum-told .given .1)) (type-missing (start .args .t0 .now) (whole-type .whole-type .result) (whole-type .whole-type .ensures) (c .if2 .taken))
+    subtype-first (start .args .mode) (start .args .schema .now) (start .args .t0 .now) (start .args .t1 .now) _ (mode-is (start .args .mode) (sym (is-mode .is-mode .ensures) ∙ not-false (is-mode .is-mode .result) (else1 .if1 .left))) _ (checked-there (start .args .schema .now) (start .args .check) (start .pre) (at-enum-told .enum-told .given .0 .0) (at-enum-told .enum-told .given .1)) (type-missing (start .args .t0 .now) (whole-type .whole-type .result) (whole-type .whole-type .ensures) (c .if2 .taken))
 
 whole-type-requires-2 : tie.Need-whole-type-requires-2
 whole-type-requires-2 c κs = search needs
 
 returns-4 : tie.Need-returns-4
 returns-4 c =
-    let start = c .before .before .before .before .before .before .before .before .before .before in
+    let start = c .before .before .before .before .before .before .before .before .before .before .before in
     let is-mode = c .before .before .before .before .before .before .before in
     let else1 = c .before .before .before .before .before .before in
     let at-enum-told = c .before .before .before .before in
     let whole-type = c .before .before .before in
     let else2 = c .before .before in
     let whole-type2 = c .before in
-    λ s q. subtype-second (start .args .mode) s (start .args .t0 .now) (start .args .t1 .now) _ (mode-is (start .args .mode) (sym (is-mode .is-mode .ensures) ∙ not-false (is-mode .is-mode .result) (else1 .if1 .left))) _ (checked-there s (start .args .check) q (at-enum-told .enum-told .given .0 .0) (at-enum-told .enum-told .given .1)) _ (type-there (start .args .t0 .now) (whole-type .whole-type .result) (whole-type .whole-type .ensures) (else2 .if2 .left)) (type-missing (start .args .t1 .now) (whole-type2 .whole-type2 .result) (whole-type2 .whole-type2 .ensures) (c .if3 .taken))
+    subtype-second (start .args .mode) (start .args .schema .now) (start .args .t0 .now) (start .args .t1 .now) _ (mode-is (start .args .mode) (sym (is-mode .is-mode .ensures) ∙ not-false (is-mode .is-mode .result) (else1 .if1 .left))) _ (checked-there (start .args .schema .now) (start .args .check) (start .pre) (at-enum-told .enum-told .given .0 .0) (at-enum-told .enum-told .given .1)) _ (type-there (start .args .t0 .now) (whole-type .whole-type .result) (whole-type .whole-type .ensures) (else2 .if2 .left)) (type-missing (start .args .t1 .now) (whole-type2 .whole-type2 .result) (whole-type2 .whole-type2 .ensures) (c .if3 .taken))
 
 is-subtype-requires : tie.Need-is-subtype-requires
 is-subtype-requires c κs =
-    let start = c .before .before .before .before .before .before .before .before .before .before in
+    let start = c .before .before .before .before .before .before .before .before .before .before .before in
     let whole-type = c .before .before .before in
     let else2 = c .before .before in
     let whole-type2 = c .before in
@@ -71,7 +71,7 @@ yes-or-no-requires c κs = search needs
 
 returns-5 : tie.Need-returns-5
 returns-5 c =
-    let start = c .before .before .before .before .before .before .before .before .before .before .before .before in
+    let start = c .before .before .before .before .before .before .before .before .before .before .before .before .before in
     let is-mode = c .before .before .before .before .before .before .before .before .before in
     let else1 = c .before .before .before .before .before .before .before .before in
     let at-enum-told = c .before .before .before .before .before .before in
@@ -80,7 +80,7 @@ returns-5 c =
     let whole-type2 = c .before .before .before in
     let else3 = c .before .before in
     let is-subtype = c .before in
-    λ s q. subtype-said (start .args .mode) s (start .args .t0 .now) (start .args .t1 .now) _ (mode-is (start .args .mode) (sym (is-mode .is-mode .ensures) ∙ not-false (is-mode .is-mode .result) (else1 .if1 .left))) _ (checked-there s (start .args .check) q (at-enum-told .enum-told .given .0 .0) (at-enum-told .enum-told .given .1)) _ (type-there (start .args .t0 .now) (whole-type .whole-type .result) (whole-type .whole-type .ensures) (else2 .if2 .left)) _ (type-there (start .args .t1 .now) (whole-type2 .whole-type2 .result) (whole-type2 .whole-type2 .ensures) (else3 .if3 .left)) (c .yes-or-no .result) (is-subtype .is-subtype .result) (c .yes-or-no .ensures) (is-subtype .is-subtype .ensures)
+    subtype-said (start .args .mode) (start .args .schema .now) (start .args .t0 .now) (start .args .t1 .now) _ (mode-is (start .args .mode) (sym (is-mode .is-mode .ensures) ∙ not-false (is-mode .is-mode .result) (else1 .if1 .left))) _ (checked-there (start .args .schema .now) (start .args .check) (start .pre) (at-enum-told .enum-told .given .0 .0) (at-enum-told .enum-told .given .1)) _ (type-there (start .args .t0 .now) (whole-type .whole-type .result) (whole-type .whole-type .ensures) (else2 .if2 .left)) _ (type-there (start .args .t1 .now) (whole-type2 .whole-type2 .result) (whole-type2 .whole-type2 .ensures) (else3 .if3 .left)) (c .yes-or-no .result) (is-subtype .is-subtype .result) (c .yes-or-no .ensures) (is-subtype .is-subtype .ensures)
 
 pub is-subtype-checked-spec : {M : Type 1} → statement M
 is-subtype-checked-spec =

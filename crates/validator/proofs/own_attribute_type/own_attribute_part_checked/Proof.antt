@@ -1,11 +1,10 @@
 -- `validator::own_attribute_type::own_attribute_part_checked` meets its contract. Assumes nothing.
-use native.Mathlib.Omega.{arith}
 use Rattle.cedar.specs.Attribute.{ownAttr}
 use Rattle.forms.specs.TypeBytes.{dec}
 use Rattle.attributes.specs.Laws.Place.{place-at, place-none}
-use Rattle.validator.specs.Laws.Questions.{type-missing, type-there, type-whole, type-few}
+use Rattle.validator.specs.Laws.Questions.{type-missing, type-there, type-whole}
 use Rattle.validator.specs.Laws.Schemas.{checked-missing, checked-there}
-use Rattle.validator.specs.Laws.Handed.{stands-no-schema, stands-no-type, stands-nothing, stands-at}
+use Rattle.validator.specs.Laws.Handed.{part-no-schema, part-no-type, part-nothing, part-at}
 use borrow.Author.Needs.{needs}
 use Rattle.validator.proofs.own_attribute_type.own_attribute_part_checked.Statement.{
   statement,
@@ -20,22 +19,23 @@ enum-told-2 c = search needs
 
 returns : tie.Need-returns
 returns c =
-    let start = c .before .before .before in
-    (tt, λ s q. stands-no-schema s (start .args .attr) (start .args .t .now) (checked-missing s (start .args .check) q (c .enum-told2 .given .1)))
+    let start = c .before .before .before .before in
+    part-no-schema (start .args .schema .now) (start .args .attr) (start .args .t .now) (checked-missing (start .args .schema .now) (start .args .check) (start .pre) (c .enum-told2 .given .1))
 
 whole-type-requires : tie.Need-whole-type-requires
 whole-type-requires c κs = search needs
 
 returns-2 : tie.Need-returns-2
 returns-2 c =
-    let start = c .before .before .before .before .before in
+    let start = c .before .before .before .before .before .before in
     let at-enum-told = c .before .before in
     let whole-type = c .before in
-    (tt, λ s q. stands-no-type s _ (checked-there s (start .args .check) q (at-enum-told .enum-told .given .0 .0) (at-enum-told .enum-told .given .1)) (start .args .attr) (start .args .t .now) (type-missing (start .args .t .now) (whole-type .whole-type .result) (whole-type .whole-type .ensures) (c .if1 .taken)))
+    let there = checked-there (start .args .schema .now) (start .args .check) (start .pre) (at-enum-told .enum-told .given .0 .0) (at-enum-told .enum-told .given .1) in
+    part-no-type (start .args .schema .now) (start .args .attr) (start .args .t .now) _ there (type-missing (start .args .t .now) (whole-type .whole-type .result) (whole-type .whole-type .ensures) (c .if1 .taken))
 
 own-attribute-requires : tie.Need-own-attribute-requires
 own-attribute-requires c κs =
-    let start = c .before .before .before .before .before in
+    let start = c .before .before .before .before .before .before in
     let whole-type = c .before in
     type-whole (start .args .t .now) (whole-type .whole-type .result) (whole-type .whole-type .ensures) (c .if1 .left)
 
@@ -47,24 +47,31 @@ enum-told-3 c = search needs
 
 returns-3 : tie.Need-returns-3
 returns-3 c =
-    let start = c .before .before .before .before .before .before .before .before in
+    let start = c .before .before .before .before .before .before .before .before .before in
     let at-enum-told = c .before .before .before .before .before in
     let whole-type = c .before .before .before .before in
     let else1 = c .before .before .before in
     let own-attribute = c .before .before in
-    (tt, λ s q. stands-nothing s _ (checked-there s (start .args .check) q (at-enum-told .enum-told .given .0 .0) (at-enum-told .enum-told .given .1)) (start .args .attr) (start .args .t .now) _ (type-there (start .args .t .now) (whole-type .whole-type .result) (whole-type .whole-type .ensures) (else1 .if1 .left)) (place-none 15 (start .args .t .now) (ownAttr (start .args .attr) (dec 16 (start .args .t .now))) (own-attribute .own-attribute .result) (c .enum-told3 .given .1) (own-attribute .own-attribute .ensures)))
+    let there = checked-there (start .args .schema .now) (start .args .check) (start .pre) (at-enum-told .enum-told .given .0 .0) (at-enum-told .enum-told .given .1) in
+    let whole = type-there (start .args .t .now) (whole-type .whole-type .result) (whole-type .whole-type .ensures) (else1 .if1 .left) in
+    let lacks = place-none 15 (start .args .t .now) (ownAttr (start .args .attr) (dec 16 (start .args .t .now))) (own-attribute .own-attribute .result) (c .enum-told3 .given .1) (own-attribute .own-attribute .ensures .0) in
+    part-nothing (start .args .schema .now) (start .args .attr) (start .args .t .now) _ there _ whole lacks
 
 returns-4 : tie.Need-returns-4
 returns-4 c =
-    let start = c .before .before .before .before .before .before .before .before .before in
-    let shared-slice-known = c .before .before .before .before .before .before .before .before in
+    let start = c .before .before .before .before .before .before .before .before .before .before in
     let at-enum-told = c .before .before .before .before .before .before in
     let whole-type = c .before .before .before .before .before in
     let else1 = c .before .before .before .before in
     let own-attribute = c .before .before .before in
     let place = c .before in
-    let placed = place-at 15 (start .args .t .now) (ownAttr (start .args .attr) (dec 16 (start .args .t .now))) (own-attribute .own-attribute .result) (place .start .given .0 .0) (place .start .given .0 .1 .0) (place .start .given .0 .1 .1 .0) (place .start .given .1) (own-attribute .own-attribute .ensures) in
-    ((placed .0, placed .1, type-few (start .args .t .now) (whole-type .whole-type .result) (whole-type .whole-type .ensures) (else1 .if1 .left)), λ s q. stands-at s _ (checked-there s (start .args .check) q (at-enum-told .enum-told .given .0 .0) (at-enum-told .enum-told .given .1)) (start .args .attr) (start .args .t .now) (λ i. omega (arith, shared-slice-known .shared-slice-known .given i)) (type-there (start .args .t .now) (whole-type .whole-type .result) (whole-type .whole-type .ensures) (else1 .if1 .left)) (place .start .given .0 .0) (place .start .given .0 .1 .0) (place .start .given .0 .1 .1 .0) placed)
+    let there = checked-there (start .args .schema .now) (start .args .check) (start .pre) (at-enum-told .enum-told .given .0 .0) (at-enum-told .enum-told .given .1) in
+    let whole = type-there (start .args .t .now) (whole-type .whole-type .result) (whole-type .whole-type .ensures) (else1 .if1 .left) in
+    let s = place .start .given .0 .0 in
+    let e = place .start .given .0 .1 .0 in
+    let q = place .start .given .0 .1 .1 .0 in
+    let placed = place-at 15 (start .args .t .now) (ownAttr (start .args .attr) (dec 16 (start .args .t .now))) (own-attribute .own-attribute .result) s e q (place .start .given .1) (own-attribute .own-attribute .ensures .0) in
+    part-at (start .args .schema .now) (start .args .attr) (start .args .t .now) _ there _ whole q _ (placed .3) (own-attribute .own-attribute .result) s e (place .start .given .1) (own-attribute .own-attribute .ensures .1)
 
 pub own-attribute-part-checked-spec : {M : Type 1} → statement M
 own-attribute-part-checked-spec =

@@ -9,26 +9,24 @@ use Rattle.validator.proofs.reduce_to_least_upper_bound.reduce_to_least
 use Rattle.validator.proofs.reduce_to_least_upper_bound.reduced.Reads as reduced-reads
 use Rattle.validator.proofs.workspaces.clear.Reads as clear-reads
 
--- src/reduce_to_least_upper_bound.rt:59:9
 reduced-requires : tie.Need-reduced-requires
 reduced-requires c κs = search needs
 
--- src/reduce_to_least_upper_bound.rt:60:5
 clear-requires : tie.Need-clear-requires
 clear-requires c κs = search needs
 
--- src/reduce_to_least_upper_bound.rt:50:1
 same-length : tie.Need-same-length
 same-length c = search needs
 
--- src/reduce_to_least_upper_bound.rt:50:1
 same-length-2 : tie.Need-same-length-2
 same-length-2 c = search needs
 
--- src/reduce_to_least_upper_bound.rt:50:1
 returns : tie.Need-returns
 returns c =
-    λ s q. cleared-after (c .before .before .before .before .before .before .before .before .before .before .before .before .before .before .args .work .now) (c .before .before .before .before .before .before .before .before .reduced .last .1 .1 .1 .1 .0) (c .before .before .clear .last .0) (c .before .before .before .before .before .before .before .before .reduced .ensures s q) (c .before .before .before .before .before .before .before .before .reduced .kept .1 .1 .1 .1 .0) (c .before .before .clear .ensures)
+    let start = c .before .before .before .before .before .before .before .before .before .before .before .before .before .before .before in
+    let reduced = c .before .before .before .before .before .before .before .before in
+    let clear = c .before .before in
+    cleared-after (start .args .work .now) (reduced .reduced .last .1 .1 .1 .1 .1 .0) (clear .clear .last .0) (reduced .reduced .ensures) (reduced .reduced .kept .1 .1 .1 .1 .1 .0) (clear .clear .ensures)
 
 pub reduce-to-least-upper-bound-checked-spec : {M : Type 1} → statement M
 reduce-to-least-upper-bound-checked-spec =

@@ -22,118 +22,96 @@ use Rattle.forms.proofs.lists.whole_list.Reads as whole-list-reads
 use Rattle.relations.proofs.modes.is_mode.Reads as is-mode-reads
 use Rattle.validator.proofs.rooms.answer_fits.Reads as answer-fits-reads
 
--- src/reduce_to_least_upper_bound.rt:27:9
 is-mode-requires : tie.Need-is-mode-requires
 is-mode-requires c κs = search needs
 
--- src/reduce_to_least_upper_bound.rt:28:9
 returns : tie.Need-returns
 returns c =
-    let start = c .before .before .before .before .before in
-    λ s q. fold-mode (start .args .mode) s (start .args .list .now) (start .args .out .now) (length (start .args .work .now)) (missing (modeOf (start .args .mode)) (c .before .is-mode .result) (c .before .is-mode .ensures) (c .if1 .taken))
+    let start = c .before .before .before .before .before .before in
+    fold-mode (start .args .mode) (start .args .schema .now) (start .args .list .now) (start .args .out .now) (length (start .args .work .now)) (missing (modeOf (start .args .mode)) (c .before .is-mode .result) (c .before .is-mode .ensures) (c .if1 .taken))
 
 enum-told : tie.Need-enum-told
 enum-told c = search needs
 
--- src/reduce_to_least_upper_bound.rt:31:9
 enum-told-2 : tie.Need-enum-told-2
 enum-told-2 c = search needs
 
--- src/reduce_to_least_upper_bound.rt:31:9
 returns-2 : tie.Need-returns-2
 returns-2 c =
-    let start = c .before .before .before .before .before .before .before in
-    λ s q. fold-schema (start .args .mode) s (start .args .list .now) (start .args .out .now) (length (start .args .work .now)) (mode-as (start .args .mode) (c .before .before .before .is-mode .result) (c .before .before .before .is-mode .ensures) (c .before .before .if1 .left)) (checked-missing s (start .args .check) q (c .enum-told2 .given .1))
+    let start = c .before .before .before .before .before .before .before .before in
+    fold-schema (start .args .mode) (start .args .schema .now) (start .args .list .now) (start .args .out .now) (length (start .args .work .now)) (mode-as (start .args .mode) (c .before .before .before .is-mode .result) (c .before .before .before .is-mode .ensures) (c .before .before .if1 .left)) (checked-missing (start .args .schema .now) (start .args .check) (start .pre) (c .enum-told2 .given .1))
 
--- src/reduce_to_least_upper_bound.rt:33:9
 whole-list-requires : tie.Need-whole-list-requires
 whole-list-requires c κs = search needs
 
--- src/reduce_to_least_upper_bound.rt:34:9
 returns-3 : tie.Need-returns-3
 returns-3 c =
-    let start = c .before .before .before .before .before .before .before .before .before in
-    λ s q. fold-list (start .args .mode) s (start .args .list .now) (start .args .out .now) (length (start .args .work .now)) (mode-as (start .args .mode) (c .before .before .before .before .before .is-mode .result) (c .before .before .before .before .before .is-mode .ensures) (c .before .before .before .before .if1 .left)) _ (checked-there s (start .args .check) q (c .before .before .enum-told .given .0 .0) (c .before .before .enum-told .given .1)) (missing (wholeList standard (start .args .list .now)) (c .before .whole-list .result) (c .before .whole-list .ensures) (c .if2 .taken))
+    let start = c .before .before .before .before .before .before .before .before .before .before in
+    fold-list (start .args .mode) (start .args .schema .now) (start .args .list .now) (start .args .out .now) (length (start .args .work .now)) (mode-as (start .args .mode) (c .before .before .before .before .before .is-mode .result) (c .before .before .before .before .before .is-mode .ensures) (c .before .before .before .before .if1 .left)) _ (checked-there (start .args .schema .now) (start .args .check) (start .pre) (c .before .before .enum-told .given .0 .0) (c .before .before .enum-told .given .1)) (missing (wholeList standard (start .args .list .now)) (c .before .whole-list .result) (c .before .whole-list .ensures) (c .if2 .taken))
 
--- src/reduce_to_least_upper_bound.rt:37:34
 slice-aggregate-fold-types : tie.Need-slice-aggregate-fold-types
 slice-aggregate-fold-types c = search needs
 
--- src/reduce_to_least_upper_bound.rt:37:11
 fold-types-requires : tie.Need-fold-types-requires
 fold-types-requires c κs =
-    list-opened (c .before .before .before .before .before .before .before .before .before .before .before .args .list .now) (c .before .before .before .whole-list .result) (c .before .before .before .whole-list .ensures) (c .before .before .if2 .left) _ refl
+    list-opened (c .before .before .before .before .before .before .before .before .before .before .before .before .args .list .now) (c .before .before .before .whole-list .result) (c .before .before .before .whole-list .ensures) (c .before .before .if2 .left) _ refl
 
--- src/reduce_to_least_upper_bound.rt:38:20
 enum-known-n : tie.Need-enum-known-n
 enum-known-n c = search needs
 
--- src/reduce_to_least_upper_bound.rt:39:17
 answer-fits-requires : tie.Need-answer-fits-requires
 answer-fits-requires c κs = search needs
 
--- src/reduce_to_least_upper_bound.rt:40:17
 same-length : tie.Need-same-length
 same-length c = search needs
 
--- src/reduce_to_least_upper_bound.rt:40:17
 returns-4 : tie.Need-returns-4
 returns-4 c =
-    let start = c .before .before .before .before .before .before .before .before .before .before .before .before .before .before .before .before .before .before .before .before in
+    let start = c .before .before .before .before .before .before .before .before .before .before .before .before .before .before .before .before .before .before .before .before .before in
     let f = foldTypes (stepFits standard (length (start .args .work .now))) (asMode (start .args .mode)) (listOf 16 (start .args .list .now)) in
-    λ s q. fold-refused (start .args .mode) s (start .args .list .now) (start .args .out .now) (length (start .args .work .now)) (mode-as (start .args .mode) (c .before .before .before .before .before .before .before .before .before .before .before .before .before .before .before .before .is-mode .result) (c .before .before .before .before .before .before .before .before .before .before .before .before .before .before .before .before .is-mode .ensures) (c .before .before .before .before .before .before .before .before .before .before .before .before .before .before .before .if1 .left)) _ (checked-there s (start .args .check) q (c .before .before .before .before .before .before .before .before .before .before .before .before .before .enum-told .given .0 .0) (c .before .before .before .before .before .before .before .before .before .before .before .before .before .enum-told .given .1)) (list-there (start .args .list .now) (c .before .before .before .before .before .before .before .before .before .before .before .before .whole-list .result) (c .before .before .before .before .before .before .before .before .before .before .before .before .whole-list .ensures) (c .before .before .before .before .before .before .before .before .before .before .before .if2 .left)) 10 (folds-over f (start .args .out .now) (c .before .before .before .before .before .before .before .before .fold-types .last .1 .1 .0) (c .before .before .before .before .before .before .before .before .fold-types .result) (c .before .before .before .before .before .before .before .before .fold-types .ensures) (c .before .before .before .n .given .0 .0) (c .before .before .before .n .given .1) (c .before .answer-fits .result) (c .before .answer-fits .ensures) (c .if3 .taken))
+    fold-refused (start .args .mode) (start .args .schema .now) (start .args .list .now) (start .args .out .now) (length (start .args .work .now)) (mode-as (start .args .mode) (c .before .before .before .before .before .before .before .before .before .before .before .before .before .before .before .before .is-mode .result) (c .before .before .before .before .before .before .before .before .before .before .before .before .before .before .before .before .is-mode .ensures) (c .before .before .before .before .before .before .before .before .before .before .before .before .before .before .before .if1 .left)) _ (checked-there (start .args .schema .now) (start .args .check) (start .pre) (c .before .before .before .before .before .before .before .before .before .before .before .before .before .enum-told .given .0 .0) (c .before .before .before .before .before .before .before .before .before .before .before .before .before .enum-told .given .1)) (list-there (start .args .list .now) (c .before .before .before .before .before .before .before .before .before .before .before .before .whole-list .result) (c .before .before .before .before .before .before .before .before .before .before .before .before .whole-list .ensures) (c .before .before .before .before .before .before .before .before .before .before .before .if2 .left)) 10 (folds-over f (start .args .out .now) (c .before .before .before .before .before .before .before .before .fold-types .last .1 .1 .0) (c .before .before .before .before .before .before .before .before .fold-types .result) (c .before .before .before .before .before .before .before .before .fold-types .ensures) (c .before .before .before .n .given .0 .0) (c .before .before .before .n .given .1) (c .before .answer-fits .result) (c .before .answer-fits .ensures) (c .if3 .taken))
 
--- src/reduce_to_least_upper_bound.rt:42:18
 sub-copy : tie.Need-sub-copy
 sub-copy c = search needs
 
--- src/reduce_to_least_upper_bound.rt:42:18
 part-copy-start : tie.Need-part-copy-start
 part-copy-start c = search needs
 
--- src/reduce_to_least_upper_bound.rt:42:18
 part-copy-end : tie.Need-part-copy-end
 part-copy-end c =
-    let start = c .before .before .before .before .before .before .before .before .before .before .before .before .before .before .before .before .before .before .before .before .before in
+    let start = c .before .before .before .before .before .before .before .before .before .before .before .before .before .before .before .before .before .before .before .before .before .before in
     let f = foldTypes (stepFits standard (length (start .args .work .now))) (asMode (start .args .mode)) (listOf 16 (start .args .list .now)) in
     omega (arith, folds-small f (start .args .out .now) (c .before .before .before .before .before .before .before .before .before .fold-types .last .1 .1 .0) (c .before .before .before .before .before .before .before .before .before .fold-types .result) (c .before .before .before .before .before .before .before .before .before .fold-types .ensures) (c .before .before .before .before .n .given .0 .0) (c .before .before .before .before .n .given .1))
 
--- src/reduce_to_least_upper_bound.rt:42:13
 copy-requires : tie.Need-copy-requires
 copy-requires c κs =
-    let start = c .before .before .before .before .before .before .before .before .before .before .before .before .before .before .before .before .before .before .before .before .before .before .before in
+    let start = c .before .before .before .before .before .before .before .before .before .before .before .before .before .before .before .before .before .before .before .before .before .before .before .before in
     let f = foldTypes (stepFits standard (length (start .args .work .now))) (asMode (start .args .mode)) (listOf 16 (start .args .list .now)) in
     omega (arith, folds-room f (start .args .out .now) (c .before .before .before .before .before .before .before .before .before .before .before .fold-types .last .1 .1 .0) (c .before .before .before .before .before .before .before .before .before .before .before .fold-types .result) (c .before .before .before .before .before .before .before .before .before .before .before .fold-types .ensures) (c .before .before .before .before .before .before .n .given .0 .0) (c .before .before .before .before .before .before .n .given .1) (c .before .before .before .before .answer-fits .result) (c .before .before .before .before .answer-fits .ensures) (c .before .before .before .if3 .left))
 
--- src/reduce_to_least_upper_bound.rt:45:21
 enum-known-e : tie.Need-enum-known-e
 enum-known-e c = search needs
 
--- src/reduce_to_least_upper_bound.rt:24:1
 same-length-2 : tie.Need-same-length-2
 same-length-2 c = search needs
 
--- src/reduce_to_least_upper_bound.rt:24:1
 same-length-3 : tie.Need-same-length-3
 same-length-3 c = search needs
 
--- src/reduce_to_least_upper_bound.rt:24:1
 returns-5 : tie.Need-returns-5
 returns-5 c =
-    let start = c .before .before .before .before .before .before .before .before .before .before .before .before .before .before .before .before .before .before .before .before .before .before .before .before .before .before in
+    let start = c .before .before .before .before .before .before .before .before .before .before .before .before .before .before .before .before .before .before .before .before .before .before .before .before .before .before .before in
     let f = foldTypes (stepFits standard (length (start .args .work .now))) (asMode (start .args .mode)) (listOf 16 (start .args .list .now)) in
-    λ s q. fold-writes (start .args .mode) s (start .args .list .now) (start .args .out .now) (length (start .args .work .now)) (mode-as (start .args .mode) (c .before .before .before .before .before .before .before .before .before .before .before .before .before .before .before .before .before .before .before .before .before .before .is-mode .result) (c .before .before .before .before .before .before .before .before .before .before .before .before .before .before .before .before .before .before .before .before .before .before .is-mode .ensures) (c .before .before .before .before .before .before .before .before .before .before .before .before .before .before .before .before .before .before .before .before .before .if1 .left)) _ (checked-there s (start .args .check) q (c .before .before .before .before .before .before .before .before .before .before .before .before .before .before .before .before .before .before .before .enum-told .given .0 .0) (c .before .before .before .before .before .before .before .before .before .before .before .before .before .before .before .before .before .before .before .enum-told .given .1)) (list-there (start .args .list .now) (c .before .before .before .before .before .before .before .before .before .before .before .before .before .before .before .before .before .before .whole-list .result) (c .before .before .before .before .before .before .before .before .before .before .before .before .before .before .before .before .before .before .whole-list .ensures) (c .before .before .before .before .before .before .before .before .before .before .before .before .before .before .before .before .before .if2 .left)) (c .before .before .before .before .before .before .before .before .before .n .given .0 .0) (c .before .before .before .before .before .before .before .before .before .before .before .before .before .before .fold-types .last .1 .1 .0) (folds-typed f (start .args .out .now) (c .before .before .before .before .before .before .before .before .before .before .before .before .before .before .fold-types .last .1 .1 .0) (c .before .before .before .before .before .before .before .before .before .before .before .before .before .before .fold-types .result) (c .before .before .before .before .before .before .before .before .before .before .before .before .before .before .fold-types .ensures) (c .before .before .before .before .before .before .before .before .before .n .given .0 .0) (c .before .before .before .before .before .before .before .before .before .n .given .1) (c .before .before .before .before .before .before .before .answer-fits .result) (c .before .before .before .before .before .before .before .answer-fits .ensures) (c .before .before .before .before .before .before .if3 .left)) (folds-exact f (start .args .out .now) (c .before .before .before .before .before .before .before .before .before .before .before .before .before .before .fold-types .last .1 .1 .0) (c .before .before .before .before .before .before .before .before .before .before .before .before .before .before .fold-types .result) (c .before .before .before .before .before .before .before .before .before .before .before .before .before .before .fold-types .ensures) (c .before .before .before .before .before .before .before .before .before .n .given .0 .0) (c .before .before .before .before .before .before .before .before .before .n .given .1)) (folds-length f (start .args .out .now) (c .before .before .before .before .before .before .before .before .before .before .before .before .before .before .fold-types .last .1 .1 .0) (c .before .before .before .before .before .before .before .before .before .before .before .before .before .before .fold-types .result) (c .before .before .before .before .before .before .before .before .before .before .before .before .before .before .fold-types .ensures) (c .before .before .before .before .before .before .before .before .before .n .given .0 .0) (c .before .before .before .before .before .before .before .before .before .n .given .1)) (c .before .before .copy .last .1 .0) (c .before .before .copy .ensures)
+    fold-writes (start .args .mode) (start .args .schema .now) (start .args .list .now) (start .args .out .now) (length (start .args .work .now)) (mode-as (start .args .mode) (c .before .before .before .before .before .before .before .before .before .before .before .before .before .before .before .before .before .before .before .before .before .before .is-mode .result) (c .before .before .before .before .before .before .before .before .before .before .before .before .before .before .before .before .before .before .before .before .before .before .is-mode .ensures) (c .before .before .before .before .before .before .before .before .before .before .before .before .before .before .before .before .before .before .before .before .before .if1 .left)) _ (checked-there (start .args .schema .now) (start .args .check) (start .pre) (c .before .before .before .before .before .before .before .before .before .before .before .before .before .before .before .before .before .before .before .enum-told .given .0 .0) (c .before .before .before .before .before .before .before .before .before .before .before .before .before .before .before .before .before .before .before .enum-told .given .1)) (list-there (start .args .list .now) (c .before .before .before .before .before .before .before .before .before .before .before .before .before .before .before .before .before .before .whole-list .result) (c .before .before .before .before .before .before .before .before .before .before .before .before .before .before .before .before .before .before .whole-list .ensures) (c .before .before .before .before .before .before .before .before .before .before .before .before .before .before .before .before .before .if2 .left)) (c .before .before .before .before .before .before .before .before .before .n .given .0 .0) (c .before .before .before .before .before .before .before .before .before .before .before .before .before .before .fold-types .last .1 .1 .0) (folds-typed f (start .args .out .now) (c .before .before .before .before .before .before .before .before .before .before .before .before .before .before .fold-types .last .1 .1 .0) (c .before .before .before .before .before .before .before .before .before .before .before .before .before .before .fold-types .result) (c .before .before .before .before .before .before .before .before .before .before .before .before .before .before .fold-types .ensures) (c .before .before .before .before .before .before .before .before .before .n .given .0 .0) (c .before .before .before .before .before .before .before .before .before .n .given .1) (c .before .before .before .before .before .before .before .answer-fits .result) (c .before .before .before .before .before .before .before .answer-fits .ensures) (c .before .before .before .before .before .before .if3 .left)) (folds-exact f (start .args .out .now) (c .before .before .before .before .before .before .before .before .before .before .before .before .before .before .fold-types .last .1 .1 .0) (c .before .before .before .before .before .before .before .before .before .before .before .before .before .before .fold-types .result) (c .before .before .before .before .before .before .before .before .before .before .before .before .before .before .fold-types .ensures) (c .before .before .before .before .before .before .before .before .before .n .given .0 .0) (c .before .before .before .before .before .before .before .before .before .n .given .1)) (folds-length f (start .args .out .now) (c .before .before .before .before .before .before .before .before .before .before .before .before .before .before .fold-types .last .1 .1 .0) (c .before .before .before .before .before .before .before .before .before .before .before .before .before .before .fold-types .result) (c .before .before .before .before .before .before .before .before .before .before .before .before .before .before .fold-types .ensures) (c .before .before .before .before .before .before .before .before .before .n .given .0 .0) (c .before .before .before .before .before .before .before .before .before .n .given .1)) (c .before .before .copy .last .1 .0) (c .before .before .copy .ensures)
 
--- src/reduce_to_least_upper_bound.rt:24:1
 same-length-4 : tie.Need-same-length-4
 same-length-4 c = search needs
 
--- src/reduce_to_least_upper_bound.rt:24:1
 returns-6 : tie.Need-returns-6
 returns-6 c =
-    let start = c .before .before .before .before .before .before .before .before .before .before .before .before .before .before .before .before .before .before in
+    let start = c .before .before .before .before .before .before .before .before .before .before .before .before .before .before .before .before .before .before .before in
     let f = foldTypes (stepFits standard (length (start .args .work .now))) (asMode (start .args .mode)) (listOf 16 (start .args .list .now)) in
-    λ s q. fold-refused (start .args .mode) s (start .args .list .now) (start .args .out .now) (length (start .args .work .now)) (mode-as (start .args .mode) (c .before .before .before .before .before .before .before .before .before .before .before .before .before .before .is-mode .result) (c .before .before .before .before .before .before .before .before .before .before .before .before .before .before .is-mode .ensures) (c .before .before .before .before .before .before .before .before .before .before .before .before .before .if1 .left)) _ (checked-there s (start .args .check) q (c .before .before .before .before .before .before .before .before .before .before .before .enum-told .given .0 .0) (c .before .before .before .before .before .before .before .before .before .before .before .enum-told .given .1)) (list-there (start .args .list .now) (c .before .before .before .before .before .before .before .before .before .before .whole-list .result) (c .before .before .before .before .before .before .before .before .before .before .whole-list .ensures) (c .before .before .before .before .before .before .before .before .before .if2 .left)) (c .before .e .given .0 .0) (folds-not f (start .args .out .now) (c .before .before .before .before .before .before .fold-types .last .1 .1 .0) (c .before .before .before .before .before .before .fold-types .result) (c .before .before .before .before .before .before .fold-types .ensures) (c .before .e .given .0 .0) (c .before .e .given .1))
+    fold-refused (start .args .mode) (start .args .schema .now) (start .args .list .now) (start .args .out .now) (length (start .args .work .now)) (mode-as (start .args .mode) (c .before .before .before .before .before .before .before .before .before .before .before .before .before .before .is-mode .result) (c .before .before .before .before .before .before .before .before .before .before .before .before .before .before .is-mode .ensures) (c .before .before .before .before .before .before .before .before .before .before .before .before .before .if1 .left)) _ (checked-there (start .args .schema .now) (start .args .check) (start .pre) (c .before .before .before .before .before .before .before .before .before .before .before .enum-told .given .0 .0) (c .before .before .before .before .before .before .before .before .before .before .before .enum-told .given .1)) (list-there (start .args .list .now) (c .before .before .before .before .before .before .before .before .before .before .whole-list .result) (c .before .before .before .before .before .before .before .before .before .before .whole-list .ensures) (c .before .before .before .before .before .before .before .before .before .if2 .left)) (c .before .e .given .0 .0) (folds-not f (start .args .out .now) (c .before .before .before .before .before .before .fold-types .last .1 .1 .0) (c .before .before .before .before .before .before .fold-types .result) (c .before .before .before .before .before .before .fold-types .ensures) (c .before .e .given .0 .0) (c .before .e .given .1))
 
 pub reduced-spec : {M : Type 1} → statement M
 reduced-spec =
