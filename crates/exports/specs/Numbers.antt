@@ -4,6 +4,7 @@ use mathlib.Core.List.{List}
 use mathlib.Core.Bool.{true, false}
 use mathlib.Core.Path.{_≡_}
 use lib.ListN.{length, replicate}
+use Rattle.cedar.specs.Limits.{standard}
 use Rattle.cedar.specs.Outcome.{Outcome, resultAfter}
 use Rattle.validator.specs.Answers.{answerOf}
 use Rattle.validator.specs.declared.answers.Answer.{Answer}
@@ -41,8 +42,8 @@ Brief (Refused n) = Unit {0}
 Brief Yes = Unit {0}
 Brief No = Unit {0}
 Brief Nothing = Unit {0}
-Brief (Wrote n) = n ≤ 4096
-Brief (Attribute q n) = n ≤ 4096
+Brief (Wrote n) = n ≤ standard .bytes
+Brief (Attribute q n) = n ≤ standard .bytes
 
 -- A call that writes: its number, and the result buffer after it.
 pub record Numbered (o : Outcome) (before after : List ℕ) (r : ℕ) : Type 0 where
@@ -82,4 +83,4 @@ readPart x = partWith (x % 256) (x / 256)
 abbrev pub Narrow : OwnPart → Type 0
 Narrow (parts.Refused n) = Unit {0}
 Narrow parts.Nothing = Unit {0}
-Narrow (parts.At s e q) = (s ≤ 4096) × (e ≤ 4096)
+Narrow (parts.At s e q) = (s ≤ standard .bytes) × (e ≤ standard .bytes)

@@ -9,6 +9,7 @@ use mathlib.Core.Option.{Option, none, some}
 use mathlib.Core.Logic.{_↔_, inl, inr}
 use lib.ListN.{length, take}
 use lib.Seq.{take-append-seam}
+use denote.Ref.{RefT, now}
 use Rattle.cedar.specs.Types.{Ty, Schema, maybe}
 use Rattle.cedar.specs.TypeForm.{enc}
 use Rattle.cedar.specs.Limits.{Limits}
@@ -21,7 +22,7 @@ use Rattle.cedar.specs.Conforms.{Conforms}
 use Rattle.cedar.specs.Outcome.{Outcome, refused, said, nothing, typed, attribute, named, bytesOf, resultAfter}
 use Rattle.cedar.specs.Calls.{ask, modeOf, writeType, disjointCall, boundCall, lookupCall, ownAttributeCall, mayHaveCall, conformsCall}
 use Rattle.cedar.specs.Sequence.{written, LooksUp}
-use Rattle.cedar.specs.Laws.Calls.{ask-case, answer-case, conformsCall-yes}
+use Rattle.cedar.specs.Laws.Calls.{ask-case, answer-case}
 use Rattle.validator.specs.Answers.{answerOf, Answered, AnsweredIn}
 use Rattle.validator.specs.Handed.{toldOf, Handed}
 use Rattle.validator.specs.declared.answers.Answer.{Answer}
@@ -124,20 +125,19 @@ letter-seen (some s) (some u) f q e = go (f u) e
     go none h = no-letter q 0 h (omega arith)
     go (some (b, t)) h = (t, ap (λ (z : Bool). attribute z t) (letter-flag q b t h))
 
-part-finds : (lim : Limits) (schema : List ℕ) (a : ℕ) (t part : List ℕ) (told : ℕ) (q : Bool) → Handed (ownAttributeCall lim schema a t) part told → told ≡ letter q
-    → (y : Ty) × LooksUp lim schema a t q y × (enc y ≡ part)
-part-finds lim schema a t part told q h e =
-    let (y, p) = letter-seen (wholeSchema lim schema) (wholeType lim t) (ownAttr a) q (sym e ∙ h .which) in
-    (y, inr p, sym (h .handed ∙ ap bytesOf p))
+module _ (lim : Limits) (schema : List ℕ) (a : ℕ) (t : List ℕ) (place : Option (ℕ × ℕ)) (own part : RefT (List ℕ)) (told : ℕ) (h : Handed (ownAttributeCall lim schema a t) place own part told) where
+  part-finds : (q : Bool) → told ≡ letter q → (y : Ty) × LooksUp lim schema a t q y × (enc y ≡ now part)
+  part-finds q e =
+      let (y, p) = letter-seen (wholeSchema lim schema) (wholeType lim t) (ownAttr a) q (sym e ∙ h .which) in
+      (y, inr p, sym (h .handed ∙ ap bytesOf p))
 
-module _ (lim : Limits) (schema : List ℕ) (a : ℕ) (t part : List ℕ) (told : ℕ) (h : Handed (ownAttributeCall lim schema a t) part told) where
   -- Lookup's second entry: a part told as r (114) is the form of a type that is looked up as required,
-  pub part-required : told ≡ 114 → (y : Ty) × LooksUp lim schema a t true y × (enc y ≡ part)
-  part-required e = part-finds lim schema a t part told true h e
+  pub part-required : told ≡ 114 → (y : Ty) × LooksUp lim schema a t true y × (enc y ≡ now part)
+  part-required e = part-finds true e
 
   -- and one told as o (111), as optional.
-  pub part-optional : told ≡ 111 → (y : Ty) × LooksUp lim schema a t false y × (enc y ≡ part)
-  part-optional e = part-finds lim schema a t part told false h e
+  pub part-optional : told ≡ 111 → (y : Ty) × LooksUp lim schema a t false y × (enc y ≡ now part)
+  part-optional e = part-finds false e
 
 yes-said : (o : Outcome) → answerOf o ≡ Yes → o ≡ said true
 yes-said (refused m) e = apart (cc)
@@ -167,7 +167,4 @@ may-have-no lim schema a t r h = ((λ e. no-said (mayHaveCall lim schema a t) (s
 
 -- Conformance: Yes is conforming.
 pub conforms-said : (lim : Limits) (schema t v : List ℕ) (r : Answer) → r ≡ answerOf (conformsCall lim schema t v) → (r ≡ Yes) ↔ Conforms lim shorter schema t v
-conforms-said lim schema t v r h = (
-  (λ e. conformsCall-yes lim schema t v .0 (yes-said (conformsCall lim schema t v) (sym h ∙ e))),
-  (λ c. h ∙ ap answerOf (conformsCall-yes lim schema t v .1 c)),
-)
+conforms-said lim schema t v r h = ((λ e. yes-said (conformsCall lim schema t v) (sym h ∙ e)), (λ c. h ∙ ap answerOf c))
