@@ -12,7 +12,7 @@ use Rattle.cedar.specs.Outcome.{Outcome, said, bytesOf}
 use Rattle.cedar.specs.Whole.{wholeType, wholeValue, wholeSchema}
 use Rattle.cedar.specs.Result.{badMode, badSchema, badFirst, badSecond, badValue, notPlain}
 use Rattle.cedar.specs.Consistency.{plain}
-use Rattle.cedar.specs.Conformance.{Verdict, holds, fails, failsInside, unknown}
+use Rattle.cedar.specs.Conformance.{Verdict, holds, fails, failsInside, unknown, shorter, conforms}
 use Rattle.cedar.specs.Calls.{ask, modeOf, ofVerdict, disjointCall, subtypeCall, mayHaveCall, consistentCall, conformsCall}
 use Rattle.cedar.specs.JobForm.{Operation}
 use Rattle.cedar.specs.Lines.{askCall}
@@ -63,7 +63,8 @@ quiet-consistent x y = quiet-ask badFirst (wholeType standard x) _ λ _. quiet-a
 
 pub quiet-conforms : (s x y : List ℕ) → Quiet (conformsCall standard s x y)
 quiet-conforms s x y =
-    quiet-ask badSchema (wholeSchema standard s) _ λ _. quiet-ask badFirst (wholeType standard x) _ λ _. quiet-ask badValue (wholeValue standard y) _ λ _. quiet-verdict _
+    quiet-ask badSchema (wholeSchema standard s) _ λ z. quiet-ask badFirst (wholeType standard x) _ λ t.
+    quiet-ask badValue (wholeValue standard y) _ λ v. quiet-verdict (conforms shorter z t v)
 
 -- An entry that lends no buffer leaves it as it was.
 pub answered-quiet : {o : Outcome} {r : Answer} (before : List ℕ) → Quiet o → r ≡ answerOf o → Answered o before before r
