@@ -1,7 +1,4 @@
 // The calls that check the schema each time. The answers change if two arguments of one type are exchanged.
-use crate::given::Form;
-use crate::given::result;
-use crate::given::workspace;
 use crate::print::print_both;
 use crate::print::print_number;
 use crate::print::print_result;
@@ -17,6 +14,9 @@ use exports::calls::tirncheav_may_have_attr;
 use exports::calls::tirncheav_own_attribute_type;
 use exports::calls::tirncheav_reduce_to_least_upper_bound;
 use exports::calls::tirncheav_typecheck_restricted_expr;
+use trial::Form;
+use trial::result;
+use trial::workspace;
 
 fn ask_disjoint(t0: &[u8], t1: &[u8]) {
     let n = tirncheav_are_types_disjoint(t0, t1);

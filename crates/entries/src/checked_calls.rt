@@ -1,7 +1,4 @@
 // The calls on a schema that was checked before, with the questions of the others.
-use crate::given::Form;
-use crate::given::result;
-use crate::given::workspace;
 use crate::print::print_both;
 use crate::print::print_number;
 use crate::print::print_result;
@@ -15,6 +12,9 @@ use exports::checked_calls::tirncheav_own_attribute_type_checked;
 use exports::checked_calls::tirncheav_reduce_to_least_upper_bound_checked;
 use exports::checked_calls::tirncheav_typecheck_restricted_expr_checked;
 use exports::checks::tirncheav_check_schema;
+use trial::Form;
+use trial::result;
+use trial::workspace;
 
 fn ask_check(schema: &[u8]) {
     let n = tirncheav_check_schema(schema);

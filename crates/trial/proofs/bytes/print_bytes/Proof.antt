@@ -1,8 +1,8 @@
 use Prim.Native.Nat.{_≤_}
 use lib.ListN.{length}
 use borrow.Author.Needs.{needs}
-use Rattle.shown.proofs.print_bytes.Statement.{statement}
-use Rattle.shown.proofs.print_bytes.Tie as tie
+use Rattle.trial.proofs.bytes.print_bytes.Statement.{statement}
+use Rattle.trial.proofs.bytes.print_bytes.Tie as tie
 
 abbrev Inv-loop : tie.InvT-loop
 Inv-loop bytes ahead₀ t4 ahead = 0 ≤ length ahead

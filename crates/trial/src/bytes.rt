@@ -1,4 +1,4 @@
-// How test programs show numbers and bytes, on standard output.
+// Numbers and bytes.
 use streams::write_output;
 
 // Prints a number.

@@ -1,4 +1,4 @@
-// What the entries are given: forms, and buffers that are filled with what no entry writes.
+// What a call is given: forms, and buffers that are filled with what no call writes.
 pub struct Form;
 
 impl Form {
