@@ -14,6 +14,7 @@ from pathlib import Path
 
 ROOT = Path(__file__).resolve().parent.parent
 BIN = ROOT / "target" / "bin"
+F_SETPIPE_SZ = 1031
 
 
 def file(crate, name):
@@ -25,18 +26,20 @@ def without_waiting(end):
 
 
 def full_pipe():
-    """Standard output is a pipe that is full most of the time, and a write to it does not wait."""
+    """Standard output is a pipe of 4,096 bytes that is full most of the time, and a write to it does not wait: lines of 8,197
+    bytes are written in pieces."""
     out, into = os.pipe()
+    fcntl.fcntl(into, F_SETPIPE_SZ, 4096)
     without_waiting(into)
     with open(ROOT / "crates/edges/stdin", "rb") as batch:
         program = subprocess.Popen([BIN / "replay"], stdin=batch, stdout=into)
     os.close(into)
     time.sleep(0.2)
-    got = b""
+    waits, got = program.poll() is None, b""
     while piece := os.read(out, 199):
         got += piece
     program.wait()
-    return got == file("edges", "stdout")
+    return waits and got == file("edges", "stdout")
 
 
 def slow_pipe():
