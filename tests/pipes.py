@@ -1,16 +1,20 @@
 #!/usr/bin/env python3
-"""Runs the built programs (target/bin, after `rt check`) on pipes that are full, slow or cut short, and on what cannot be
-read or written. The gate does not run it: rt gives a program a file for standard input and looks at no message.
+"""Runs the built programs (target/bin, after `rt check`) on pipes that are full, slow or cut short, under calls that are
+interrupted or move one byte (tests/cut.c), and on what cannot be read or written: rt gives a program a file for standard
+input and looks at no message.
 """
 import fcntl
 import os
+import struct
 import subprocess
 import sys
+import tempfile
 import time
 from pathlib import Path
 
 ROOT = Path(__file__).resolve().parent.parent
 BIN = ROOT / "target" / "bin"
+F_SETPIPE_SZ = 1031
 
 
 def file(crate, name):
@@ -22,18 +26,20 @@ def without_waiting(end):
 
 
 def full_pipe():
-    """Standard output is a pipe that is full most of the time, and a write to it does not wait."""
+    """Standard output is a pipe of 4,096 bytes that is full most of the time, and a write to it does not wait: lines of 8,197
+    bytes are written in pieces."""
     out, into = os.pipe()
+    fcntl.fcntl(into, F_SETPIPE_SZ, 4096)
     without_waiting(into)
     with open(ROOT / "crates/edges/stdin", "rb") as batch:
         program = subprocess.Popen([BIN / "replay"], stdin=batch, stdout=into)
     os.close(into)
     time.sleep(0.2)
-    got = b""
+    waits, got = program.poll() is None, b""
     while piece := os.read(out, 199):
         got += piece
     program.wait()
-    return got == file("edges", "stdout")
+    return waits and got == file("edges", "stdout")
 
 
 def slow_pipe():
@@ -47,6 +53,27 @@ def slow_pipe():
         time.sleep(0.001)
     os.close(into)
     return program.communicate()[0] == file("settled", "stdout")
+
+
+def cut_tests():
+    """Each read or each write is short, interrupted or told to wait: what is printed is the same."""
+    tests = {}
+    with tempfile.TemporaryDirectory() as folder:
+        shim = Path(folder) / "cut.so"
+        subprocess.run(["cc", "-Wall", "-Wextra", "-Werror", "-shared", "-fPIC", ROOT / "tests/cut.c", "-o", shim], check=True)
+        for program, crate in (("tirncheav", "tirncheav"), ("replay", "settled"), ("rooms", "rooms")):
+            for call in ("read", "write"):
+                for cut in ("short", "interrupted", "not yet"):
+                    env = {**os.environ, "LD_PRELOAD": str(shim), f"CUT_{call.upper()}": cut}
+                    got = subprocess.run([BIN / program], input=file(crate, "stdin"), env=env, capture_output=True)
+                    tests[f"{program}: each {call} {cut}"] = (got.stdout, got.stderr) == (file(crate, "stdout"), b"")
+    return tests
+
+
+def longest_job():
+    """A whole job of 32,768 bytes: the empty schema, and the fold of a list that is not whole."""
+    body = 32768 - 4 - 8 - 6
+    return struct.pack("<HHBBHHH", 6, 1, 9, 0, 0, body, 0) + bytes(6) + bytes(body)
 
 
 def said(program, given, output=subprocess.PIPE):
@@ -72,9 +99,12 @@ def main():
         "a job that is too long": said("replay", b"\1\0\1\0") == (b"", "standard input: a job is too long\n"),
         "a call that is cut short": said("rooms", calls[:30]) == (b"", "standard input: a call is cut short\n"),
         "a job with a byte over": said("tirncheav", job + b"\0") == (b"- 16 -\n", ""),
+        "a job of 32,768 bytes": said("tirncheav", longest_job()) == (b"0 3 -\n", ""),
+        "a job of 32,768 bytes with a byte over": said("tirncheav", longest_job() + b"\0") == (b"- 16 -\n", ""),
         "a job of 40,000 bytes": said("tirncheav", bytes(40000)) == (b"- 16 -\n", ""),
         "nowhere to write": unwritten == "standard output: No space left on device\n",
         "nothing to read": unread == "standard input: Is a directory\n",
+        **cut_tests(),
     }
     failed = [name for name, held in tests.items() if not held]
     for name in failed:

@@ -1,11 +1,13 @@
 //! Calls as the program `rooms` reads them, and the lines that it prints:
-//! refusal or 0, answer, every byte of the result buffer and the workspace.
+//! refusal or 0, answer, every byte of the result buffer and the workspace; for
+//! the second entry of lookup, where the part starts and ends, and its bytes.
 
 use crate::forms::Bytes;
 use crate::harness::{Judged, UNTOUCHED};
 use crate::jobs::read_job;
 use crate::questions::{lookup_part, operation::*, Call, Outcome, Part};
 use std::fmt::Write;
+use std::ops::Range;
 
 /// The second entry of lookup, which is no operation of a job.
 const OWN: u8 = 11;
@@ -59,7 +61,9 @@ fn part_line(form: &[u8], part: Part) -> String {
         Part::Nothing => "0 none []".into(),
         Part::Attribute(required, at) => {
             let flag = if required { 'r' } else { 'o' };
-            format!("0 {flag}:{}{}", at.len(), bracketed(&form[at]))
+            let Range { start, end } = at;
+            let bytes = bracketed(&form[start..end]);
+            format!("0 {flag}:{start}..{end}{bytes}")
         }
     }
 }

@@ -1,0 +1,125 @@
+// The calls on a schema that was checked before, with the questions of the others.
+use crate::print::print_both;
+use crate::print::print_number;
+use crate::print::print_result;
+use exports::checked_calls::tirncheav_all_attributes_checked;
+use exports::checked_calls::tirncheav_euid_literal_checked;
+use exports::checked_calls::tirncheav_is_subtype_checked;
+use exports::checked_calls::tirncheav_least_upper_bound_checked;
+use exports::checked_calls::tirncheav_lookup_attribute_type_checked;
+use exports::checked_calls::tirncheav_may_have_attr_checked;
+use exports::checked_calls::tirncheav_own_attribute_type_checked;
+use exports::checked_calls::tirncheav_reduce_to_least_upper_bound_checked;
+use exports::checked_calls::tirncheav_typecheck_restricted_expr_checked;
+use exports::checks::tirncheav_check_schema;
+use trial::Form;
+use trial::result;
+use trial::workspace;
+
+fn ask_check(schema: &[u8]) {
+    let n = tirncheav_check_schema(schema);
+    print_number(b"check_schema", n);
+}
+
+fn ask_subtype(schema: &[u8]) {
+    let check = tirncheav_check_schema(schema);
+    let n = tirncheav_is_subtype_checked(schema, check, 1, &Form::ENTITY_2, &Form::BOTH);
+    print_number(b"is_subtype_checked", n);
+}
+
+fn ask_bound(schema: &[u8], t0: &[u8], t1: &[u8]) {
+    let check = tirncheav_check_schema(schema);
+    let mut out = result();
+    let n = tirncheav_least_upper_bound_checked(schema, check, 1, t0, t1, &mut out);
+    print_result(b"least_upper_bound_checked", n, &out);
+}
+
+fn ask_fold(schema: &[u8]) {
+    let check = tirncheav_check_schema(schema);
+    let mut out = result();
+    let mut work = workspace();
+    let n = tirncheav_reduce_to_least_upper_bound_checked(
+        schema,
+        check,
+        1,
+        &Form::LIST,
+        &mut out,
+        &mut work,
+    );
+    print_both(b"reduce_to_least_upper_bound_checked", n, &out, &work);
+}
+
+fn ask_lookup(schema: &[u8]) {
+    let check = tirncheav_check_schema(schema);
+    let mut out = result();
+    let mut work = workspace();
+    let n = tirncheav_lookup_attribute_type_checked(
+        schema,
+        check,
+        1,
+        &Form::BOTH,
+        &mut out,
+        &mut work,
+    );
+    print_both(b"lookup_attribute_type_checked", n, &out, &work);
+}
+
+fn ask_own(schema: &[u8]) {
+    let check = tirncheav_check_schema(schema);
+    let n = tirncheav_own_attribute_type_checked(schema, check, 1, &Form::RECORD);
+    print_number(b"own_attribute_type_checked", n);
+}
+
+fn ask_may_have(schema: &[u8]) {
+    let check = tirncheav_check_schema(schema);
+    let n = tirncheav_may_have_attr_checked(schema, check, 1, &Form::ENTITY_2);
+    print_number(b"may_have_attr_checked", n);
+}
+
+fn ask_names(schema: &[u8]) {
+    let check = tirncheav_check_schema(schema);
+    let mut out = result();
+    let mut work = workspace();
+    let n = tirncheav_all_attributes_checked(schema, check, &Form::BOTH, &mut out, &mut work);
+    print_both(b"all_attributes_checked", n, &out, &work);
+}
+
+fn ask_conforms(schema: &[u8]) {
+    let check = tirncheav_check_schema(schema);
+    let n = tirncheav_typecheck_restricted_expr_checked(
+        schema,
+        check,
+        &Form::ENTITY_2,
+        &Form::UID_2,
+    );
+    print_number(b"typecheck_restricted_expr_checked", n);
+}
+
+fn ask_literal(schema: &[u8]) {
+    let check = tirncheav_check_schema(schema);
+    let mut out = result();
+    let n = tirncheav_euid_literal_checked(schema, check, &Form::UID_3, &mut out);
+    print_result(b"euid_literal_checked", n, &out);
+}
+
+pub fn ask_all_checked(schema: &[u8]) {
+    ask_check(schema);
+    ask_subtype(schema);
+    ask_bound(schema, &Form::ENTITY_2, &Form::ENTITY_4);
+    ask_bound(schema, &Form::LONG, &Form::BROKEN);
+    ask_fold(schema);
+    ask_lookup(schema);
+    ask_own(schema);
+    ask_may_have(schema);
+    ask_names(schema);
+    ask_conforms(schema);
+    ask_literal(schema);
+}
+
+// The entries that read nothing of a whole schema, under one that is not whole.
+pub fn ask_broken(schema: &[u8]) {
+    ask_check(schema);
+    ask_subtype(schema);
+    ask_bound(schema, &Form::ENTITY_2, &Form::ENTITY_4);
+    ask_own(schema);
+}

@@ -1,0 +1,110 @@
+#!/usr/bin/env python3
+"""Compiles C programs with include/tirncheav.h, links them with the static library (target/staticlib, after `rt staticlib
+exports`), and holds what they print to a text: the example of bindings/c, and tests/entries.c, which calls each entry by
+position.
+
+Then shows that entries.c would tell: the linker puts a function before each entry that passes its arguments on as an entry
+would see them whose source has two parameters exchanged. For each entry and each two of its parameters the lines must differ.
+"""
+import itertools
+import os
+import re
+import resource
+import subprocess
+import sys
+import tempfile
+from pathlib import Path
+
+ROOT = Path(__file__).resolve().parent.parent
+LIBRARY = ROOT / "target/staticlib/libexports.a"
+ENTRY = re.compile(r'pub extern "C" fn (\w+)\((.*?)\) -> u64', re.S)
+CTYPES = {"u8": ["uint8_t"], "u16": ["uint16_t"], "u64": ["uint64_t"], "&[u8]": ["const uint8_t *", "size_t"],
+          "&mut [u8]": ["uint8_t *", "size_t"]}
+
+
+def entries():
+    """Each C entry with its parameters, as the source has them: name and type."""
+    for path in sorted((ROOT / "crates/exports/src").glob("*.rt")):
+        for name, text in ENTRY.findall(path.read_text()):
+            yield name, [tuple(part.strip().split(": ")) for part in text.split(",") if part.strip()]
+
+
+def compiled(program, *words):
+    """Compiles C without a warning."""
+    command = ["cc", "-std=c99", "-Wall", "-Wextra", "-Werror", "-O2", "-I", ROOT / "include", *words, LIBRARY]
+    subprocess.run([*command, "-o", program], check=True)
+    return program
+
+
+def printed(program, exchange=""):
+    """What a program prints, up to where it ends or breaks off."""
+    run = subprocess.run([program], env={**os.environ, "EXCHANGE": exchange}, capture_output=True, timeout=60)
+    return run.stdout.decode(), run.returncode
+
+
+def passed_on(name, parameters, order):
+    """A call of the entry itself, whose parameters find their words where `order` has them."""
+    at, words = 0, {}
+    for parameter, kind in order:
+        words[parameter] = [f"({ctype})w{at + i}" for i, ctype in enumerate(CTYPES[kind])]
+        at += len(CTYPES[kind])
+    return f"__real_{name}({', '.join(word for parameter, _ in parameters for word in words[parameter])})"
+
+
+def exchanged(parameters, i, j):
+    order = list(parameters)
+    order[i], order[j] = order[j], order[i]
+    return order
+
+
+def exchanges(parameters):
+    return itertools.combinations(range(len(parameters)), 2)
+
+
+def in_between(name, parameters):
+    """The function before an entry, in C."""
+    ctypes = [ctype for _, kind in parameters for ctype in CTYPES[kind]]
+    words = ", ".join(f"uint64_t w{at}" for at in range(len(ctypes)))
+    lines = [f"uint64_t __real_{name}({', '.join(ctypes)});", f"uint64_t __wrap_{name}({words}) {{"]
+    for i, j in exchanges(parameters):
+        call = passed_on(name, parameters, exchanged(parameters, i, j))
+        lines.append(f'    if (strcmp(getenv("EXCHANGE"), "{name} {i} {j}") == 0) return {call};')
+    return "\n".join([*lines, f"    return {passed_on(name, parameters, parameters)};", "}"])
+
+
+def exchange_tests(folder, expected):
+    """For each entry, the exchanges of two parameters that leave the lines as they are: there should be none."""
+    known = list(entries())
+    source = folder / "between.c"
+    heads = "#include <stdint.h>\n#include <stdlib.h>\n#include <string.h>\n"
+    source.write_text(heads + "\n".join(in_between(*entry) for entry in known) + "\n")
+    wraps = [f"-Wl,--wrap={name}" for name, _ in known]
+    program = compiled(folder / "exchanged", ROOT / "tests/entries.c", source, *wraps)
+    tests = {"arguments passed on as they are": printed(program) == (expected, 0)}
+    for name, parameters in known:
+        for i, j in exchanges(parameters):
+            told = printed(program, f"{name} {i} {j}")[0] != expected
+            tests[f"{name}: {parameters[i][0]} and {parameters[j][0]} exchanged"] = told
+    return tests
+
+
+def main():
+    resource.setrlimit(resource.RLIMIT_CORE, (0, 0))
+    example, expected = ((ROOT / path).read_text() for path in ("bindings/c/example.stdout", "crates/entries/stdout"))
+    with tempfile.TemporaryDirectory() as name:
+        folder = Path(name)
+        tests = {
+            "the C example": printed(compiled(folder / "example", ROOT / "bindings/c/example.c")) == (example, 0),
+            "the C entries": printed(compiled(folder / "entries", ROOT / "tests/entries.c")) == (expected, 0),
+            "each entry is called": all(f"\n{name[len('tirncheav_'):]} 0x" in "\n" + expected for name, _ in entries()),
+            **exchange_tests(folder, expected),
+        }
+    failed = [name for name, held in tests.items() if not held]
+    for name in failed:
+        print("FAILED:", name)
+    print(f"{len(tests) - len(failed)} passed, {len(failed)} failed")
+    sys.exit(bool(failed))
+
+
+if __name__ == "__main__":
+    main()
