@@ -4,6 +4,7 @@ use validator::answers::Answer;
 ghost use mathlib.Core.Path.{_≡_};
 ghost use lib.ListN.{length};
 ghost use Rattle.cedar.specs.Limits.{standard};
+ghost use Rattle.cedar.specs.BodyPlace.{bodyIn};
 ghost use Rattle.cedar.specs.Calls.{subtypeCall, boundCall, foldCall, lookupCall, ownAttributeCall, mayHaveCall, namesCall, conformsCall, literalCall};
 ghost use Rattle.validator.specs.Answers.{answerOf, Answered, AnsweredIn};
 ghost use Rattle.validator.specs.Handed.{Handed};
@@ -45,7 +46,7 @@ pub fn lookup_attribute_type(
 }
 
 pub fn own_attribute_type<'b>(schema: &[u8], attr: u16, t: &'b [u8], told: &mut u8) -> &'b [u8]
-    ensures { λ r. ⌜ Handed (ownAttributeCall standard (now (schema .entry)) attr (now (t .entry))) (now r) (now (told .exit)) ⌝ }
+    ensures { λ r. ⌜ Handed (ownAttributeCall standard (now (schema .entry)) attr (now (t .entry))) (bodyIn standard attr (now (t .entry))) (t .entry) r (now (told .exit)) ⌝ }
 {
     ValidatorSchema::new(schema).own_attribute_type(attr, t, told)
 }

@@ -36,6 +36,7 @@ use denote.Triple.Walked.{says, Stays, stay-dropped, walkOf, goes-dropped, Walks
 use denote.Exit.{yes}
 use denote.Triple.Clauses.{ensured, lasts}
 use Rattle.cedar.specs.Limits.{standard}
+use Rattle.cedar.specs.BodyPlace.{bodyIn}
 use Rattle.cedar.specs.Calls.{ownAttributeCall}
 use Rattle.validator.specs.Handed.{Handed}
 use Rattle.reader.specs.Kept.{Sound}
@@ -119,7 +120,7 @@ module _ {M : Type 1} (𝓤 : URA M) (H : Heap 𝓤) (A : Atoms 𝓤) (W : Given
 
   -- what is said of the result and of the last values, of a schema's bytes
   abbrev Said : List ℕ → RefT (List ℕ) → ℕ → Type 0
-  Said block r told′ = Handed (ownAttributeCall standard block attr (now t)) (now r) told′
+  Said block r told′ = Handed (ownAttributeCall standard block attr (now t)) (bodyIn standard attr (now t)) t r told′
 
   exits : (r : RefT (List ℕ)) (u : Val) (zs : (Unit {0} × (Unit {0} × (Unit {0} × (ℕ × Unit {0}))))) → Said (now s) r (zs .1 .1 .1 .0)
       → ent 𝓤 (⋆ 𝓤 H A (‵ (ShrSlice (named 1) κ₁ u8 .own r (u ∷ [])) ∷ (‵ (flft κ q) ⊛ ‵ (flft κ₁ q₁) ⊛ ‵ (flft κ₂ q₂) ⊛ ‵ ftrue) ∷ ‵ (fres (name told) (u8 .coded .code (zs .1 .1 .1 .0))) ∷ [])) (Post u)
