@@ -5,7 +5,7 @@ use super::conformance::Walk;
 use super::relations::find;
 use super::Rules;
 use crate::questions::{operation::*, Call, Outcome, Part};
-use crate::trees::{Sch, Ty, Val};
+use crate::trees::{Attr, Sch, Ty, Val};
 
 /// A question: its number if the answer is no.
 fn ask(number: u8, yes: bool) -> Result<(), u8> {
@@ -208,12 +208,16 @@ pub fn part(rules: Rules, schema: &[u8], form: &[u8], attr: u16) -> Part {
     let Some(found) = find(attrs, attr) else {
         return Part::Nothing;
     };
-    let from = attrs.iter().take_while(|a| a.name < attr);
+    let body = found.ty.form();
+    let other = |a: &&Attr| rules.or(214, a.name < attr, a.ty != found.ty);
+    let before = attrs.iter().take_while(other);
     let after: usize = attrs
         .iter()
-        .skip(from.count())
+        .skip(before.count())
         .map(|a| a.ty.form().len())
         .sum();
-    let start = form.len() - after;
-    Part::Attribute(found.required, start..start + found.ty.form().len())
+    let first = form.windows(body.len()).position(|w| w == body);
+    let start = rules.or(215, Some(form.len() - after), first);
+    let start = start.expect("the body is a part of the form");
+    Part::Attribute(found.required, start..start + body.len())
 }

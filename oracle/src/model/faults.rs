@@ -202,4 +202,6 @@ pub const FAULTS: &[(u32, &str)] = &[
     (211, "a refused question ends the job"),
     (212, "a job without a question is 16"),
     (213, "the first body of a question comes after the second"),
+    (214, "the part is the first body that equals the attribute's"),
+    (215, "the part is where its bytes first stand in the form"),
 ];
