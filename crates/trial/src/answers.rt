@@ -4,13 +4,13 @@ use streams::write_output;
 use validator::answers::Answer;
 
 // Prints a word and a number.
-fn print_counted(word: &[u8], n: usize) {
+pub fn print_counted(word: &[u8], n: usize) {
     write_output(word);
     print_decimal(n);
 }
 
 // Prints a refusal.
-fn print_refusal(n: u8) {
+pub fn print_refusal(n: u8) {
     print_decimal(n as usize);
     write_output(b" -");
 }
