@@ -1,7 +1,7 @@
 -- The calls: any bytes, any mode number, any room, to an outcome. Each asks its questions in 01's order; the first no refuses.
 use Prim.Native.Nat.{ℕ, zero, suc, _/_, min}
 use mathlib.Core.List.{List}
-use mathlib.Core.Bool.{Bool, true, false, cond}
+use mathlib.Core.Bool.{Bool, true, false}
 use mathlib.Core.Option.{Option, none, some}
 use lib.Dec.{leb}
 use lib.ListN.{length}
@@ -10,7 +10,8 @@ use Rattle.cedar.specs.Bytes.{encNames, _>>=_, guard}
 use Rattle.cedar.specs.TypeForm.{enc}
 use Rattle.cedar.specs.Limits.{Limits}
 use Rattle.cedar.specs.Whole.{wholeType, wholeValue, wholeList, wholeSchema}
-use Rattle.cedar.specs.Result.{Result, ok, err, badMode, badSchema, badFirst, badSecond, badValue, notPlain, unknownFunction, notConvertible, answerTooLong}
+use Rattle.cedar.specs.Result.{Result, ok, err, badMode, badSchema, badFirst, badSecond, badValue, notPlain, unknownFunction, notConvertible}
+use Rattle.cedar.specs.Result.{answerTooLong}
 use Rattle.cedar.specs.Outcome.{Outcome, refused, said, nothing, typed, attribute, named}
 use Rattle.cedar.specs.Disjoint.{disjoint}
 use Rattle.cedar.specs.Subtype.{sub}
@@ -42,7 +43,7 @@ stepFits lim work t = leb (length (enc t)) (min (work / 2) (lim .bytes))
 
 -- An answer's bytes are tested last.
 abbrev pub answer : Limits → ℕ → List ℕ → Outcome → Outcome
-answer lim room w o = cond (answerFits lim room w) o (refused answerTooLong)
+answer lim room w o = ask answerTooLong (guard (answerFits lim room w)) λ _. o
 
 -- A type that is written, or the refusal before it.
 abbrev pub writeType : Limits → ℕ → Result Ty → Outcome

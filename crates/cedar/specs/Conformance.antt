@@ -5,7 +5,8 @@ use mathlib.Core.Bool.{Bool, true, false, not, _&&_, _||_, cond}
 use mathlib.Core.Option.{Option, none, some}
 use lib.Dec.{eqb}
 use Rattle.cedar.specs.Types.{Atom, never, true′, false′, bool, long, string, anyset, anyent, Ty, atom, set, rec, act, ent, ext, Attrs, nil, attr}
-use Rattle.cedar.specs.Types.{Value, boolean, number, text, uid, setOf, recordOf, call, Values, end, value, Pairs, empty, pair, Arg, argBool, argLong, argString, argExt, Function, Schema}
+use Rattle.cedar.specs.Types.{Value, boolean, number, text, uid, setOf, recordOf, call, Values, end, value, Pairs, empty, pair, Arg, argBool, argLong}
+use Rattle.cedar.specs.Types.{argString, argExt, Function, Schema}
 use Rattle.cedar.specs.Types.{isAction, maybe, present, mem}
 
 -- Yes; no; no, after an unknown function inside an argument; or an unknown function that the walk reaches (7).
@@ -155,7 +156,8 @@ unfoldable mutual
   ofArgument c s (uid k i) a = fails
   ofArgument c s (setOf vs) a = fails
   ofArgument c s (recordOf ps) a = fails
-  ofArgument c s (call f vs) a = maybe fails (λ e. maybe failsInside (λ g. andThen (verdict (returnsExt g e)) (ofArguments c s vs (g .args))) (functionOf s f)) (argExtension a)
+  ofArgument c s (call f vs) a =
+      maybe fails (λ e. maybe failsInside (λ g. andThen (verdict (returnsExt g e)) (ofArguments c s vs (g .args))) (functionOf s f)) (argExtension a)
 
   -- Arguments pairwise.
   pub ofArguments : Counts → Schema → Values → List Arg → Verdict

@@ -16,7 +16,9 @@ pub data Operation : Type 0 where
 
 -- The operation of a number.
 abbrev pub operationOf : ℕ → Option Operation
-operationOf k = getD (some subtypeOp ∷ some boundOp ∷ some disjointOp ∷ some lookupOp ∷ some mayHaveOp ∷ some namesOp ∷ some consistentOp ∷ some convertOp ∷ some conformsOp ∷ some foldOp ∷ some literalOp ∷ []) k none
+operationOf k =
+    getD (some subtypeOp ∷ some boundOp ∷ some disjointOp ∷ some lookupOp ∷ some mayHaveOp ∷ some namesOp ∷ some consistentOp ∷ some convertOp ∷ some
+    conformsOp ∷ some foldOp ∷ some literalOp ∷ []) k none
 
 -- Only subtype, bound and fold take a mode.
 abbrev pub takesMode : Operation → Bool

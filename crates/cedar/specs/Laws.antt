@@ -22,7 +22,6 @@ pub mod JoinBytes
 pub mod BoundWhole
 pub mod Lost
 pub mod Lengths
-pub mod Conversion
 pub mod Verdicts
 pub mod SubtypeSound
 pub mod BoundSound

@@ -7,8 +7,10 @@ use Rattle.cedar.specs.Types.{maybe}
 use Rattle.cedar.specs.Limits.{Limits, standard}
 use Rattle.cedar.specs.Result.{badJob}
 use Rattle.cedar.specs.Outcome.{Outcome, refused, said, nothing, typed, attribute, named, bytesOf}
-use Rattle.cedar.specs.Calls.{literalCall, disjointCall, subtypeCall, boundCall, foldCall, lookupCall, mayHaveCall, namesCall, consistentCall, convertCall, conformsCall}
-use Rattle.cedar.specs.JobForm.{Operation, subtypeOp, boundOp, disjointOp, lookupOp, mayHaveOp, namesOp, consistentOp, convertOp, conformsOp, foldOp, literalOp, Question, wholeJob}
+use Rattle.cedar.specs.Calls.{literalCall, disjointCall, subtypeCall, boundCall, foldCall, lookupCall, mayHaveCall, namesCall, consistentCall}
+use Rattle.cedar.specs.Calls.{convertCall, conformsCall}
+use Rattle.cedar.specs.JobForm.{Operation, subtypeOp, boundOp, disjointOp, lookupOp, mayHaveOp, namesOp, consistentOp, convertOp, conformsOp, foldOp}
+use Rattle.cedar.specs.JobForm.{literalOp, Question, wholeJob}
 
 -- The bytes of a job's workspace.
 abbrev pub jobWork : ℕ
@@ -65,19 +67,19 @@ numberOf (attribute r t) = 0
 numberOf (named ns) = 0
 
 -- What stands before an answer's bytes, or the whole answer: -, yes, no, none, r:, o:.
-abbrev pub wordOf : Outcome → List ℕ
-wordOf (refused n) = 45 ∷ []
-wordOf (said true) = 121 ∷ 101 ∷ 115 ∷ []
-wordOf (said false) = 110 ∷ 111 ∷ []
-wordOf nothing = 110 ∷ 111 ∷ 110 ∷ 101 ∷ []
-wordOf (typed t) = []
-wordOf (attribute true t) = 114 ∷ 58 ∷ []
-wordOf (attribute false t) = 111 ∷ 58 ∷ []
-wordOf (named ns) = []
+abbrev pub answerText : Outcome → List ℕ
+answerText (refused n) = 45 ∷ []
+answerText (said true) = 121 ∷ 101 ∷ 115 ∷ []
+answerText (said false) = 110 ∷ 111 ∷ []
+answerText nothing = 110 ∷ 111 ∷ 110 ∷ 101 ∷ []
+answerText (typed t) = []
+answerText (attribute true t) = 114 ∷ 58 ∷ []
+answerText (attribute false t) = 111 ∷ 58 ∷ []
+answerText (named ns) = []
 
 -- A line: index, refusal or 0, answer, single spaces between, newline.
 abbrev pub line : ℕ → Outcome → List ℕ
-line i o = decimal i ++ (32 ∷ decimal (numberOf o) ++ (32 ∷ wordOf o ++ (hex (bytesOf o) ++ (10 ∷ []))))
+line i o = decimal i ++ (32 ∷ decimal (numberOf o) ++ (32 ∷ answerText o ++ (hex (bytesOf o) ++ (10 ∷ []))))
 
 -- The lines of questions, from index i on.
 abbrev pub linesFrom : List ℕ → ℕ → List (Question × (List ℕ × List ℕ)) → List ℕ

@@ -67,7 +67,8 @@ copied xs x y (some w) = xs ++ (record { form = w; madeFrom = length xs ∷ (x .
 -- The list after a step; a position that is not there adds nothing.
 abbrev pub afterStep : Limits → List ℕ → List Listed → Step → List Listed
 afterStep lim schema xs c =
-    maybe xs (λ x. maybe xs (λ y. copied xs x y (written (boundCall lim (c .mode) schema (x .form) (y .form) (c .room)))) (standing xs (c .right))) (standing xs (c .left))
+    maybe xs (λ x. maybe xs (λ y. copied xs x y (written (boundCall lim (c .mode) schema (x .form) (y .form) (c .room)))) (standing xs (c .right)))
+    (standing xs (c .left))
 
 -- The list after some steps.
 abbrev pub afterSteps : Limits → List ℕ → List Listed → List Step → List Listed

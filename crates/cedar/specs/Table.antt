@@ -11,7 +11,8 @@ use Rattle.cedar.specs.Bytes.{word, guard, finish, _>>=_}
 module _ {H S A : Type 0} where
   -- `rows read next p c s es bs`: c entries off the front of es with their bodies off the front of bs, and what is left of both.
   -- `read` takes an entry off the front: head, length, rest. `next` says whether a head may follow. `p` reads a head's body.
-  abbrev pub rows : (List ℕ → Option (H × ℕ × List ℕ)) → (S → H → Option S) → (H → List ℕ → Option A) → ℕ → S → List ℕ → List ℕ → Option (List (H × A) × List ℕ × List ℕ)
+  abbrev pub rows : (List ℕ → Option (H × ℕ × List ℕ)) → (S → H → Option S) → (H → List ℕ → Option A) → ℕ → S → List ℕ → List ℕ →
+      Option (List (H × A) × List ℕ × List ℕ)
   rows read next p zero s es bs = some ([], es, bs)
   rows read next p (suc c) s es bs = do
     (h, l, rest) ← read es

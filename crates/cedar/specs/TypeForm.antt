@@ -16,7 +16,10 @@ pub data Kind : Type 0 where
 
 -- The kind of a first byte: the kinds in the order of their numbers, 0 to 12.
 abbrev pub kindOf : ℕ → Kind
-kindOf k = getD (one never ∷ one true′ ∷ one false′ ∷ one bool ∷ one long ∷ one string ∷ one anyset ∷ setKind ∷ recKind ∷ one anyent ∷ entKind ∷ actKind ∷ extKind ∷ []) k noKind
+kindOf k =
+    getD
+    (one never ∷ one true′ ∷ one false′ ∷ one bool ∷ one long ∷ one string ∷ one anyset ∷ setKind ∷ recKind ∷ one anyent ∷ entKind ∷ actKind ∷ extKind ∷ [])
+    k noKind
 
 -- The kind number of a set.
 abbrev pub setCode : ℕ

@@ -7,7 +7,8 @@ use mathlib.Core.Path.{_≡_, sym, ap, _∙_, subst}
 use mathlib.Core.Option.{Option, none, some, Option·some-injective}
 use mathlib.Core.Logic.{inl, inr}
 use lib.Dec.{T, eqb, eqb→eq}
-use Rattle.cedar.specs.Types.{permissive, Atom, never, true′, false′, bool, long, string, anyset, anyent, Ty, atom, set, rec, act, ent, ext, Attrs, nil, Entity, Schema, maybe, present, is, mem, find, asAct}
+use Rattle.cedar.specs.Types.{permissive, Atom, never, true′, false′, bool, long, string, anyset, anyent, Ty, atom, set, rec, act, ent, ext, Attrs, nil}
+use Rattle.cedar.specs.Types.{Entity, Schema, maybe, present, is, mem, find, asAct}
 use Rattle.cedar.specs.Types.{Value, boolean, number, text, uid, setOf, recordOf, call, Pairs, empty, pair}
 use Rattle.cedar.specs.Laws.Shape.{Ordered, OrderedFrom}
 use Rattle.cedar.specs.Result.{ok}
@@ -69,7 +70,8 @@ module _ (rule : Counts) (schema : Schema) where
     pub typed : (x : Value) → InPairs a x ps → Holds (conforms rule schema (y .1) x)
     pub there-if : T (y .0) → T (hasName a ps)
 
-  record-has : (a : ℕ) (o : Bool) (xs : Attrs) (y : Bool × Ty) (ps : Pairs) → find a xs ≡ some y → Holds (conforms rule schema (rec o xs) (recordOf ps)) → Has a y ps
+  record-has : (a : ℕ) (o : Bool) (xs : Attrs) (y : Bool × Ty) (ps : Pairs) → find a xs ≡ some y → Holds (conforms rule schema (rec o xs) (recordOf ps)) →
+      Has a y ps
   unfolding conforms
   record-has a o xs y ps e c =
       let (c₁, c₂) = andThen→ (eachPair (λ n x. conformsAt rule schema o xs n x) ps) (verdict (hasRequired xs ps)) c in
@@ -136,7 +138,8 @@ module _ (rule : Counts) (schema : Schema) where
       go (some d) p q = record-has a (d .isOpen) (d .attrs) z ps p q
 
   -- The pairs of a record's value.
-  record-lookup : (a : ℕ) (o : Bool) (xs : Attrs) (y : Bool × Ty) (v : Value) (ps : Pairs) → find a xs ≡ some y → Holds (conforms rule schema (rec o xs) v) → CarriesPairs rule schema v ps → Has a y ps
+  record-lookup : (a : ℕ) (o : Bool) (xs : Attrs) (y : Bool × Ty) (v : Value) (ps : Pairs) → find a xs ≡ some y → Holds (conforms rule schema (rec o xs) v) →
+      CarriesPairs rule schema v ps → Has a y ps
   unfolding conforms
   record-lookup a p xs y (boolean b) ps e c g = absurd g
   record-lookup a p xs y (number l) ps e c g = absurd g
@@ -147,7 +150,8 @@ module _ (rule : Counts) (schema : Schema) where
   record-lookup a p xs y (call f vs) ps e c g = absurd g
 
   -- Lookup's type holds of the pairs that a value of the type carries, and what it calls required is there.
-  pub lookup-sound : (fits : Ty → Bool) → EntriesOrdered schema → (a : ℕ) (t : Ty) (y : Bool × Ty) (v : Value) (ps : Pairs) → asAct t ≡ none → lookup fits schema a t ≡ ok (some y) → Holds (conforms rule schema t v) → CarriesPairs rule schema v ps → Has a y ps
+  pub lookup-sound : (fits : Ty → Bool) → EntriesOrdered schema → (a : ℕ) (t : Ty) (y : Bool × Ty) (v : Value) (ps : Pairs) → asAct t ≡ none →
+      lookup fits schema a t ≡ ok (some y) → Holds (conforms rule schema t v) → CarriesPairs rule schema v ps → Has a y ps
   unfolding conforms
   lookup-sound fits o a (atom k) y v ps i e c g = none-ok e
   lookup-sound fits o a (set t) y v ps i e c g = none-ok e
@@ -166,7 +170,8 @@ module _ (rule : Counts) (schema : Schema) where
   lookup-sound fits o a (ext n) y v ps i e c g = none-ok e
 
   -- So does what a record's own attribute says.
-  pub ownAttr-sound : (a : ℕ) (t : Ty) (y : Bool × Ty) (v : Value) (ps : Pairs) → asAct t ≡ none → ownAttr a t ≡ some y → Holds (conforms rule schema t v) → CarriesPairs rule schema v ps → Has a y ps
+  pub ownAttr-sound : (a : ℕ) (t : Ty) (y : Bool × Ty) (v : Value) (ps : Pairs) → asAct t ≡ none → ownAttr a t ≡ some y → Holds (conforms rule schema t v) →
+      CarriesPairs rule schema v ps → Has a y ps
   ownAttr-sound a (atom k) y v ps i e c g = none-some e
   ownAttr-sound a (set t) y v ps i e c g = none-some e
   ownAttr-sound a (rec p xs) y v ps i e c g = record-lookup a p xs y v ps e c g
@@ -175,15 +180,20 @@ module _ (rule : Counts) (schema : Schema) where
   ownAttr-sound a (ext n) y v ps i e c g = none-some e
 
   -- A name that a closed record lacks is not there.
-  closed-lacks : (a : ℕ) (o : Bool) (xs : Attrs) (ps : Pairs) → (T (o || present (find a xs)) → ⊥) → Holds (conforms rule schema (rec o xs) (recordOf ps)) → T (hasName a ps) → ⊥
+  closed-lacks : (a : ℕ) (o : Bool) (xs : Attrs) (ps : Pairs) → (T (o || present (find a xs)) → ⊥) → Holds (conforms rule schema (rec o xs) (recordOf ps)) →
+      T (hasName a ps) → ⊥
   unfolding conforms
   closed-lacks a o xs ps n c h =
       let (c₁, c₂) = andThen→ (eachPair (λ k x. conformsAt rule schema o xs k x) ps) (verdict (hasRequired xs ps)) c in
       name-pair a ps h λ x i.
       let z : find a xs ≡ none = none-of (find a xs) (not-T→false (present (find a xs)) (λ t. n (or-inr o (present (find a xs)) t))) in
-      n (or-inl o (present (find a xs)) (verdict→T o (subst Holds (conformsAt-find rule schema xs o a x ∙ ap (maybe (verdict o) (λ y. conforms rule schema (y .1) x)) z) (eachPair-at (λ k w. conformsAt rule schema o xs k w) i c₁))))
+      n (or-inl o (present (find a xs))
+      (verdict→T o
+      (subst Holds (conformsAt-find rule schema xs o a x ∙ ap (maybe (verdict o) (λ y. conforms rule schema (y .1) x)) z)
+      (eachPair-at (λ k w. conformsAt rule schema o xs k w) i c₁))))
 
-  type-lacks : (a k : ℕ) (ps : Pairs) (d : Option Entity) → (T (maybe true (λ e. e .isOpen || present (find a (e .attrs))) d) → ⊥) → CarriesEntry rule schema d ps → T (hasName a ps) → ⊥
+  type-lacks : (a k : ℕ) (ps : Pairs) (d : Option Entity) → (T (maybe true (λ e. e .isOpen || present (find a (e .attrs))) d) → ⊥) →
+      CarriesEntry rule schema d ps → T (hasName a ps) → ⊥
   type-lacks a k ps none n c h = n tt
   type-lacks a k ps (some e) n c h = closed-lacks a (e .isOpen) (e .attrs) ps n c h
 
@@ -195,7 +205,8 @@ module _ (rule : Counts) (schema : Schema) where
   ]
 
   -- An atom whose uids may not have an attribute has none, and no record is an atom's.
-  atom-lacks : (k : Atom) (v : Value) (ps : Pairs) (a : ℕ) → (T (is k never || is k anyent) → ⊥) → Holds (conforms rule schema (atom k) v) → CarriesPairs rule schema v ps → ⊥
+  atom-lacks : (k : Atom) (v : Value) (ps : Pairs) (a : ℕ) → (T (is k never || is k anyent) → ⊥) → Holds (conforms rule schema (atom k) v) →
+      CarriesPairs rule schema v ps → ⊥
   unfolding conforms
   atom-lacks k (boolean b) ps a n c g = g
   atom-lacks k (number l) ps a n c g = g
@@ -220,7 +231,8 @@ module _ (rule : Counts) (schema : Schema) where
   atom-lacks k (call f vs) ps a n c g = g
 
   -- Where may-have says no, no value of the type carries the name.
-  pub mayHave-sound : (a : ℕ) (t : Ty) (v : Value) (ps : Pairs) → asAct t ≡ none → (T (mayHave schema a t) → ⊥) → Holds (conforms rule schema t v) → CarriesPairs rule schema v ps → T (hasName a ps) → ⊥
+  pub mayHave-sound : (a : ℕ) (t : Ty) (v : Value) (ps : Pairs) → asAct t ≡ none → (T (mayHave schema a t) → ⊥) → Holds (conforms rule schema t v) →
+      CarriesPairs rule schema v ps → T (hasName a ps) → ⊥
   unfolding conforms
   mayHave-sound a (atom k) v ps i n c g h = atom-lacks k v ps a n c g
   mayHave-sound a (set t) v ps i n c g h = set-lacks v c g
@@ -267,6 +279,7 @@ module _ (rule : Counts) (schema : Schema) where
 
 -- An action's uid carries any pairs, since no entity entry has an odd name: of kind 11 neither promise holds. Type 0b 01 00 00 00
 -- has may-have 0 answered no, and the uid 04 01 00 00 00 conforms and carries (0: false).
-pub action-refutes : ((s : Schema) (a : ℕ) (t : Ty) (v : Value) (ps : Pairs) → (T (mayHave s a t) → ⊥) → Holds (conforms shorter s t v) → CarriesPairs shorter s v ps → T (hasName a ps) → ⊥) → ⊥
+pub action-refutes : ((s : Schema) (a : ℕ) (t : Ty) (v : Value) (ps : Pairs) → (T (mayHave s a t) → ⊥) → Holds (conforms shorter s t v) →
+    CarriesPairs shorter s v ps → T (hasName a ps) → ⊥) → ⊥
 unfolding conforms
 action-refutes f = f (record { entities = []; actions = []; functions = [] }) 0 (act 1 nil) (uid 1 0) (pair 0 (boolean false) empty) (λ z. z) tt tt tt

@@ -63,7 +63,8 @@ find-mem (attr k r t xs) n = go (eqb n k) (find-mem xs n)
 
 -- Lists of the same names lack the same names.
 pub find-none : (xs ys : Attrs) (n : ℕ) → T (eqNames (names xs) (names ys)) → find n ys ≡ none → find n xs ≡ none
-find-none xs ys n h e = none-of (find n xs) (find-mem xs n ∙ ap (mem n) (eqNames→eq (names xs) (names ys) h) ∙ sym (find-mem ys n) ∙ ap (λ (o : Option (Bool × Ty)). present o) e)
+find-none xs ys n h e =
+    none-of (find n xs) (find-mem xs n ∙ ap (mem n) (eqNames→eq (names xs) (names ys) h) ∙ sym (find-mem ys n) ∙ ap (λ (o : Option (Bool × Ty)). present o) e)
 
 -- There are as many names as attributes.
 pub count-names : (xs : Attrs) → count xs ≡ length (names xs)

@@ -43,14 +43,17 @@ among-first at a k r t xs h = record {
 }
 
 -- An attribute behind the first.
-among-next : (at a k : ℕ) (r : Bool) (t : Ty) (xs : Attrs) (y : Bool × Ty) → T (not (eqb a k)) → Among (at + length (enc t)) a xs y → Among at a (attr k r t xs) y
+among-next : (at a k : ℕ) (r : Bool) (t : Ty) (xs : Attrs) (y : Bool × Ty) → T (not (eqb a k)) → Among (at + length (enc t)) a xs y →
+    Among at a (attr k r t xs) y
 unfolding enc
 among-next at a k r t xs y h i = record {
   ahead = attr k r t (i .ahead);
   behind = i .behind;
   entry = ap (λ (l : List ℕ). u16 k ++ (flag r ∷ u16 (length (enc t)) ++ l)) (i .entry);
   body = ap (λ (l : List ℕ). enc t ++ l) (i .body) ∙ sym (append-assoc (enc t) (bodies (i .ahead)) (enc (y .1) ++ bodies (i .behind)));
-  place = rw (not-T→false (eqb a k) (T-not (eqb a k) h)) (i .place ∙ same-place (omega (arith, length-append (enc t) (bodies (i .ahead)))) (omega (arith, length-append (enc t) (bodies (i .ahead)))));
+  place =
+      rw (not-T→false (eqb a k) (T-not (eqb a k) h))
+      (i .place ∙ same-place (omega (arith, length-append (enc t) (bodies (i .ahead)))) (omega (arith, length-append (enc t) (bodies (i .ahead)))));
 }
 
 -- What is found among attributes.
@@ -63,7 +66,8 @@ among (attr k r t xs) at a y e = cond-case (eqb a k) e
 -- What is not found has no place.
 pub from-none : (xs : Attrs) (at a : ℕ) → find a xs ≡ none → bodyFrom at a xs ≡ none
 from-none nil at a e = refl
-from-none (attr k r t xs) at a e = cond-case (eqb a k) e (λ h p. none-some (sym p)) (λ h p. rw (not-T→false (eqb a k) (T-not (eqb a k) h)) (from-none xs (at + length (enc t)) a p))
+from-none (attr k r t xs) at a e =
+    cond-case (eqb a k) e (λ h p. none-some (sym p)) (λ h p. rw (not-T→false (eqb a k) (T-not (eqb a k) h)) (from-none xs (at + length (enc t)) a p))
 
 -- A body that stands at a place of a form.
 pub record Stands (form : List ℕ) (place : Option (ℕ × ℕ)) (body : List ℕ) : Type 0 where
@@ -75,7 +79,8 @@ pub record Stands (form : List ℕ) (place : Option (ℕ × ℕ)) (body : List �
   pub bytes : take (end - start) (drop start form) ≡ body
 
 -- A table's form: its head, its entries, its bodies.
-table-stands : (head : List ℕ) (xs : Attrs) (a : ℕ) (y : Bool × Ty) → find a xs ≡ some y → Stands (head ++ (entries xs ++ bodies xs)) (bodyFrom (length head + entryWidth * count xs) a xs) (enc (y .1))
+table-stands : (head : List ℕ) (xs : Attrs) (a : ℕ) (y : Bool × Ty) → find a xs ≡ some y →
+    Stands (head ++ (entries xs ++ bodies xs)) (bodyFrom (length head + entryWidth * count xs) a xs) (enc (y .1))
 table-stands head xs a y e =
     let i = among xs (length head + entryWidth * count xs) a y e in
     let before = head ++ (entries xs ++ bodies (i .ahead)) in

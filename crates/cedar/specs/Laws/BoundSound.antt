@@ -7,8 +7,7 @@ use mathlib.Core.Path.{_≡_, refl, sym, ap, _∙_, subst}
 use mathlib.Core.Option.{Option, none, some}
 use mathlib.Core.Logic.{_⊎_, inl, inr}
 use lib.Dec.{T, eqb, eqb→eq}
-use Rattle.cedar.specs.Types.{Mode, bool, Ty, atom, set, rec, act, ent, ext, Attrs, attr, Value, Pairs, Schema}
-use Rattle.cedar.specs.Types.{maybe, eqNames, mem, names, find}
+use Rattle.cedar.specs.Types.{Mode, bool, Ty, atom, set, rec, act, ent, ext, Attrs, attr, Value, Pairs, Schema, maybe, eqNames, mem, names, find}
 use Rattle.cedar.specs.Laws.Shape.{Ordered, OrderedFrom}
 use Rattle.cedar.specs.Result.{ok}
 use Rattle.cedar.specs.Bound.{isTruth, lost, bound}
@@ -19,7 +18,8 @@ use Rattle.cedar.specs.Laws.Attributes.{find-equal, find-other, find-bel
 use Rattle.cedar.specs.Laws.Names.{In, union-left, union-right}
 use Rattle.cedar.specs.Laws.Verdicts.{Holds, verdict→T, T→verdict, andThen→, →andThen, maybe-map, eachValue-map, eachPair-map}
 use Rattle.cedar.specs.Laws.SubtypeSound.{required-found, conformsAt-find, entity-sound, truth-sound, sub-sound}
-use Rattle.cedar.specs.Laws.Join.{Join, under, over, truths, entities, sets, records, actions, unions, JoinAttrs, done, drop, keep, bound-join, joinAttrs-ordered}
+use Rattle.cedar.specs.Laws.Join.{Join, under, over, truths, entities, sets, records, actions, unions, JoinAttrs, done, drop, keep, bound-join}
+use Rattle.cedar.specs.Laws.Join.{joinAttrs-ordered}
 
 -- Required names.
 and-left : (r s b : Bool) → T (not r || b) → T (not (r && s) || b)
@@ -44,25 +44,36 @@ join-required (keep {n = n} {k = k′} {r = r} {xs = xs} {cs = cs} y e f g j k) 
 join-required (keep {n = n} {k = k′} {r = r} {ys = ys} {cs = cs} y e f g j k) ps (inr h) =
     subst (λ (s : Bool). T ((not s || hasName k′ ps) && hasRequired cs ps)) g
     (subst (λ (i : ℕ). T ((not (r && y .0) || hasName i ps) && hasRequired cs ps)) e
-    (and-T (not (r && y .0) || hasName n ps) (hasRequired cs ps) (and-right r (y .0) (hasName n ps) (λ q. required-found ys ps n y h f q)) (join-required k ps (inr h))))
+    (and-T (not (r && y .0) || hasName n ps) (hasRequired cs ps) (and-right r (y .0) (hasName n ps) (λ q. required-found ys ps n y h f q))
+    (join-required k ps (inr h))))
 
 module _ (rule : Counts) (schema : Schema) where
   -- A pair's value by what is found of its name.
-  pub at-found : (xs : Attrs) (o : Bool) (n : ℕ) (x : Value) (y : Bool × Ty) → find n xs ≡ some y → Holds (conformsAt rule schema o xs n x) → Holds (conforms rule schema (y .1) x)
+  pub at-found : (xs : Attrs) (o : Bool) (n : ℕ) (x : Value) (y : Bool × Ty) → find n xs ≡ some y → Holds (conformsAt rule schema o xs n x) →
+      Holds (conforms rule schema (y .1) x)
   at-found xs o n x y e c = subst Holds (conformsAt-find rule schema xs o n x ∙ ap (maybe (verdict o) (λ z. conforms rule schema (z .1) x)) e) c
 
   -- A pair of a name that the type lacks, where it is open.
   pub at-none : (xs : Attrs) (o : Bool) (n : ℕ) (x : Value) → find n xs ≡ none → T o → Holds (conformsAt rule schema o xs n x)
-  at-none xs o n x e h = subst Holds (sym (conformsAt-find rule schema xs o n x ∙ ap (maybe (verdict o) (λ z. conforms rule schema (z .1) x)) e)) (T→verdict o h)
+  at-none xs o n x e h =
+      subst Holds (sym (conformsAt-find rule schema xs o n x ∙ ap (maybe (verdict o) (λ z. conforms rule schema (z .1) x)) e)) (T→verdict o h)
 
-  at-lost : {C : Type 0} (xs cs : Attrs) (n : ℕ) (x : Value) → T (eqNames (names cs) (names xs)) → find n cs ≡ none → Holds (conformsAt rule schema false xs n x) → C
-  at-lost xs cs n x h e c = absurd (subst Holds (conformsAt-find rule schema xs false n x ∙ ap (maybe fails (λ z. conforms rule schema (z .1) x)) (find-none xs cs n (eqNames-sym (names cs) (names xs) h) e)) c)
+  at-lost : {C : Type 0} (xs cs : Attrs) (n : ℕ) (x : Value) → T (eqNames (names cs) (names xs)) → find n cs ≡ none →
+      Holds (conformsAt rule schema false xs n x) → C
+  at-lost xs cs n x h e c =
+      absurd (subst Holds
+      (conformsAt-find rule schema xs false n x ∙
+      ap (maybe fails (λ z. conforms rule schema (z .1) x)) (find-none xs cs n (eqNames-sym (names cs) (names xs) h) e)) c)
 
-  at-other : (xs : Attrs) (o : Bool) (n k : ℕ) (r : Bool) (t : Ty) (x : Value) → (n ≡ k → ⊥) → Holds (conformsAt rule schema o (attr k r t xs) n x) → Holds (conformsAt rule schema o xs n x)
-  at-other xs o n k r t x d c = subst Holds (conformsAt-find rule schema (attr k r t xs) o n x ∙ ap (maybe (verdict o) (λ z. conforms rule schema (z .1) x)) (find-other n k r t xs d) ∙ sym (conformsAt-find rule schema xs o n x)) c
+  at-other : (xs : Attrs) (o : Bool) (n k : ℕ) (r : Bool) (t : Ty) (x : Value) → (n ≡ k → ⊥) → Holds (conformsAt rule schema o (attr k r t xs) n x) →
+      Holds (conformsAt rule schema o xs n x)
+  at-other xs o n k r t x d c =
+      subst Holds (conformsAt-find rule schema (attr k r t xs) o n x ∙ ap (maybe (verdict o) (λ z. conforms rule schema (z .1) x)) (find-other n k r t xs d) ∙
+      sym (conformsAt-find rule schema xs o n x)) c
 
   -- A name that the join lacks, of a value of either.
-  open-join : (o p q : Bool) (xs ys cs : Attrs) (n : ℕ) (x : Value) → (o || p || lost cs xs ys) ≡ q → Holds (conformsAt rule schema o xs n x) ⊎ Holds (conformsAt rule schema p ys n x) → find n cs ≡ none → T q
+  open-join : (o p q : Bool) (xs ys cs : Attrs) (n : ℕ) (x : Value) → (o || p || lost cs xs ys) ≡ q → Holds (conformsAt rule schema o xs n x) ⊎
+      Holds (conformsAt rule schema p ys n x) → find n cs ≡ none → T q
   open-join true p q xs ys cs n x e c f = subst T e tt
   open-join false true q xs ys cs n x e c f = subst T e tt
   open-join false false true xs ys cs n x e c f = tt
@@ -71,7 +82,9 @@ module _ (rule : Counts) (schema : Schema) where
       elim c [ inl i ↦ at-lost xs cs n x h₁ f i | inr i ↦ at-lost ys cs n x h₂ f i ]
 
   -- A record's value, from one record to another.
-  record-map : (o q : Bool) (xs cs : Attrs) (v : Value) → ((n : ℕ) (x : Value) → Holds (conformsAt rule schema o xs n x) → Holds (conformsAt rule schema q cs n x)) → ((ps : Pairs) → T (hasRequired xs ps) → T (hasRequired cs ps))
+  record-map : (o q : Bool) (xs cs : Attrs) (v : Value) →
+      ((n : ℕ) (x : Value) → Holds (conformsAt rule schema o xs n x) → Holds (conformsAt rule schema q cs n x)) →
+      ((ps : Pairs) → T (hasRequired xs ps) → T (hasRequired cs ps))
       → Holds (conforms rule schema (rec o xs) v) → Holds (conforms rule schema (rec q cs) v)
   unfolding conforms
   record-map o q xs cs v f g c = maybe-map (pairs v) _ _ (λ ps k.
@@ -104,7 +117,8 @@ module _ (rule : Counts) (schema : Schema) where
     unfolding conforms Ordered
 
     -- A value of either type is of what a derivation gives.
-    pub join-sound : {m : Mode} {a b c : Ty} → Join m a b c → Ordered a → Ordered b → (v : Value) → Holds (conforms rule schema a v) ⊎ Holds (conforms rule schema b v) → Holds (conforms rule schema c v)
+    pub join-sound : {m : Mode} {a b c : Ty} → Join m a b c → Ordered a → Ordered b → (v : Value) →
+        Holds (conforms rule schema a v) ⊎ Holds (conforms rule schema b v) → Holds (conforms rule schema c v)
     join-sound (under {m = m} {a = a} {b = b} h e) oa ob v (inl c) = subst (λ (t : Ty). Holds (conforms rule schema t v)) e (sub-sound rule schema b m a v h c)
     join-sound (under h e) oa ob v (inr c) = subst (λ (t : Ty). Holds (conforms rule schema t v)) e c
     join-sound (over h e) oa ob v (inl c) = subst (λ (t : Ty). Holds (conforms rule schema t v)) e c
@@ -113,9 +127,11 @@ module _ (rule : Counts) (schema : Schema) where
     join-sound (truths {b = b} h k) oa ob v (inr c) = truth-of b v k c
     join-sound (entities {a = a} h k) oa ob v (inl c) = entity-sound rule schema a v h c
     join-sound (entities {b = b} h k) oa ob v (inr c) = entity-sound rule schema b v k c
-    join-sound (sets {t = t} {u = u} {c = w} j) oa ob v (inl c) = maybe-map (members v) (eachValue (λ x. conforms rule schema t x)) (eachValue (λ x. conforms rule schema w x))
+    join-sound (sets {t = t} {u = u} {c = w} j) oa ob v (inl c) =
+        maybe-map (members v) (eachValue (λ x. conforms rule schema t x)) (eachValue (λ x. conforms rule schema w x))
         (λ vs k. eachValue-map vs (λ x. conforms rule schema t x) (λ x. conforms rule schema w x) (λ x e. join-sound j oa ob x (inl e)) k) c
-    join-sound (sets {t = t} {u = u} {c = w} j) oa ob v (inr c) = maybe-map (members v) (eachValue (λ x. conforms rule schema u x)) (eachValue (λ x. conforms rule schema w x))
+    join-sound (sets {t = t} {u = u} {c = w} j) oa ob v (inr c) =
+        maybe-map (members v) (eachValue (λ x. conforms rule schema u x)) (eachValue (λ x. conforms rule schema w x))
         (λ vs k. eachValue-map vs (λ x. conforms rule schema u x) (λ x. conforms rule schema w x) (λ x e. join-sound j oa ob x (inr e)) k) c
     join-sound (records {o = o} {p = p} {q = q} {xs = xs} {ys = ys} {cs = cs} e j) oa ob v (inl c) = record-map o q xs cs v
         (λ n x i. joinAttrs-sound j 0 oa ob n x o p q (inl i) (open-join o p q xs ys cs n x e (inl i))) (λ ps i. join-required j ps (inl i)) c
@@ -126,7 +142,8 @@ module _ (rule : Counts) (schema : Schema) where
     join-sound (unions {ns = ns} {ks = ks} {ls = ls} e) oa ob v (inl c) = names-map ns ls v (λ k i. subst (In k) e (union-left k ns ks i)) c
     join-sound (unions {ns = ns} {ks = ks} {ls = ls} e) oa ob v (inr c) = names-map ks ls v (λ k i. subst (In k) e (union-right k ns ks i)) c
 
-    joinAttrs-sound : {m : Mode} {xs ys cs : Attrs} → JoinAttrs m xs ys cs → (low : ℕ) → OrderedFrom low xs → OrderedFrom 0 ys → (n : ℕ) (x : Value) (o p q : Bool)
+    joinAttrs-sound : {m : Mode} {xs ys cs : Attrs} → JoinAttrs m xs ys cs → (low : ℕ) → OrderedFrom low xs → OrderedFrom 0 ys →
+        (n : ℕ) (x : Value) (o p q : Bool)
         → Holds (conformsAt rule schema o xs n x) ⊎ Holds (conformsAt rule schema p ys n x) → (find n cs ≡ none → T q) → Holds (conformsAt rule schema q cs n x)
     joinAttrs-sound done low ox oy n x o p q c d = T→verdict q (d refl)
     joinAttrs-sound (drop {n = k} {r = r} {t = t} {xs = xs} {cs = cs} j) low ox oy n x o p q c d =
@@ -146,5 +163,6 @@ module _ (rule : Counts) (schema : Schema) where
         (λ z. d (find-other n k′ s w cs ne ∙ z)))
 
   -- A value of either type is of their bound.
-  pub bound-sound : (m : Mode) (a b c : Ty) → Ordered a → Ordered b → bound m a b ≡ ok c → (v : Value) → Holds (conforms rule schema a v) ⊎ Holds (conforms rule schema b v) → Holds (conforms rule schema c v)
+  pub bound-sound : (m : Mode) (a b c : Ty) → Ordered a → Ordered b → bound m a b ≡ ok c → (v : Value) →
+      Holds (conforms rule schema a v) ⊎ Holds (conforms rule schema b v) → Holds (conforms rule schema c v)
   bound-sound m a b c oa ob e v h = join-sound (bound-join a m b c e) oa ob v h

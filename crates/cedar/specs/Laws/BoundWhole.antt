@@ -18,8 +18,11 @@ use Rattle.cedar.specs.Laws.JoinBytes.{bound-bytes}
 
 -- The bound of two whole types, within the limit on a form's length, is a whole form of bytes.
 pub bound-whole : (lim : Limits) → lim .bytes < 65536 → (t₀ t₁ : List ℕ) → Bytes t₀ → Bytes t₁ → (m : Mode) (a b c : Ty)
-    → wholeType lim t₀ ≡ some a → wholeType lim t₁ ≡ some b → bound m a b ≡ ok c → length (enc c) ≤ lim .bytes → Bytes (enc c) × (wholeType lim (enc c) ≡ some c)
+    → wholeType lim t₀ ≡ some a → wholeType lim t₁ ≡ some b → bound m a b ≡ ok c → length (enc c) ≤ lim .bytes →
+    Bytes (enc c) × (wholeType lim (enc c) ≡ some c)
 bound-whole lim small t₀ t₁ h₀ h₁ m a b c ea eb e l =
     let (a₁, a₂) = (wholeType-reads lim) .into t₀ a h₀ ea in
-    let (b₁, b₂) = (wholeType-reads lim) .into t₁ b h₁ eb in
-    (bound-bytes m a b c e (subst Bytes (sym a₁) h₀) (subst Bytes (sym b₁) h₁) (omega arith), (wholeType-reads lim) .back c (bound-WF (lim .levels) m a b c (a₂ .0) (b₂ .0) e, l))
+    let (b₁, b₂) = (wholeType-reads lim) .into t₁ b h₁ eb in (
+      bound-bytes m a b c e (subst Bytes (sym a₁) h₀) (subst Bytes (sym b₁) h₁) (omega arith),
+      (wholeType-reads lim) .back c (bound-WF (lim .levels) m a b c (a₂ .0) (b₂ .0) e, l),
+    )

@@ -28,7 +28,8 @@ pub bind-at : {A B : Type 0} {o : Option A} {a : A} (f : A → Option B) → o �
 bind-at f e = ap (λ x. x >>= f) e
 
 -- A reader whose result is seen as another tree, and back.
-pub reads-map : {A B : Type 0} (f : A → B) (g : B → A) {write : A → List ℕ} {write′ : B → List ℕ} {Good : A → Type 0} {Good′ : B → Type 0} {p : List ℕ → Option A}
+pub reads-map : {A B : Type 0} (f : A → B) (g : B → A) {write : A → List ℕ} {write′ : B → List ℕ} {Good : A → Type 0} {Good′ : B → Type 0}
+    {p : List ℕ → Option A}
     → ((b : B) → f (g b) ≡ b) → ((a : A) → write′ (f a) ≡ write a) → ((a : A) → Good a → Good′ (f a)) → ((b : B) → Good′ b → Good (g b))
     → Reads write Good p → Reads write′ Good′ (λ b. p b >>= λ a. some (f a))
 reads-map {A} {B} f g {write} {write′} {Good} {Good′} {p} inverse same good good′ r = record { into = into; back = back }
@@ -110,7 +111,11 @@ byte-some (a ∷ l) x h e = subst (λ (y : ℕ × List ℕ). (_≡_ {A = List �
 pub word-some : (b : List ℕ) (x : ℕ × List ℕ) → Bytes b → word b ≡ some x → (u16 (x .0) ++ x .1 ≡ b) × Bytes (x .1)
 word-some [] x h e = none-some e
 word-some (a ∷ []) x h e = none-some e
-word-some (a ∷ c ∷ l) x h e = subst (λ (y : ℕ × List ℕ). (u16 (y .0) ++ y .1 ≡ a ∷ c ∷ l) × Bytes (y .1)) (Option·some-injective _ _ e) (ap₂ {C = List ℕ} (λ i j. i ∷ j ∷ l) low high, h .1 .1)
+word-some (a ∷ c ∷ l) x h e =
+    subst (λ (y : ℕ × List ℕ). (u16 (y .0) ++ y .1 ≡ a ∷ c ∷ l) × Bytes (y .1)) (Option·some-injective _ _ e) (
+      ap₂ {C = List ℕ} (λ i j. i ∷ j ∷ l) low high,
+      h .1 .1,
+    )
   where
     low : (a + c * 256) % 256 ≡ a
     low = omega arith
@@ -125,8 +130,10 @@ word-u16 n l = ap (λ (k : ℕ). some (k, l)) (mod-add-div' n 256)
 -- A flag that was read stood in front.
 pub bit-some : (b : List ℕ) (x : Bool × List ℕ) → Bytes b → bit b ≡ some x → (flag (x .0) ∷ x .1 ≡ b) × Bytes (x .1)
 bit-some [] x h e = none-some e
-bit-some (zero ∷ l) x h e = subst (λ (y : Bool × List ℕ). (_≡_ {A = List ℕ} (flag (y .0) ∷ y .1) (0 ∷ l)) × Bytes (y .1)) (Option·some-injective _ _ e) (refl, h .1)
-bit-some (suc zero ∷ l) x h e = subst (λ (y : Bool × List ℕ). (_≡_ {A = List ℕ} (flag (y .0) ∷ y .1) (1 ∷ l)) × Bytes (y .1)) (Option·some-injective _ _ e) (refl, h .1)
+bit-some (zero ∷ l) x h e =
+    subst (λ (y : Bool × List ℕ). (_≡_ {A = List ℕ} (flag (y .0) ∷ y .1) (0 ∷ l)) × Bytes (y .1)) (Option·some-injective _ _ e) (refl, h .1)
+bit-some (suc zero ∷ l) x h e =
+    subst (λ (y : Bool × List ℕ). (_≡_ {A = List ℕ} (flag (y .0) ∷ y .1) (1 ∷ l)) × Bytes (y .1)) (Option·some-injective _ _ e) (refl, h .1)
 bit-some (suc (suc n) ∷ l) x h e = none-some e
 
 -- A flag is read back.
@@ -136,7 +143,8 @@ bit-flag false l = refl
 
 -- Names that were read ascend, and stood there.
 pub parseNames-some : (c low : ℕ) (b ns : List ℕ) → Bytes b → parseNames c low b ≡ some ns → (encNames ns ≡ b) × Ascend low ns × (length ns ≡ c)
-parseNames-some zero low b ns h e = let p = finish-some _ b e in subst (λ (y : List ℕ). (encNames y ≡ b) × Ascend low y × (length y ≡ 0)) (p .0) (sym (p .1), tt, refl)
+parseNames-some zero low b ns h e =
+    let p = finish-some _ b e in subst (λ (y : List ℕ). (encNames y ≡ b) × Ascend low y × (length y ≡ 0)) (p .0) (sym (p .1), tt, refl)
 parseNames-some (suc c) low b ns h e =
     bind-some (word b) _ e λ w ew e₁.
     bind-some (guard (leb low (w .0))) _ e₁ λ g eg e₂.
@@ -149,4 +157,5 @@ parseNames-some (suc c) low b ns h e =
 -- Ascending names are read back.
 pub parseNames-enc : (low : ℕ) (ns : List ℕ) → Ascend low ns → parseNames (length ns) low (encNames ns) ≡ some ns
 parseNames-enc low [] h = refl
-parseNames-enc low (n ∷ ns) h = rw mod-add-div' (guard-yes (leb low n) _ (le→leb low n (h .0)) ∙ ap (λ (o : Option (List ℕ)). o >>= λ ks. some (n ∷ ks)) (parseNames-enc (suc n) ns (h .1)))
+parseNames-enc low (n ∷ ns) h =
+    rw mod-add-div' (guard-yes (leb low n) _ (le→leb low n (h .0)) ∙ ap (λ (o : Option (List ℕ)). o >>= λ ks. some (n ∷ ks)) (parseNames-enc (suc n) ns (h .1)))

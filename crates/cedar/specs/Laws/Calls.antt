@@ -11,15 +11,18 @@ use Rattle.cedar.specs.Types.{Mode, Ty, Value, Schema}
 use Rattle.cedar.specs.TypeForm.{enc}
 use Rattle.cedar.specs.Limits.{Limits}
 use Rattle.cedar.specs.Whole.{wholeType, wholeValue, wholeSchema}
-use Rattle.cedar.specs.Result.{Result, ok, err}
+use Rattle.cedar.specs.Result.{Result, ok, err, answerTooLong}
 use Rattle.cedar.specs.Outcome.{Outcome, refused, said, nothing, typed, attribute, named}
 use Rattle.cedar.specs.Disjoint.{disjoint}
 use Rattle.cedar.specs.Bound.{bound}
 use Rattle.cedar.specs.Attribute.{ownAttr, lookup, mayHave}
 use Rattle.cedar.specs.Conformance.{Verdict, holds, fails, failsInside, unknown, Counts, conforms}
 use Rattle.cedar.specs.Conforms.{Conforms}
-use Rattle.cedar.specs.Calls.{ask, modeOf, answerFits, stepFits, answer, writeType, writeAttribute, ofVerdict, disjointCall, boundCall, lookupCall, ownAttributeCall, mayHaveCall}
-use Rattle.cedar.specs.Laws.Tests.{cond-case, maybe-case}
+use Rattle.cedar.specs.Calls.{ask, modeOf, answerFits, stepFits, answer, writeType, writeAttribute, ofVerdict, disjointCall, boundCall, lookupCall}
+use Rattle.cedar.specs.Calls.{ownAttributeCall, mayHaveCall}
+use Rattle.cedar.specs.Bytes.{guard}
+use Rattle.cedar.specs.Laws.Bytes.{guard-some}
+use Rattle.cedar.specs.Laws.Tests.{maybe-case}
 
 -- An outcome that is no refusal.
 abbrev pub Answer : Outcome → Type 0
@@ -38,10 +41,11 @@ pub ask-case : {A C : Type 0} (n : ℕ) (o : Option A) (k : A → Outcome) (r : 
 ask-case n o k r h e g = maybe-case o e (λ i p. no-answer r h p) g
 
 -- An answer's bytes were within the limit on a form's length.
-pub answer-case : {C : Type 0} (lim : Limits) (room : ℕ) (w : List ℕ) (o r : Outcome) → Answer r → answer lim room w o ≡ r → (length w ≤ lim .bytes → o ≡ r → C) → C
-answer-case lim room w o r h e k = cond-case (answerFits lim room w) e
-    (λ t p. k (let g = leb→le (length w) (min room (lim .bytes)) t in omega arith) p)
-    (λ t p. no-answer r h p)
+pub answer-case : {C : Type 0} (lim : Limits) (room : ℕ) (w : List ℕ) (o r : Outcome) → Answer r → answer lim room w o ≡ r →
+    (length w ≤ lim .bytes → o ≡ r → C) → C
+answer-case lim room w o r h e k =
+    ask-case answerTooLong (guard (answerFits lim room w)) (λ _. o) r h e λ u g p.
+    k (let t = leb→le (length w) (min room (lim .bytes)) (guard-some (answerFits lim room w) u g) in omega arith) p
 
 typed-inj : {t u : Ty} → typed t ≡ typed u → t ≡ u
 typed-inj e = cc
@@ -55,12 +59,14 @@ attribute-inj e = cc
 nothing-attribute : {C : Type 0} {r : Bool} {t : Ty} → nothing ≡ attribute r t → C
 nothing-attribute e = absurd (let z : _≡_ {A = ℕ} 0 1 = cc in omega arith)
 
-writeType-case : {C : Type 0} (lim : Limits) (room : ℕ) (r : Result Ty) {z : Ty} → writeType lim room r ≡ typed z → (r ≡ ok z → length (enc z) ≤ lim .bytes → C) → C
+writeType-case : {C : Type 0} (lim : Limits) (room : ℕ) (r : Result Ty) {z : Ty} → writeType lim room r ≡ typed z →
+    (r ≡ ok z → length (enc z) ≤ lim .bytes → C) → C
 writeType-case lim room (ok t) {z} e k = answer-case lim room (enc t) (typed t) (typed z) tt e λ l p.
     let q = typed-inj p in k (ap (λ (x : Ty). ok x) q) (subst (λ (x : Ty). length (enc x) ≤ lim .bytes) q l)
 writeType-case lim room (err n) {z} e k = no-answer (typed z) tt e
 
-writeAttribute-case : {C : Type 0} (lim : Limits) (room : ℕ) (o : Result (Option (Bool × Ty))) {r : Bool} {z : Ty} → writeAttribute lim room o ≡ attribute r z → (o ≡ ok (some (r, z)) → length (enc z) ≤ lim .bytes → C) → C
+writeAttribute-case : {C : Type 0} (lim : Limits) (room : ℕ) (o : Result (Option (Bool × Ty))) {r : Bool} {z : Ty} → writeAttribute lim room o ≡ attribute r z →
+    (o ≡ ok (some (r, z)) → length (enc z) ≤ lim .bytes → C) → C
 writeAttribute-case lim room (ok none) e k = nothing-attribute e
 writeAttribute-case lim room (ok (some y)) {r} {z} e k = answer-case lim room (enc (y .1)) (attribute (y .0) (y .1)) (attribute r z) tt e λ l p.
     let q = attribute-inj p in k (ap (λ (x : Bool × Ty). ok (some x)) q) (subst (λ (x : Bool × Ty). length (enc (x .1)) ≤ lim .bytes) q l)
@@ -85,7 +91,8 @@ module _ {C : Type 0} (lim : Limits) where
       writeType-case lim room (bound m a b) e₄ (k m a b ea eb)
 
   -- A yes or no of disjoint.
-  pub disjointCall-said : (t₀ t₁ : List ℕ) (r : Bool) → disjointCall lim t₀ t₁ ≡ said r → ((a b : Ty) → wholeType lim t₀ ≡ some a → wholeType lim t₁ ≡ some b → disjoint a b ≡ r → C) → C
+  pub disjointCall-said : (t₀ t₁ : List ℕ) (r : Bool) → disjointCall lim t₀ t₁ ≡ said r →
+      ((a b : Ty) → wholeType lim t₀ ≡ some a → wholeType lim t₁ ≡ some b → disjoint a b ≡ r → C) → C
   disjointCall-said t₀ t₁ r e k =
       ask-case _ (wholeType lim t₀) _ (said r) tt e λ a ea e₁.
       ask-case _ (wholeType lim t₁) _ (said r) tt e₁ λ b eb e₂.
@@ -93,14 +100,16 @@ module _ {C : Type 0} (lim : Limits) where
 
   -- An attribute that lookup found.
   pub lookupCall-found : (schema : List ℕ) (a : ℕ) (t : List ℕ) (room work : ℕ) (r : Bool) (z : Ty) → lookupCall lim schema a t room work ≡ attribute r z
-      → ((s : Schema) (u : Ty) → wholeSchema lim schema ≡ some s → wholeType lim t ≡ some u → lookup (stepFits lim work) s a u ≡ ok (some (r, z)) → length (enc z) ≤ lim .bytes → C) → C
+      → ((s : Schema) (u : Ty) → wholeSchema lim schema ≡ some s → wholeType lim t ≡ some u → lookup (stepFits lim work) s a u ≡ ok (some (r, z)) →
+      length (enc z) ≤ lim .bytes → C) → C
   lookupCall-found schema a t room work r z e k =
       ask-case _ (wholeSchema lim schema) _ (attribute r z) tt e λ s es e₁.
       ask-case _ (wholeType lim t) _ (attribute r z) tt e₁ λ u eu e₂.
       writeAttribute-case lim room (lookup (stepFits lim work) s a u) e₂ (k s u es eu)
 
   -- An attribute that lookup's second entry found.
-  pub ownAttributeCall-found : (schema : List ℕ) (a : ℕ) (t : List ℕ) (r : Bool) (z : Ty) → ownAttributeCall lim schema a t ≡ attribute r z → ((u : Ty) → wholeType lim t ≡ some u → ownAttr a u ≡ some (r, z) → C) → C
+  pub ownAttributeCall-found : (schema : List ℕ) (a : ℕ) (t : List ℕ) (r : Bool) (z : Ty) → ownAttributeCall lim schema a t ≡ attribute r z →
+      ((u : Ty) → wholeType lim t ≡ some u → ownAttr a u ≡ some (r, z) → C) → C
   ownAttributeCall-found schema a t r z e k =
       ask-case _ (wholeSchema lim schema) _ (attribute r z) tt e λ s es e₁.
       ask-case _ (wholeType lim t) _ (attribute r z) tt e₁ λ u eu e₂.
@@ -116,7 +125,8 @@ module _ {C : Type 0} (lim : Limits) where
 
   -- What conforms is whole, and the walk's verdict is yes.
   pub conforms-case : (c : Counts) (schema t v : List ℕ) → Conforms lim c schema t v
-      → ((s : Schema) (a : Ty) (x : Value) → wholeSchema lim schema ≡ some s → wholeType lim t ≡ some a → wholeValue lim v ≡ some x → conforms c s a x ≡ holds → C) → C
+      → ((s : Schema) (a : Ty) (x : Value) → wholeSchema lim schema ≡ some s → wholeType lim t ≡ some a → wholeValue lim v ≡ some x → conforms c s a x ≡ holds →
+      C) → C
   conforms-case c schema t v e k =
       ask-case _ (wholeSchema lim schema) _ (said true) tt e λ s es e₁.
       ask-case _ (wholeType lim t) _ (said true) tt e₁ λ a ea e₂.

@@ -40,7 +40,8 @@ pairs-some (call f vs) ps e = none-some e
 pub pairOf-in : (ps : Pairs) (a : ℕ) (x : Value) → pairOf a ps ≡ some x → InPairs a x ps
 pairOf-in empty a x e = none-some e
 pairOf-in (pair n v ps) a x e = cond-case (eqb a n) e
-    (λ t p. subst (λ (k : ℕ). InPairs a x (pair k v ps)) (eqb→eq a n t) (subst (λ (z : Value). InPairs a x (pair a z ps)) (sym (Option·some-injective _ _ p)) here))
+    (λ t p. subst (λ (k : ℕ). InPairs a x (pair k v ps)) (eqb→eq a n t)
+    (subst (λ (z : Value). InPairs a x (pair a z ps)) (sym (Option·some-injective _ _ p)) here))
     (λ t p. there (pairOf-in ps a x p))
 
 -- A name has a value just where it stands among the pairs.
@@ -52,11 +53,13 @@ pairOf-name (pair n v ps) a = go (eqb a n) (pairOf-name ps a)
     go true e = refl
     go false e = e
 
-pairOf-shape : (ps : Pairs) (low a : ℕ) (x : Value) → OrderedPairs low ps → pairOf a ps ≡ some x → (depthValue x ≤ depthPairs ps) × OrderedValue x × (length (encValue x) ≤ length (valuesOf ps))
+pairOf-shape : (ps : Pairs) (low a : ℕ) (x : Value) → OrderedPairs low ps → pairOf a ps ≡ some x → (depthValue x ≤ depthPairs ps) × OrderedValue x ×
+    (length (encValue x) ≤ length (valuesOf ps))
 unfolding depthValue OrderedValue encValue
 pairOf-shape empty low a x o e = none-some e
 pairOf-shape (pair n v ps) low a x o e = cond-case (eqb a n) e
-    (λ t p. subst (λ (z : Value). (depthValue z ≤ depthPairs (pair n v ps)) × OrderedValue z × (length (encValue z) ≤ length (valuesOf (pair n v ps)))) (Option·some-injective _ _ p)
+    (λ t p. subst (λ (z : Value). (depthValue z ≤ depthPairs (pair n v ps)) × OrderedValue z × (length (encValue z) ≤ length (valuesOf (pair n v ps))))
+    (Option·some-injective _ _ p)
     (le-max-left (depthValue v) (depthPairs ps), o .1, omega (arith, length-append (encValue v) (valuesOf ps))))
     (λ t p. let (d, q, l) = pairOf-shape ps (suc n) a x (o .2) p in
     (le-trans d (le-max-right (depthValue v) (depthPairs ps)), q, omega (arith, length-append (encValue v) (valuesOf ps))))
@@ -84,7 +87,8 @@ module _ (lim : Limits) (w : List ℕ) (ps : Pairs) (e : recordPairs lim w ≡ s
       go (some x) q = q
 
   -- An attribute's bytes are those of a value that stands among the pairs, within the limits.
-  pub attributeOf-some : {C : Type 0} (a : ℕ) (y : List ℕ) → Bytes w → attributeOf lim a w ≡ some y → ((x : Value) → InPairs a x ps → wholeValue lim y ≡ some x → C) → C
+  pub attributeOf-some : {C : Type 0} (a : ℕ) (y : List ℕ) → Bytes w → attributeOf lim a w ≡ some y →
+      ((x : Value) → InPairs a x ps → wholeValue lim y ≡ some x → C) → C
   attributeOf-some a y h q k =
       bind-some (recordPairs lim w) _ q λ qs eq q₁.
       bind-some (pairOf a qs) _ q₁ λ x ex q₂.
@@ -94,10 +98,12 @@ module _ (lim : Limits) (w : List ℕ) (ps : Pairs) (e : recordPairs lim w ≡ s
       k x (pairOf-in ps a x px) (ap (wholeValue lim) (sym (Option·some-injective _ _ q₂)) ∙ (wholeValue-reads lim) .back x within)
 
 -- The body of an entity entry of a whole schema is whole.
-pub entity-whole : (lim : Limits) (schema : List ℕ) (s : Schema) → Bytes schema → wholeSchema lim schema ≡ some s → (k : ℕ) (e : Entity) → entityOf s k ≡ some e → TypeWithin lim (rec (e .isOpen) (e .attrs))
+pub entity-whole : (lim : Limits) (schema : List ℕ) (s : Schema) → Bytes schema → wholeSchema lim schema ≡ some s → (k : ℕ) (e : Entity) →
+    entityOf s k ≡ some e → TypeWithin lim (rec (e .isOpen) (e .attrs))
 entity-whole lim schema s h es k e ee = entityIn-good (TypeWithin lim) (s .entities) 0 k e ((wholeSchema-reads lim) .into schema s h es .1 .0 .entities) ee .1
 
-record-pairs : {C : Type 0} (c : Counts) (s : Schema) (o : Bool) (xs : Attrs) (y : Value) → Holds (conforms c s (rec o xs) y) → ((ps : Pairs) → pairs y ≡ some ps → C) → C
+record-pairs : {C : Type 0} (c : Counts) (s : Schema) (o : Bool) (xs : Attrs) (y : Value) → Holds (conforms c s (rec o xs) y) →
+    ((ps : Pairs) → pairs y ≡ some ps → C) → C
 unfolding conforms
 record-pairs c s o xs (boolean b) h k = absurd h
 record-pairs c s o xs (number l) h k = absurd h
@@ -108,7 +114,8 @@ record-pairs c s o xs (recordOf qs) h k = k qs refl
 record-pairs c s o xs (call f vs) h k = absurd h
 
 -- What a value carries on bytes, it carries as a tree.
-pub carried-case : {C : Type 0} (lim : Limits) (c : Counts) (schema v w : List ℕ) (s : Schema) (x : Value) → Bytes schema → wholeSchema lim schema ≡ some s → wholeValue lim v ≡ some x → Carries lim c schema v w
+pub carried-case : {C : Type 0} (lim : Limits) (c : Counts) (schema v w : List ℕ) (s : Schema) (x : Value) → Bytes schema → wholeSchema lim schema ≡ some s →
+    wholeValue lim v ≡ some x → Carries lim c schema v w
     → ((ps : Pairs) → recordPairs lim w ≡ some ps → CarriesPairs c s x ps → C) → C
 carried-case lim c schema v w s x h es ev carried k = go w carried k
   where
@@ -122,10 +129,16 @@ carried-case lim c schema v w s x h es ev carried k = go w carried k
         let q : s′ ≡ s = Option·some-injective _ _ (sym es′ ∙ es) in
         let found : entityOf s i ≡ some e = subst (λ (z : Schema). entityOf z i ≡ some e) q ee in
         conforms-case lim c schema (encBody (e .isOpen, e .attrs)) w cf λ s″ b y es″ eb ey yes.
-        let body : b ≡ rec (e .isOpen) (e .attrs) = Option·some-injective _ _ (sym eb ∙ (wholeType-reads lim) .back (rec (e .isOpen) (e .attrs)) (entity-whole lim schema s h es i e found)) in
+        let body : b ≡ rec (e .isOpen) (e .attrs) = Option·some-injective _ _
+        (sym eb ∙ (wholeType-reads lim) .back (rec (e .isOpen) (e .attrs)) (entity-whole lim schema s h es i e found)) in
         let q″ : s″ ≡ s = Option·some-injective _ _ (sym es″ ∙ es) in
-        let held : Holds (conforms c s (rec (e .isOpen) (e .attrs)) y) = yes→Holds (conforms c s (rec (e .isOpen) (e .attrs)) y) (subst (λ (z : Schema). conforms c z (rec (e .isOpen) (e .attrs)) y ≡ holds) q″ (subst (λ (z : Ty). conforms c s″ z y ≡ holds) body yes)) in
+        let held : Holds (conforms c s (rec (e .isOpen) (e .attrs)) y) = yes→Holds (conforms c s (rec (e .isOpen) (e .attrs)) y)
+        (subst (λ (z : Schema). conforms c z (rec (e .isOpen) (e .attrs)) y ≡ holds) q″ (subst (λ (z : Ty). conforms c s″ z y ≡ holds) body yes)) in
         record-pairs c s (e .isOpen) (e .attrs) y held λ ps ep.
-        k ps (bind-at pairs ey ∙ ep) (uid-carries i j (some e) ps (Option·some-injective _ _ (sym ev ∙ ev′)) found (subst (λ (z : Value). Holds (conforms c s (rec (e .isOpen) (e .attrs)) z)) (pairs-some y ps ep) held))
+        k ps (bind-at pairs ey ∙ ep)
+        (uid-carries i j (some e) ps (Option·some-injective _ _ (sym ev ∙ ev′))
+        found (subst (λ (z : Value). Holds (conforms c s (rec (e .isOpen) (e .attrs)) z)) (pairs-some y ps ep) held))
     go w (ofMissing s′ i j es′ ev′ ee r) k = present-some (recordPairs lim w) r λ ps e.
-        k ps e (uid-carries i j none ps (Option·some-injective _ _ (sym ev ∙ ev′)) (subst (λ (z : Schema). entityOf z i ≡ none) (Option·some-injective _ _ (sym es′ ∙ es)) ee) tt)
+        k ps e
+        (uid-carries i j none ps (Option·some-injective _ _ (sym ev ∙ ev′))
+        (subst (λ (z : Schema). entityOf z i ≡ none) (Option·some-injective _ _ (sym es′ ∙ es)) ee) tt)

@@ -4,8 +4,8 @@ use Prim.Native.Nat.{ℕ}
 use mathlib.Core.List.{List}
 use mathlib.Core.Bool.{cond}
 use lib.Dec.{eqb}
-use Rattle.cedar.specs.Types.{Mode, strict, isPermissive, Ty, atom, set, rec, act, ent, ext, Attrs, nil, attr}
-use Rattle.cedar.specs.Types.{maybe, eqNames, find, asSet, asRec, asAct, asEnt}
+use Rattle.cedar.specs.Types.{Mode, strict, isPermissive, Ty, atom, set, rec, act, ent, ext, Attrs, nil, attr, maybe, eqNames, find, asSet, asRec, asAct}
+use Rattle.cedar.specs.Types.{asEnt}
 use Rattle.cedar.specs.Result.{Result, ok, err, bind, entityType}
 use Rattle.cedar.specs.Bound.{union, apart, sameNames, absent, joinOne, joinRecord, bound}
 

@@ -38,7 +38,8 @@ module _ (rule : Counts) (schema : Schema) where
   uid-of (rec o xs) ns v e c = none-some e
   uid-of (act n xs) ns v e c = subst (λ (l : List ℕ). T (maybe false (λ k. mem k l) (uidType v))) (Option·some-injective _ _ e)
       (action-name n (uidType v) (verdict→T (maybe false (λ k. isAction k && eqb k n) (uidType v)) c))
-  uid-of (ent ks) ns v e c = subst (λ (l : List ℕ). T (maybe false (λ k. mem k l) (uidType v))) (Option·some-injective _ _ e) (verdict→T (maybe false (λ k. mem k ks) (uidType v)) c)
+  uid-of (ent ks) ns v e c =
+      subst (λ (l : List ℕ). T (maybe false (λ k. mem k l) (uidType v))) (Option·some-injective _ _ e) (verdict→T (maybe false (λ k. mem k ks) (uidType v)) c)
   uid-of (ext n) ns v e c = none-some e
 
   -- Disjoint types share no value.

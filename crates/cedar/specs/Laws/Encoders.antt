@@ -8,7 +8,8 @@ use Rattle.cedar.specs.Types.{Ty, Attrs, Arg, argBool, argLong, argStrin
 use Rattle.cedar.specs.Bytes.{u16, flag}
 use Rattle.cedar.specs.TypeForm.{enc}
 use Rattle.cedar.specs.SchemaForm.{encBody}
-use Rattle.cedar.specs.JobForm.{Operation, subtypeOp, boundOp, disjointOp, lookupOp, mayHaveOp, namesOp, consistentOp, convertOp, conformsOp, foldOp, literalOp, Question, Job}
+use Rattle.cedar.specs.JobForm.{Operation, subtypeOp, boundOp, disjointOp, lookupOp, mayHaveOp, namesOp, consistentOp, convertOp, conformsOp, foldOp}
+use Rattle.cedar.specs.JobForm.{literalOp, Question, Job}
 
 module _ {H A : Type 0} where
   -- The entries of a table.

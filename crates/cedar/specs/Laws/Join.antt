@@ -9,12 +9,12 @@ use mathlib.Core.Option.{Option, some}
 use mathlib.Core.Logic.{inl, inr}
 use lib.ListN.{length}
 use lib.Dec.{T, eqb, eqb→eq}
-use Rattle.cedar.specs.Types.{Mode, strict, permissive, isPermissive, bool, anyent, Ty, atom, set, rec, act, ent, ext, Attrs, nil, attr}
+use Rattle.cedar.specs.Types.{Mode, strict, isPermissive, bool, anyent, Ty, atom, set, rec, act, ent, ext, Attrs, nil, attr}
 use Rattle.cedar.specs.Types.{present, asSet, asRec, asAct, asEnt, eqFlag, eqNames, names, find, isEntity, isRecord}
 use Rattle.cedar.specs.Laws.Shape.{Ascend, Ordered, OrderedFrom, depth, depths, WF}
 use Rattle.cedar.specs.Subtype.{sub}
 use Rattle.cedar.specs.Result.{Result, ok, err}
-use Rattle.cedar.specs.Bound.{union, apart, isTruth, lost, upper, sameNames, absent, joinOne, joinNames, bound, joinAttrs}
+use Rattle.cedar.specs.Bound.{union, apart, isTruth, lost, upper, sameNames, absent, joinEqual, joinKept, joinOne, joinNames, bound, joinAttrs}
 use Rattle.cedar.specs.Laws.Tests.{T-and, cond-case, maybe-case}
 use Rattle.cedar.specs.Laws.Equality.{asSet-some, asRec-some, asAct-some, asEnt-some}
 use Rattle.cedar.specs.Laws.Attributes.{ordered-from, find-ordered, find-depth, find-mem}
@@ -41,7 +41,8 @@ mutual
     keep : {m : Mode} {n k : ℕ} {r s : Bool} {t c : Ty} {xs ys cs : Attrs} (y : Bool × Ty)
         → n ≡ k → find n ys ≡ some y → (r && y .0) ≡ s → Join m t (y .1) c → JoinAttrs m xs ys cs → JoinAttrs m (attr n r t xs) ys (attr k s c cs)
 
-upper-case : {C : Type 0} (m : Mode) (a b : Ty) (r : Result Ty) {c : Ty} → upper m a b r ≡ ok c → (T (sub m a b) → b ≡ c → C) → (T (sub m b a) → a ≡ c → C) → (r ≡ ok c → C) → C
+upper-case : {C : Type 0} (m : Mode) (a b : Ty) (r : Result Ty) {c : Ty} → upper m a b r ≡ ok c → (T (sub m a b) → b ≡ c → C) → (T (sub m b a) → a ≡ c → C) →
+    (r ≡ ok c → C) → C
 upper-case m a b r e f g k = cond-case (sub m a b) e (λ h p. f h (ok-inj p)) (λ n p. cond-case (sub m b a) p (λ h q. g h (ok-inj q)) (λ h q. k q))
 
 -- `upper`, as a derivation.
@@ -60,26 +61,31 @@ flag-same true true h = refl
 flag-same true false h = absurd h
 flag-same false s h = refl
 
-joinOne-join : (m : Mode) (n : ℕ) (r : Bool) (t : Ty) (xs ys : Attrs) (y : Bool × Ty) (b : Result Ty) (l : Result Attrs) {cs : Attrs} → find n ys ≡ some y
-    → ((c : Ty) → b ≡ ok c → Join m t (y .1) c) → ((ds : Attrs) → l ≡ ok ds → JoinAttrs m xs ys ds) → joinOne m n r (y .0) b l ≡ ok cs → JoinAttrs m (attr n r t xs) ys cs
-joinOne-join strict n r t xs ys y b l f g k e = bind-ok b _ e λ c p q.
-    cond-case (eqFlag r (y .0)) q
-    (λ h u. bind-ok l _ u λ ds v w.
-    subst (JoinAttrs strict (attr n r t xs) ys) (ap (λ (i : Bool). attr n i c ds) (flag-same r (y .0) h) ∙ ok-inj w) (keep y refl f refl (g c p) (k ds v)))
-    (λ h u. err-ok u)
-joinOne-join permissive n r t xs ys y (ok c) l f g k e = bind-ok l _ e λ ds v w. subst (JoinAttrs permissive (attr n r t xs) ys) (ok-inj w) (keep y refl f refl (g c refl) (k ds v))
-joinOne-join permissive n r t xs ys y (err i) l f g k e = drop (k _ e)
+-- An attribute whose name is in both lists, before the rest.
+module _ (m : Mode) (n : ℕ) (r : Bool) (t : Ty) (xs ys : Attrs) (y : Bool × Ty) (f : find n ys ≡ some y)
+    (l : Result Attrs) (k : (ds : Attrs) → l ≡ ok ds → JoinAttrs m xs ys ds) {cs : Attrs} where
+  joinKept-join : (b : Result Ty) → ((c : Ty) → b ≡ ok c → Join m t (y .1) c) → joinKept n r (y .0) b l ≡ ok cs → JoinAttrs m (attr n r t xs) ys cs
+  joinKept-join (ok c) g e = bind-ok l _ e λ ds v w. subst (JoinAttrs m (attr n r t xs) ys) (ok-inj w) (keep y refl f refl (g c refl) (k ds v))
+  joinKept-join (err i) g e = drop (k _ e)
+
+  joinEqual-join : (b : Result Ty) → ((c : Ty) → b ≡ ok c → Join m t (y .1) c) → joinEqual n r (y .0) b l ≡ ok cs → JoinAttrs m (attr n r t xs) ys cs
+  joinEqual-join b g e = bind-ok b _ e λ c p q.
+      cond-case (eqFlag r (y .0)) q
+      (λ h u. bind-ok l _ u λ ds v w.
+      subst (JoinAttrs m (attr n r t xs) ys) (ap (λ (i : Bool). attr n i c ds) (flag-same r (y .0) h) ∙ ok-inj w) (keep y refl f refl (g c p) (k ds v)))
+      (λ h u. err-ok u)
+
+  joinOne-join : (b : Result Ty) → ((c : Ty) → b ≡ ok c → Join m t (y .1) c) → joinOne m n r (y .0) b l ≡ ok cs → JoinAttrs m (attr n r t xs) ys cs
+  joinOne-join b g e = cond-case (isPermissive m) e (λ h p. joinKept-join b g p) (λ h p. joinEqual-join b g p)
 
 sameNames-case : {C : Type 0} (m : Mode) (xs ys : Attrs) {r : Result Attrs} {cs : Attrs} → sameNames m xs ys r ≡ ok cs → (r ≡ ok cs → C) → C
 sameNames-case m xs ys e k = cond-case (isPermissive m || eqNames (names xs) (names ys)) e (λ h p. k p) (λ h p. err-ok p)
 
 absent-case : {C : Type 0} (m : Mode) {r : Result Attrs} {cs : Attrs} → absent m r ≡ ok cs → (r ≡ ok cs → C) → C
-absent-case strict e k = err-ok e
-absent-case permissive e k = k e
+absent-case m e k = cond-case (isPermissive m) e (λ h p. k p) (λ h p. err-ok p)
 
 joinNames-join : (m : Mode) (ns ks : List ℕ) {c : Ty} → joinNames m ns ks ≡ ok c → Join m (ent ns) (ent ks) c
-joinNames-join strict ns ks e = err-ok e
-joinNames-join permissive ns ks e = subst (Join permissive (ent ns) (ent ks)) (ok-inj e) (unions refl)
+joinNames-join m ns ks e = cond-case (isPermissive m) e (λ h p. subst (Join m (ent ns) (ent ks)) (ok-inj p) (unions refl)) (λ h p. err-ok p)
 
 mutual
   unfolding bound
@@ -89,13 +95,15 @@ mutual
   bound-join (atom k) m b c e = upper-join m (atom k) b _ e (λ q. cond-case (isTruth (atom k) && isTruth b) q
       (λ h p. let (h₁, h₂) = T-and (isTruth (atom k)) (isTruth b) h in subst (Join m (atom k) b) (ok-inj p) (truths h₁ h₂)) (λ h p. apart-join m (atom k) b p))
   bound-join (set t) m b c e = upper-join m (set t) b _ e (λ q. maybe-case (asSet b) q (λ n p. apart-join m (set t) b p) (λ u eu p.
-      subst (λ (x : Ty). Join m (set t) x c) (sym (asSet-some b u eu)) (bind-ok (bound m t u) _ p λ d v w. subst (Join m (set t) (set u)) (ok-inj w) (sets (bound-join t m u d v)))))
+      subst (λ (x : Ty). Join m (set t) x c) (sym (asSet-some b u eu))
+      (bind-ok (bound m t u) _ p λ d v w. subst (Join m (set t) (set u)) (ok-inj w) (sets (bound-join t m u d v)))))
   bound-join (rec o xs) m b c e = upper-join m (rec o xs) b _ e (λ q. maybe-case (asRec b) q (λ n p. apart-join m (rec o xs) b p) (λ y ey p.
       subst (λ (x : Ty). Join m (rec o xs) x c) (sym (asRec-some b y ey)) (bind-ok (sameNames m xs (y .1) (joinAttrs m xs (y .1))) _ p λ d v w.
       subst (Join m (rec o xs) (rec (y .0) (y .1))) (ok-inj w) (records refl (sameNames-case m xs (y .1) v (λ u. joinAttrs-join xs m (y .1) d u))))))
   bound-join (act n xs) m b c e = upper-join m (act n xs) b _ e (λ q. maybe-case (asAct b) q (λ i p. apart-join m (act n xs) b p) (λ y ey p.
       cond-case (eqb n (y .0)) p
-      (λ h g. subst (λ (x : Ty). Join m (act n xs) x c) (ap (λ (i : ℕ). act i (y .1)) (eqb→eq n (y .0) h) ∙ sym (asAct-some b y ey)) (bind-ok (sameNames strict xs (y .1) (joinAttrs strict xs (y .1))) _ g λ d v w.
+      (λ h g. subst (λ (x : Ty). Join m (act n xs) x c) (ap (λ (i : ℕ). act i (y .1)) (eqb→eq n (y .0) h) ∙ sym (asAct-some b y ey))
+      (bind-ok (sameNames strict xs (y .1) (joinAttrs strict xs (y .1))) _ g λ d v w.
       subst (Join m (act n xs) (act n (y .1))) (ok-inj w) (actions refl refl (sameNames-case strict xs (y .1) v (λ u. joinAttrs-join xs strict (y .1) d u)))))
       (λ h g. apart-join m (act n xs) b g)))
   bound-join (ent ns) m b c e = upper-join m (ent ns) b _ e (λ q. maybe-case (asEnt b) q (λ i p. apart-join m (ent ns) b p) (λ ks ek p.
@@ -107,7 +115,8 @@ mutual
   joinAttrs-join nil m ys cs e = subst (JoinAttrs m nil ys) (ok-inj e) done
   joinAttrs-join (attr n r t xs) m ys cs e = maybe-case (find n ys) e
       (λ i p. drop (absent-case m p (λ q. joinAttrs-join xs m ys cs q)))
-      (λ y ey p. joinOne-join m n r t xs ys y (bound m t (y .1)) (joinAttrs m xs ys) ey (λ c q. bound-join t m (y .1) c q) (λ ds q. joinAttrs-join xs m ys ds q) p)
+      (λ y ey p. joinOne-join m n r t xs ys y ey (joinAttrs m xs ys) (λ ds q. joinAttrs-join xs m ys ds q)
+      (bound m t (y .1)) (λ c q. bound-join t m (y .1) c q) p)
 
 mutual
   unfolding Ordered
@@ -121,14 +130,18 @@ mutual
   join-ordered (sets j) oa ob = join-ordered j oa ob
   join-ordered (records e j) oa ob = joinAttrs-ordered j 0 oa ob
   join-ordered (actions e f j) oa ob = joinAttrs-ordered j 0 oa ob
-  join-ordered (unions {ns = ns} {ks = ks} e) oa ob = subst (λ (l : List ℕ). (1 ≤ length l) × Ascend 0 l) e (union-nonempty ns ks (ob .0), union-ascend 0 ns ks (oa .1) (ob .1))
+  join-ordered (unions {ns = ns} {ks = ks} e) oa ob =
+      subst (λ (l : List ℕ). (1 ≤ length l) × Ascend 0 l) e (union-nonempty ns ks (ob .0), union-ascend 0 ns ks (oa .1) (ob .1))
 
   -- The bound of two attribute lists in order is in order.
   pub joinAttrs-ordered : {m : Mode} {xs ys cs : Attrs} → JoinAttrs m xs ys cs → (low : ℕ) → OrderedFrom low xs → OrderedFrom 0 ys → OrderedFrom low cs
   joinAttrs-ordered done low ox oy = tt
   joinAttrs-ordered (drop {n = n} {cs = cs} j) low ox oy = ordered-from cs (suc n) low (let g = ox .0 in omega arith) (joinAttrs-ordered j (suc n) (ox .2) oy)
-  joinAttrs-ordered (keep {n = n} {ys = ys} {cs = cs} y e f g j k) low ox oy =
-      (subst (λ (i : ℕ). low ≤ i) e (ox .0), join-ordered j (ox .1) (find-ordered ys n 0 y oy f), subst (λ (i : ℕ). OrderedFrom (suc i) cs) e (joinAttrs-ordered k (suc n) (ox .2) oy))
+  joinAttrs-ordered (keep {n = n} {ys = ys} {cs = cs} y e f g j k) low ox oy = (
+    subst (λ (i : ℕ). low ≤ i) e (ox .0),
+    join-ordered j (ox .1) (find-ordered ys n 0 y oy f),
+    subst (λ (i : ℕ). OrderedFrom (suc i) cs) e (joinAttrs-ordered k (suc n) (ox .2) oy),
+  )
 
 mutual
   unfolding depth
@@ -152,7 +165,8 @@ mutual
   joinAttrs-depth done l dx dy = zero-le
   joinAttrs-depth (drop {t = t} {xs = xs} j) l dx dy = joinAttrs-depth j l (le-trans (le-max-right (depth t) (depths xs)) dx) dy
   joinAttrs-depth (keep {n = n} {t = t} {xs = xs} {ys = ys} y e f g j k) l dx dy =
-      max-le (join-depth j l (le-trans (le-max-left (depth t) (depths xs)) dx) (le-trans (find-depth ys n y f) dy)) (joinAttrs-depth k l (le-trans (le-max-right (depth t) (depths xs)) dx) dy)
+      max-le (join-depth j l (le-trans (le-max-left (depth t) (depths xs)) dx) (le-trans (find-depth ys n y f) dy))
+      (joinAttrs-depth k l (le-trans (le-max-right (depth t) (depths xs)) dx) dy)
 
 -- The bound of two types in order is in order.
 pub bound-ordered : (m : Mode) (a b c : Ty) → Ordered a → Ordered b → bound m a b ≡ ok c → Ordered c

@@ -25,7 +25,8 @@ AllFit ns = (x : ℕ) → In x ns → Bytes (u16 x)
 names-fit : (ns : List ℕ) → Bytes (encNames ns) → AllFit ns
 unfolding AllFit
 names-fit [] h x i = absurd i
-names-fit (n ∷ ns) h x i = elim (In-cases x n ns i) [ inl e ↦ subst (λ (k : ℕ). Bytes (u16 k)) (sym e) (h .0, (h .1 .0, tt)) | inr j ↦ names-fit ns (h .1 .1) x j ]
+names-fit (n ∷ ns) h x i =
+    elim (In-cases x n ns i) [ inl e ↦ subst (λ (k : ℕ). Bytes (u16 k)) (sym e) (h .0, (h .1 .0, tt)) | inr j ↦ names-fit ns (h .1 .1) x j ]
 
 fit-names : (ns : List ℕ) → AllFit ns → Bytes (encNames ns)
 unfolding AllFit
@@ -53,7 +54,8 @@ found-bytes (attr k r t ys) n y e h = cond-case (eqb n k) e
 split-table : (xs : Attrs) → Bytes (u16 (count xs) ++ (entries xs ++ bodies xs)) → Bytes (entries xs) × Bytes (bodies xs)
 split-table xs h = (Bytes-left (entries xs) (bodies xs) (h .1 .1), Bytes-right (entries xs) (bodies xs) (h .1 .1))
 
-whole-table : (cs : Attrs) → length (entries cs ++ bodies cs) < 65536 → Bytes (entries cs) → Bytes (bodies cs) → Bytes (u16 (count cs) ++ (entries cs ++ bodies cs))
+whole-table : (cs : Attrs) → length (entries cs ++ bodies cs) < 65536 → Bytes (entries cs) → Bytes (bodies cs) →
+    Bytes (u16 (count cs) ++ (entries cs ++ bodies cs))
 whole-table cs l h k =
     let f = u16-bytes (count cs) (omega (arith, count-entries cs, length-append (entries cs) (bodies cs))) in
     (f .0, (f .1 .0, Bytes-append (entries cs) (bodies cs) h k))

@@ -32,11 +32,6 @@ length-entries (attr n r t xs) = let e = length-entries xs in omega arith
 pub length-attrs : (xs : Attrs) → length (entries xs ++ bodies xs) ≡ 5 * count xs + length (bodies xs)
 length-attrs xs = let e = length-entries xs in length-append (entries xs) (bodies xs) ∙ omega arith
 
--- An action's form is one byte longer than a record's with its attributes.
-pub action-length : (n : ℕ) (o : Bool) (xs : Attrs) → length (enc (act n xs)) ≡ suc (length (enc (rec o xs)))
-unfolding enc
-action-length n o xs = refl
-
 insert-length : (n : ℕ) (ks : List ℕ) → length (insert n ks) ≤ suc (length ks)
 insert-length n [] = le-refl 1
 insert-length n (k ∷ ks) = cond-both (λ (l : List ℕ). length l ≤ suc (suc (length ks))) (ltb n k) (λ h. le-refl (suc (suc (length ks))))
@@ -62,7 +57,8 @@ pub find-length : (ys : Attrs) (n : ℕ) (y : Bool × Ty) → find n ys ≡ some
 unfolding enc
 find-length nil n y e = none-some e
 find-length (attr k s u ys) n y e = cond-case (eqb n k) e
-    (λ t p. let l : length (enc u) ≡ length (enc (y .1)) = ap (λ (z : Bool × Ty). length (enc (z .1))) (Option·some-injective _ _ p) in omega (arith, length-append (enc u) (bodies ys)))
+    (λ t p. let l : length (enc u) ≡ length (enc (y .1)) = ap (λ (z : Bool × Ty). length (enc (z .1))) (Option·some-injective _ _ p) in
+    omega (arith, length-append (enc u) (bodies ys)))
     (λ t p. omega (arith, find-length ys n y p, length-append (enc u) (bodies ys)))
 
 -- A record's attribute is no longer than the record.
@@ -110,7 +106,12 @@ found-length (attr k s u ys) n low y h e = cond-case (eqb n k) e
     (λ t p.
     let q = eqb→eq n k t in
     let l : length (enc u) ≡ length (enc (y .1)) = ap (λ (z : Bool × Ty). length (enc (z .1))) (Option·some-injective _ _ p) in
-    omega (arith, bodiesFrom-fewer ys low (suc n) (omega arith), counted-none (suc n) k (length (enc u)) (omega arith), counted-all low k (length (enc u)) (omega arith)))
+    omega (
+      arith,
+      bodiesFrom-fewer ys low (suc n) (omega arith),
+      counted-none (suc n) k (length (enc u)) (omega arith),
+      counted-all low k (length (enc u)) (omega arith),
+    ))
     (λ t p. omega (arith, found-length ys n low y h p, counted-fewer low (suc n) k (length (enc u)) (omega arith)))
 
 mutual
@@ -127,7 +128,8 @@ mutual
       let (f, g) = joinAttrs-length j 0 oa in omega (arith, length-attrs xs, length-attrs ys, length-attrs cs, bodiesFrom-all ys)
   join-length (actions {xs = xs} {ys = ys} {cs = cs} e f j) oa =
       let (f, g) = joinAttrs-length j 0 oa in omega (arith, length-attrs xs, length-attrs ys, length-attrs cs, bodiesFrom-all ys)
-  join-length (unions {ns = ns} {ks = ks} {ls = ls} e) oa = omega (arith, length-encNames ns, length-encNames ks, length-encNames ls, ap length e, union-length ns ks)
+  join-length (unions {ns = ns} {ks = ks} {ls = ls} e) oa =
+      omega (arith, length-encNames ns, length-encNames ks, length-encNames ls, ap length e, union-length ns ks)
 
   joinAttrs-length : {m : Mode} {xs ys cs : Attrs} → JoinAttrs m xs ys cs → (low : ℕ) → OrderedFrom low xs
       → (count cs ≤ count xs) × (length (bodies cs) ≤ length (bodies xs) + bodiesFrom low ys)
@@ -137,8 +139,10 @@ mutual
       let l = ox .0 in
       (omega arith, omega (arith, length-append (enc t) (bodies xs), bodiesFrom-fewer ys low (suc n) (omega arith)))
   joinAttrs-length (keep {n = n} {t = t} {c = c} {xs = xs} {ys = ys} {cs = cs} y e f g i j) low ox =
-      let (p, q) = joinAttrs-length j (suc n) (ox .2) in
-      (omega arith, omega (arith, join-length i (ox .1), length-append (enc t) (bodies xs), length-append (enc c) (bodies cs), found-length ys n low y (ox .0) f))
+      let (p, q) = joinAttrs-length j (suc n) (ox .2) in (
+        omega arith,
+        omega (arith, join-length i (ox .1), length-append (enc t) (bodies xs), length-append (enc c) (bodies cs), found-length ys n low y (ox .0) f),
+      )
 
 -- The bound's form is no longer than the forms of its two types together.
 pub bound-length : (m : Mode) (a b c : Ty) → Ordered a → bound m a b ≡ ok c → length (enc c) ≤ length (enc a) + length (enc b)

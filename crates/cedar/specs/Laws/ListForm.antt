@@ -56,7 +56,8 @@ module _ (Good : Ty → Type 0) where
   pub parseList-reads : (p : List ℕ → Option Ty) → Reads enc Good p → Reads encList (λ ts. Each Good ts × (length ts ≤ maxListed)) (parseList p)
   parseList-reads p r = record { into = into; back = back }
     where
-      table : Reads (λ (xs : List (Unit {0} × Ty)). u16 (length xs) ++ (heads writeLength enc xs ++ tails enc xs)) (Follow anyOrder enc (λ h n. Unit {0}) (λ h. Good) tt) (parseCounted readLength anyOrder (λ h. p) 2 tt)
+      table : Reads (λ (xs : List (Unit {0} × Ty)). u16 (length xs) ++ (heads writeLength enc xs ++ tails enc xs))
+          (Follow anyOrder enc (λ h n. Unit {0}) (λ h. Good) tt) (parseCounted readLength anyOrder (λ h. p) 2 tt)
       table = parseCounted-reads writeLength readLength anyOrder enc (λ h. p) (λ h n. Unit {0}) (λ h. Good) readLength-reads (λ h. r) 2 (λ h n. refl) tt
 
       into : (b : List ℕ) (ts : List Ty) → Bytes b → parseList p b ≡ some ts → (encList ts ≡ b) × (Each Good ts × (length ts ≤ maxListed))
@@ -64,8 +65,10 @@ module _ (Good : Ty → Type 0) where
           bind-some (parseCounted readLength anyOrder (λ h. p) 2 tt b) _ q λ xs ex q₁.
           bind-some (guard (leb (length xs) maxListed)) _ q₁ λ g eg q₂.
           let (w, f) = table .into b xs h ex in
-          subst (λ (y : List Ty). (encList y ≡ b) × (Each Good y × (length y ≤ maxListed))) (Option·some-injective _ _ q₂)
-          (rw (length-seconds xs, lengthsOf-of xs, formsOf-of xs) w, (list-good tt xs f, rw (length-seconds xs) (leb→le (length xs) maxListed (guard-some (leb (length xs) maxListed) g eg))))
+          subst (λ (y : List Ty). (encList y ≡ b) × (Each Good y × (length y ≤ maxListed))) (Option·some-injective _ _ q₂) (
+            rw (length-seconds xs, lengthsOf-of xs, formsOf-of xs) w,
+            (list-good tt xs f, rw (length-seconds xs) (leb→le (length xs) maxListed (guard-some (leb (length xs) maxListed) g eg))),
+          )
 
       bytes : (ts : List Ty) → encList ts ≡ u16 (length (listTable ts)) ++ (heads writeLength enc (listTable ts) ++ tails enc (listTable ts))
       bytes ts = ap encList (sym (seconds-table ts)) ∙ rw (length-seconds (listTable ts), lengthsOf-of (listTable ts), formsOf-of (listTable ts))
@@ -74,6 +77,8 @@ module _ (Good : Ty → Type 0) where
       few ts l = rw (← length-seconds (listTable ts), seconds-table ts) l
 
       back : (ts : List Ty) → Each Good ts × (length ts ≤ maxListed) → parseList p (encList ts) ≡ some ts
-      back ts g = bind-at (λ xs. guard (leb (length xs) maxListed) >>= λ u. some (seconds xs)) (ap (parseCounted readLength anyOrder (λ h. p) 2 tt) (bytes ts) ∙ table .back (listTable ts) (good-list ts (g .0)))
+      back ts g =
+          bind-at (λ xs. guard (leb (length xs) maxListed) >>= λ u. some (seconds xs))
+          (ap (parseCounted readLength anyOrder (λ h. p) 2 tt) (bytes ts) ∙ table .back (listTable ts) (good-list ts (g .0)))
           ∙ guard-yes (leb (length (listTable ts)) maxListed) (λ u. some (seconds (listTable ts))) (le→leb (length (listTable ts)) maxListed (few ts (g .1)))
           ∙ ap (λ (l : List Ty). some l) (seconds-table ts)

@@ -20,7 +20,8 @@ pub none-ok : {A C : Type 0} {y : A} → _≡_ {A = Result (Option A)} (ok none)
 none-ok e = absurd (let z : _≡_ {A = ℕ} 0 1 = cc in omega arith)
 
 -- A step that went on had a bound.
-pub stepped-case : {C : Type 0} (fits : Ty → Bool) (k : Ty → Result (Option (Bool × Ty))) (b : Result Ty) {y : Bool × Ty} → stepped fits k b ≡ ok (some y) → ((c : Ty) → b ≡ ok c → k c ≡ ok (some y) → C) → C
+pub stepped-case : {C : Type 0} (fits : Ty → Bool) (k : Ty → Result (Option (Bool × Ty))) (b : Result Ty) {y : Bool × Ty} → stepped fits k b ≡ ok (some y) →
+    ((c : Ty) → b ≡ ok c → k c ≡ ok (some y) → C) → C
 stepped-case fits k (ok c) e f = cond-case (fits c) e (λ t p. f c refl p) (λ t p. err-ok p)
 stepped-case fits k (err n) e f = none-ok e
 

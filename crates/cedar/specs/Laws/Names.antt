@@ -61,10 +61,12 @@ ascend-ext low (n ∷ ns) (k ∷ ks) a b f g = ap₂ {C = List ℕ} (λ x l. x �
     tail-b = subst (λ (i : ℕ). Ascend (suc i) ks) (sym head) (b .1)
 
     down : (x : ℕ) → In x ns → In x ks
-    down x h = elim (In-cases x k ks (f x (In-there x n ns h))) [ inl e ↦ absurd (let l = In-least x (suc n) ns (a .1) h in let q = head in omega arith) | inr i ↦ i ]
+    down x h =
+        elim (In-cases x k ks (f x (In-there x n ns h))) [ inl e ↦ absurd (let l = In-least x (suc n) ns (a .1) h in let q = head in omega arith) | inr i ↦ i ]
 
     up : (x : ℕ) → In x ks → In x ns
-    up x h = elim (In-cases x n ns (g x (In-there x k ks h))) [ inl e ↦ absurd (let l = In-least x (suc k) ks (b .1) h in let q = head in omega arith) | inr i ↦ i ]
+    up x h =
+        elim (In-cases x n ns (g x (In-there x k ks h))) [ inl e ↦ absurd (let l = In-least x (suc k) ks (b .1) h in let q = head in omega arith) | inr i ↦ i ]
 
 -- `insert` adds one member, and keeps the order.
 insert-cases : (x n : ℕ) (ks : List ℕ) → In x (insert n ks) → (x ≡ n) ⊎ In x ks
@@ -128,7 +130,8 @@ ascend-down low low′ (n ∷ ns) h a = (le-trans h (a .0), a .1)
 -- The union of ascending lists ascends.
 pub union-ascend : (low : ℕ) (ns ks : List ℕ) → Ascend low ns → Ascend low ks → Ascend low (union ns ks)
 union-ascend low [] ks a b = b
-union-ascend low (n ∷ ns) ks a b = insert-ascend low n (union ns ks) (a .0) (union-ascend low ns ks (ascend-down (suc n) low ns (let l = a .0 in omega arith) (a .1)) b)
+union-ascend low (n ∷ ns) ks a b =
+    insert-ascend low n (union ns ks) (a .0) (union-ascend low ns ks (ascend-down (suc n) low ns (let l = a .0 in omega arith) (a .1)) b)
 
 -- A subset's members are members.
 pub subset-In : (x : ℕ) (ns ks : List ℕ) → T (subset ns ks) → In x ns → In x ks
@@ -153,10 +156,6 @@ pub In-subset : (ns ks : List ℕ) → ((x : ℕ) → In x ns → In x ks) → T
 In-subset [] ks f = tt
 In-subset (n ∷ ns) ks f = and-T (mem n ks) (subset ns ks) (f n (In-here n ns)) (In-subset ns ks (λ x i. f x (In-there x n ns i)))
 
--- A list is a subset of itself.
-pub subset-refl : (ns : List ℕ) → T (subset ns ns)
-subset-refl ns = In-subset ns ns (λ x i. i)
-
 -- A union has a member where its second list has.
 pub union-nonempty : (ns ks : List ℕ) → 1 ≤ length ks → 1 ≤ length (union ns ks)
 union-nonempty [] ks h = h
@@ -168,14 +167,16 @@ union-nonempty (n ∷ ns) ks h = insert-nonempty n (union ns ks)
         (λ h. cond-both (λ (l : List ℕ). 1 ≤ length l) (eqb n k) (λ i. suc-le-suc zero-le) (λ i. suc-le-suc zero-le))
 
 -- Of two ascending lists, one within the other: it is no longer, and if it is as long it is the other.
-pub ascend-within : (ks : List ℕ) (low : ℕ) (ns : List ℕ) → Ascend low ns → Ascend low ks → ((x : ℕ) → In x ns → In x ks) → (length ns ≤ length ks) × (length ns ≡ length ks → ns ≡ ks)
+pub ascend-within : (ks : List ℕ) (low : ℕ) (ns : List ℕ) → Ascend low ns → Ascend low ks → ((x : ℕ) → In x ns → In x ks) →
+    (length ns ≤ length ks) × (length ns ≡ length ks → ns ≡ ks)
 ascend-within [] low [] a b f = (zero-le, λ e. refl)
 ascend-within [] low (n ∷ ns) a b f = absurd (f n (In-here n ns))
 ascend-within (k ∷ ks) low [] a b f = (zero-le, λ e. absurd (omega arith))
 ascend-within (k ∷ ks) low (n ∷ ns) a b f = compare-names n k
     (λ l. absurd (let g = In-least n k (k ∷ ks) (le-refl k, b .1) (f n (In-here n ns)) in omega arith))
     (λ e.
-    let (i, j) = ascend-within ks (suc n) ns (a .1) (subst (λ (z : ℕ). Ascend (suc z) ks) (sym e) (b .1)) (λ x h. elim (In-cases x k ks (f x (In-there x n ns h))) [
+    let (i, j) = ascend-within ks (suc n) ns (a .1) (subst (λ (z : ℕ). Ascend (suc z) ks) (sym e) (b .1))
+    (λ x h. elim (In-cases x k ks (f x (In-there x n ns h))) [
       | inl q ↦ absurd (let g = In-least x (suc n) ns (a .1) h in omega arith)
       | inr q ↦ q
     ]) in

@@ -13,12 +13,13 @@ use Rattle.cedar.specs.Types.{Ty, rec, Attrs, Arg, argBool, argLong, arg
 use Rattle.cedar.specs.Bytes.{u16, flag, _>>=_, guard, word, bit, Bytes}
 use Rattle.cedar.specs.Table.{rows}
 use Rattle.cedar.specs.TypeForm.{enc}
-use Rattle.cedar.specs.SchemaForm.{readEntity, readAction, readFunction, ascendingFirst, ascendingAction, readBody, argOf, parseArgs, entitiesOf, actionsOf, functionsOf, parseSchema}
+use Rattle.cedar.specs.SchemaForm.{readEntity, readAction, readFunction, ascendingFirst, ascendingAction, readBody, argOf, parseArgs, entitiesOf}
+use Rattle.cedar.specs.SchemaForm.{actionsOf, functionsOf, parseSchema}
 use Rattle.cedar.specs.SchemaForm.{encBody}
 use Rattle.cedar.specs.Attribute.{entityIn}
-use Rattle.cedar.specs.Literal.{actionIn}
 use Rattle.cedar.specs.Limits.{maxEntities, maxActions, maxFunctions}
-use Rattle.cedar.specs.Laws.Encoders.{heads, tails, entityRows, actionRows, functionRows, writeEntity, writeAction, writeFunction, encArg, encArgs, encSchema}
+use Rattle.cedar.specs.Laws.Encoders.{heads, tails, entityRows, actionRows, functionRows, writeEntity, writeAction, writeFunction, encArg, encArgs}
+use Rattle.cedar.specs.Laws.Encoders.{encSchema}
 use Rattle.cedar.specs.Laws.Tests.{T-and, and-T, cond-case, none-some, T→true}
 use Rattle.cedar.specs.Laws.Equality.{asRec-some}
 use Rattle.cedar.specs.Laws.Bytes.{Reads, Bytes-drop, bind-some, bind-at, guard-some, guard-yes, finish-some, word-some, bit-some, bit-flag}
@@ -27,12 +28,16 @@ use Rattle.cedar.specs.Laws.Table.{ReadsEntry, Follow, rows-some, rows-e
 -- Entity entries in order: even names, ascending from `low` on, an enumerated one closed, each body good.
 abbrev pub EntitiesFrom : (Ty → Type 0) → ℕ → List Entity → Type 0
 EntitiesFrom Good low [] = Unit {0}
-EntitiesFrom Good low (e ∷ es) = (low ≤ e .name) × T (not (isAction (e .name))) × T (not (e .enumerated && e .isOpen)) × Good (rec (e .isOpen) (e .attrs)) × EntitiesFrom Good (suc (e .name)) es
+EntitiesFrom Good low (e ∷ es) =
+    (low ≤ e .name) × T (not (isAction (e .name))) × T (not (e .enumerated && e .isOpen)) × Good (rec (e .isOpen) (e .attrs)) ×
+    EntitiesFrom Good (suc (e .name)) es
 
 -- Action entries in order: odd types, ascending by type, then id, each body closed and good.
 abbrev pub ActionsFrom : (Ty → Type 0) → ℕ × ℕ → List Action → Type 0
 ActionsFrom Good low [] = Unit {0}
-ActionsFrom Good low (a ∷ xs) = T (ltb (low .0) (a .type) || (eqb (low .0) (a .type) && leb (low .1) (a .id))) × T (isAction (a .type)) × Good (rec false (a .attrs)) × ActionsFrom Good (a .type, suc (a .id)) xs
+ActionsFrom Good low (a ∷ xs) =
+    T (ltb (low .0) (a .type) || (eqb (low .0) (a .type) && leb (low .1) (a .id))) × T (isAction (a .type)) × Good (rec false (a .attrs)) ×
+    ActionsFrom Good (a .type, suc (a .id)) xs
 
 -- Function entries in order: names ascend.
 abbrev pub FunctionsFrom : ℕ → List Function → Type 0
@@ -52,7 +57,8 @@ pub record OrderedSchema (Good : Ty → Type 0) (s : Schema) : Type 0 where
 readEntity-reads : ReadsEntry writeEntity (λ h n. T (not (isAction (h .0)))) readEntity
 readEntity-reads = record { into = into; back = back }
   where
-    into : (b : List ℕ) (x : (ℕ × Bool) × ℕ × List ℕ) → Bytes b → readEntity b ≡ some x → (writeEntity (x .0) (x .1) ++ x .2 ≡ b) × Bytes (x .2) × T (not (isAction (x .0 .0)))
+    into : (b : List ℕ) (x : (ℕ × Bool) × ℕ × List ℕ) → Bytes b → readEntity b ≡ some x → (writeEntity (x .0) (x .1) ++ x .2 ≡ b) × Bytes (x .2) ×
+        T (not (isAction (x .0 .0)))
     into b x h e =
         bind-some (word b) _ e λ n en e₁.
         bind-some (guard (not (isAction (n .0)))) _ e₁ λ g eg e₂.
@@ -61,16 +67,20 @@ readEntity-reads = record { into = into; back = back }
         let (s₁, h₁) = word-some b n h en in
         let (s₂, h₂) = bit-some (n .1) r h₁ er in
         let (s₃, h₃) = word-some (r .1) l h₂ el in
-        subst (λ (y : (ℕ × Bool) × ℕ × List ℕ). (writeEntity (y .0) (y .1) ++ y .2 ≡ b) × Bytes (y .2) × T (not (isAction (y .0 .0)))) (Option·some-injective _ _ e₄)
+        subst (λ (y : (ℕ × Bool) × ℕ × List ℕ). (writeEntity (y .0) (y .1) ++ y .2 ≡ b) × Bytes (y .2) × T (not (isAction (y .0 .0))))
+        (Option·some-injective _ _ e₄)
         (rw s₃ (rw s₂ s₁), h₃, guard-some (not (isAction (n .0))) g eg)
 
     back : (h : ℕ × Bool) (l : ℕ) (b : List ℕ) → T (not (isAction (h .0))) → readEntity (writeEntity h l ++ b) ≡ some (h, l, b)
-    back h l b t = rw (mod-add-div' (h .0) 256) (guard-yes (not (isAction (h .0))) _ t ∙ bind-at _ (bit-flag (h .1) (u16 l ++ b)) ∙ ap (λ (j : ℕ). some (h, j, b)) (mod-add-div' l 256))
+    back h l b t =
+        rw (mod-add-div' (h .0) 256) (guard-yes (not (isAction (h .0))) _ t ∙ bind-at _ (bit-flag (h .1) (u16 l ++ b)) ∙
+        ap (λ (j : ℕ). some (h, j, b)) (mod-add-div' l 256))
 
 readAction-reads : ReadsEntry writeAction (λ h n. T (isAction (h .0))) readAction
 readAction-reads = record { into = into; back = back }
   where
-    into : (b : List ℕ) (x : (ℕ × ℕ) × ℕ × List ℕ) → Bytes b → readAction b ≡ some x → (writeAction (x .0) (x .1) ++ x .2 ≡ b) × Bytes (x .2) × T (isAction (x .0 .0))
+    into : (b : List ℕ) (x : (ℕ × ℕ) × ℕ × List ℕ) → Bytes b → readAction b ≡ some x → (writeAction (x .0) (x .1) ++ x .2 ≡ b) × Bytes (x .2) ×
+        T (isAction (x .0 .0))
     into b x h e =
         bind-some (word b) _ e λ n en e₁.
         bind-some (guard (isAction (n .0))) _ e₁ λ g eg e₂.
@@ -83,7 +93,9 @@ readAction-reads = record { into = into; back = back }
         (rw s₃ (rw s₂ s₁), h₃, guard-some (isAction (n .0)) g eg)
 
     back : (h : ℕ × ℕ) (l : ℕ) (b : List ℕ) → T (isAction (h .0)) → readAction (writeAction h l ++ b) ≡ some (h, l, b)
-    back h l b t = rw (mod-add-div' (h .0) 256) (guard-yes (isAction (h .0)) _ t ∙ ap₂ (λ (i j : ℕ). some ((h .0, i), j, b)) (mod-add-div' (h .1) 256) (mod-add-div' l 256))
+    back h l b t =
+        rw (mod-add-div' (h .0) 256)
+        (guard-yes (isAction (h .0)) _ t ∙ ap₂ (λ (i j : ℕ). some ((h .0, i), j, b)) (mod-add-div' (h .1) 256) (mod-add-div' l 256))
 
 readFunction-reads : ReadsEntry writeFunction (λ h n. Unit {0}) readFunction
 readFunction-reads = record { into = into; back = back }
@@ -92,7 +104,8 @@ readFunction-reads = record { into = into; back = back }
     returned true e t = (refl, refl)
     returned false e t = (refl, sym (eqb→eq e 0 t))
 
-    into : (b : List ℕ) (x : (ℕ × Option ℕ) × ℕ × List ℕ) → Bytes b → readFunction b ≡ some x → (writeFunction (x .0) (x .1) ++ x .2 ≡ b) × Bytes (x .2) × Unit {0}
+    into : (b : List ℕ) (x : (ℕ × Option ℕ) × ℕ × List ℕ) → Bytes b → readFunction b ≡ some x → (writeFunction (x .0) (x .1) ++ x .2 ≡ b) × Bytes (x .2) ×
+        Unit {0}
     into b x h q =
         bind-some (word b) _ q λ n en e₁.
         bind-some (bit (n .1)) _ e₁ λ r er e₂.
@@ -176,7 +189,9 @@ readBody-reads Good p closed r = record { into = into; back = back }
         (ap enc (sym z) ∙ w, (subst Good z o, guard-some (not (closed && y .0)) g eg))
 
     back : (x : Bool × Attrs) → Good (rec (x .0) (x .1)) × T (not (closed && x .0)) → readBody p closed (encBody x) ≡ some x
-    back x g = bind-at (λ t. asRec t >>= λ y. guard (not (closed && y .0)) >>= λ u. some (y .0, y .1)) (r .back (rec (x .0) (x .1)) (g .0)) ∙ guard-yes (not (closed && x .0)) (λ u. some (x .0, x .1)) (g .1)
+    back x g =
+        bind-at (λ t. asRec t >>= λ y. guard (not (closed && y .0)) >>= λ u. some (y .0, y .1)) (r .back (rec (x .0) (x .1)) (g .0)) ∙
+        guard-yes (not (closed && x .0)) (λ u. some (x .0, x .1)) (g .1)
 
 -- The sections as tables, and back.
 entities-rows : (es : List Entity) → entitiesOf (entityRows es) ≡ es
@@ -242,7 +257,8 @@ module _ (Good : Ty → Type 0) where
   good-entities low [] w = tt
   good-entities low (e ∷ es) w = (suc (e .name), ascending-yes low (e .name) (w .0), w .1, (w .3, w .2), good-entities (suc (e .name)) es (w .4))
 
-  actions-good : (low : ℕ × ℕ) (xs : List ((ℕ × ℕ) × (Bool × Attrs))) → FollowActions low xs → ActionsFrom Good low (actionsOf xs) × (actionRows (actionsOf xs) ≡ xs)
+  actions-good : (low : ℕ × ℕ) (xs : List ((ℕ × ℕ) × (Bool × Attrs))) → FollowActions low xs → ActionsFrom Good low (actionsOf xs) ×
+      (actionRows (actionsOf xs) ≡ xs)
   actions-good low [] f = (tt, refl)
   actions-good low (x ∷ xs) f =
       let (i, j) = actions-good (f .0) xs (f .4) in
@@ -250,7 +266,12 @@ module _ (Good : Ty → Type 0) where
       let after = ltb (low .0) (x .0 .0) || (eqb (low .0) (x .0 .0) && leb (low .1) (x .0 .1)) in
       cond-case after (f .1)
       (λ t p. (
-        (t, f .2, subst (λ (q : Bool). Good (rec q (x .1 .1))) (sym o) (f .3 .0), subst (λ (s : ℕ × ℕ). ActionsFrom Good s (actionsOf xs)) (sym (Option·some-injective _ _ p)) i),
+        (
+          t,
+          f .2,
+          subst (λ (q : Bool). Good (rec q (x .1 .1))) (sym o) (f .3 .0),
+          subst (λ (s : ℕ × ℕ). ActionsFrom Good s (actionsOf xs)) (sym (Option·some-injective _ _ p)) i,
+        ),
         ap₂ (λ (q : Bool) (l : List ((ℕ × ℕ) × (Bool × Attrs))). (x .0, (q, x .1 .1)) ∷ l) o j,
       ))
       (λ t p. none-some p)
@@ -294,19 +315,30 @@ drop-heads xs ys zs rest =
     let c = heads writeFunction encArgs zs in
     ap (drop (5 * length xs + 6 * length ys + 7 * length zs)) (ap (λ (l : List ℕ). a ++ l) (sym (append-assoc b c rest)) ∙ sym (append-assoc a (b ++ c) rest))
     ∙ drop-at (a ++ (b ++ c)) rest (5 * length xs + 6 * length ys + 7 * length zs)
-    (omega (arith, length-append a (b ++ c), length-append b c, length-heads writeEntity encBody 5 (λ h n. refl) xs, length-heads writeAction encBody 6 (λ h n. refl) ys, length-heads writeFunction encArgs 7 (λ h n. refl) zs))
+    (omega (
+      arith,
+      length-append a (b ++ c),
+      length-append b c,
+      length-heads writeEntity encBody 5 (λ h n. refl) xs,
+      length-heads writeAction encBody 6 (λ h n. refl) ys,
+      length-heads writeFunction encArgs 7 (λ h n. refl) zs,
+    ))
 
 -- What was read of the three sections, put together.
-sections-bytes : (b : List ℕ) (m n k : ℕ × List ℕ) (xs : List ((ℕ × Bool) × (Bool × Attrs))) (ys : List ((ℕ × ℕ) × (Bool × Attrs))) (zs : List ((ℕ × Option ℕ) × List Arg)) (rest : List ℕ)
-    → u16 (m .0) ++ m .1 ≡ b → u16 (n .0) ++ n .1 ≡ m .1 → u16 (k .0) ++ k .1 ≡ n .1 → headsOf xs ys zs rest ≡ k .1 → tailsOf xs ys zs [] ≡ drop (5 * m .0 + 6 * n .0 + 7 * k .0) (k .1)
+sections-bytes : (b : List ℕ) (m n k : ℕ × List ℕ) (xs : List ((ℕ × Bool) × (Bool × Attrs))) (ys : List ((ℕ × ℕ) × (Bool × Attrs)))
+    (zs : List ((ℕ × Option ℕ) × List Arg)) (rest : List ℕ)
+    → u16 (m .0) ++ m .1 ≡ b → u16 (n .0) ++ n .1 ≡ m .1 → u16 (k .0) ++ k .1 ≡ n .1 → headsOf xs ys zs rest ≡ k .1 →
+    tailsOf xs ys zs [] ≡ drop (5 * m .0 + 6 * n .0 + 7 * k .0) (k .1)
     → length xs ≡ m .0 → length ys ≡ n .0 → length zs ≡ k .0 → schemaBytes xs ys zs ≡ b
 sections-bytes b m n k xs ys zs rest m₁ n₁ k₁ hs ts lx ly lz =
     let d : tailsOf xs ys zs [] ≡ rest = ts ∙ rw (← lx, ← ly, ← lz, ← hs) (drop-heads xs ys zs rest) in
     ap (λ (l : List ℕ). u16 (length xs) ++ (u16 (length ys) ++ (u16 (length zs) ++ headsOf xs ys zs l))) d ∙ rw (lx, ly, lz, hs, k₁, n₁) m₁
 
-sections-ordered : (Good : Ty → Type 0) (m n k : ℕ) (xs : List ((ℕ × Bool) × (Bool × Attrs))) (ys : List ((ℕ × ℕ) × (Bool × Attrs))) (zs : List ((ℕ × Option ℕ) × List Arg))
+sections-ordered : (Good : Ty → Type 0) (m n k : ℕ) (xs : List ((ℕ × Bool) × (Bool × Attrs))) (ys : List ((ℕ × ℕ) × (Bool × Attrs)))
+    (zs : List ((ℕ × Option ℕ) × List Arg))
     → length xs ≡ m → length ys ≡ n → length zs ≡ k → FollowEntities Good 0 xs → FollowActions Good (0, 0) ys → FollowFunctions Good 0 zs
-    → T (leb m maxEntities && (leb n maxActions && leb k maxFunctions)) → OrderedSchema Good (record { entities = entitiesOf xs; actions = actionsOf ys; functions = functionsOf zs })
+    → T (leb m maxEntities && (leb n maxActions && leb k maxFunctions)) →
+    OrderedSchema Good (record { entities = entitiesOf xs; actions = actionsOf ys; functions = functionsOf zs })
 sections-ordered Good m n k xs ys zs lx ly lz fx fy fz t =
     let (t₁, u) = T-and (leb m maxEntities) (leb n maxActions && leb k maxFunctions) t in
     let (t₂, t₃) = T-and (leb n maxActions) (leb k maxFunctions) u in
@@ -315,15 +347,21 @@ sections-ordered Good m n k xs ys zs lx ly lz fx fy fz t =
       entities = entities-good Good 0 xs fx;
       actions = ay;
       functions = functions-good Good 0 zs fz;
-      fewEntities = subst (λ (i : ℕ). i ≤ maxEntities) (sym lx ∙ ap length (sym (rows-entities xs)) ∙ length-entityRows (entitiesOf xs)) (leb→le m maxEntities t₁);
+      fewEntities =
+          subst (λ (i : ℕ). i ≤ maxEntities) (sym lx ∙ ap length (sym (rows-entities xs)) ∙ length-entityRows (entitiesOf xs)) (leb→le m maxEntities t₁);
       fewActions = subst (λ (i : ℕ). i ≤ maxActions) (sym ly ∙ ap length (sym ry) ∙ length-actionRows (actionsOf ys)) (leb→le n maxActions t₂);
-      fewFunctions = subst (λ (i : ℕ). i ≤ maxFunctions) (sym lz ∙ ap length (sym (rows-functions zs)) ∙ length-functionRows (functionsOf zs)) (leb→le k maxFunctions t₃);
+      fewFunctions =
+          subst (λ (i : ℕ). i ≤ maxFunctions) (sym lz ∙ ap length (sym (rows-functions zs)) ∙ length-functionRows (functionsOf zs)) (leb→le k maxFunctions t₃);
     }
 
-schema-bytes : (b : List ℕ) (m n k : ℕ × List ℕ) (xs : List ((ℕ × Bool) × (Bool × Attrs))) (ys : List ((ℕ × ℕ) × (Bool × Attrs))) (zs : List ((ℕ × Option ℕ) × List Arg)) (rest : List ℕ)
-    → u16 (m .0) ++ m .1 ≡ b → u16 (n .0) ++ n .1 ≡ m .1 → u16 (k .0) ++ k .1 ≡ n .1 → headsOf xs ys zs rest ≡ k .1 → tailsOf xs ys zs [] ≡ drop (5 * m .0 + 6 * n .0 + 7 * k .0) (k .1)
-    → length xs ≡ m .0 → length ys ≡ n .0 → length zs ≡ k .0 → actionRows (actionsOf ys) ≡ ys → encSchema (record { entities = entitiesOf xs; actions = actionsOf ys; functions = functionsOf zs }) ≡ b
-schema-bytes b m n k xs ys zs rest m₁ n₁ k₁ hs ts lx ly lz ry = rw (rows-entities xs, ry, rows-functions zs, ← no-more xs ys zs) (sections-bytes b m n k xs ys zs rest m₁ n₁ k₁ hs ts lx ly lz)
+schema-bytes : (b : List ℕ) (m n k : ℕ × List ℕ) (xs : List ((ℕ × Bool) × (Bool × Attrs))) (ys : List ((ℕ × ℕ) × (Bool × Attrs)))
+    (zs : List ((ℕ × Option ℕ) × List Arg)) (rest : List ℕ)
+    → u16 (m .0) ++ m .1 ≡ b → u16 (n .0) ++ n .1 ≡ m .1 → u16 (k .0) ++ k .1 ≡ n .1 → headsOf xs ys zs rest ≡ k .1 →
+    tailsOf xs ys zs [] ≡ drop (5 * m .0 + 6 * n .0 + 7 * k .0) (k .1)
+    → length xs ≡ m .0 → length ys ≡ n .0 → length zs ≡ k .0 → actionRows (actionsOf ys) ≡ ys →
+    encSchema (record { entities = entitiesOf xs; actions = actionsOf ys; functions = functionsOf zs }) ≡ b
+schema-bytes b m n k xs ys zs rest m₁ n₁ k₁ hs ts lx ly lz ry =
+    rw (rows-entities xs, ry, rows-functions zs, ← no-more xs ys zs) (sections-bytes b m n k xs ys zs rest m₁ n₁ k₁ hs ts lx ly lz)
 
 schema-equal : {es fs : List Entity} {us vs : List Action} {gs hs : List Function} → es ≡ fs → us ≡ vs → gs ≡ hs
     → _≡_ {A = Schema} (record { entities = es; actions = us; functions = gs }) (record { entities = fs; actions = vs; functions = hs })
@@ -344,16 +382,23 @@ module _ (Good : Ty → Type 0) (p : List ℕ → Option Ty) (r : Reads enc Good
       let (m₁, hm) = word-some b m h em in
       let (n₁, hn) = word-some (m .1) n hm en in
       let (k₁, hk) = word-some (n .1) k hn ek in
-      let (x₁, x₂, x₃, x₄, x₅, x₆) = rows-some writeEntity readEntity ascendingFirst encBody (λ h. readBody p (h .1)) (λ h n. T (not (isAction (h .0)))) (EntityRow Good) readEntity-reads (λ h. readBody-reads Good p (h .1) r)
+      let (x₁, x₂, x₃, x₄, x₅, x₆) = rows-some writeEntity readEntity ascendingFirst encBody (λ h. readBody p (h .1)) (λ h n. T (not (isAction (h .0))))
+      (EntityRow Good) readEntity-reads (λ h. readBody-reads Good p (h .1) r)
       (m .0) 0 (k .1) bodies x hk (Bytes-drop (5 * m .0 + 6 * n .0 + 7 * k .0) (k .1) hk) ex in
-      let (y₁, y₂, y₃, y₄, y₅, y₆) = rows-some writeAction readAction ascendingAction encBody (λ h. readBody p true) (λ h n. T (isAction (h .0))) (ActionRow Good) readAction-reads (λ h. readBody-reads Good p true r)
+      let (y₁, y₂, y₃, y₄, y₅, y₆) = rows-some writeAction readAction ascendingAction encBody (λ h. readBody p true) (λ h n. T (isAction (h .0)))
+      (ActionRow Good) readAction-reads (λ h. readBody-reads Good p true r)
       (n .0) (0, 0) (x .1) (x .2) y x₅ x₆ ey in
-      let (z₁, z₂, z₃, z₄, z₅, z₆) = rows-some writeFunction readFunction ascendingFirst encArgs (λ h. parseArgs) (λ h n. Unit {0}) (λ h x. Unit {0}) readFunction-reads (λ h. parseArgs-reads)
+      let (z₁, z₂, z₃, z₄, z₅, z₆) = rows-some writeFunction readFunction ascendingFirst encArgs (λ h. parseArgs) (λ h n. Unit {0}) (λ h x. Unit {0})
+      readFunction-reads (λ h. parseArgs-reads)
       (k .0) 0 (y .1) (y .2) z y₅ y₆ ez in
       subst (λ (t : Schema). (encSchema t ≡ b) × OrderedSchema Good t) f (
-        schema-bytes b m n k (x .0) (y .0) (z .0) (z .1) m₁ n₁ k₁ (ap (λ (l : List ℕ). heads writeEntity encBody (x .0) ++ l) (ap (λ (l : List ℕ). heads writeAction encBody (y .0) ++ l) z₁ ∙ y₁) ∙ x₁)
-            (ap (λ (l : List ℕ). tails encBody (x .0) ++ l) (ap (λ (l : List ℕ). tails encBody (y .0) ++ l) (ap (λ (l : List ℕ). tails encArgs (z .0) ++ l) (sym e) ∙ z₂) ∙ y₂) ∙ x₂) x₃ y₃ z₃ (actions-good Good (0, 0) (y .0) y₄ .1),
-        sections-ordered Good (m .0) (n .0) (k .0) (x .0) (y .0) (z .0) x₃ y₃ z₃ x₄ y₄ z₄ (guard-some (leb (m .0) maxEntities && (leb (n .0) maxActions && leb (k .0) maxFunctions)) g eg),
+        schema-bytes b m n k (x .0) (y .0) (z .0) (z .1) m₁ n₁ k₁
+            (ap (λ (l : List ℕ). heads writeEntity encBody (x .0) ++ l) (ap (λ (l : List ℕ). heads writeAction encBody (y .0) ++ l) z₁ ∙ y₁) ∙ x₁)
+            (ap (λ (l : List ℕ). tails encBody (x .0) ++ l)
+            (ap (λ (l : List ℕ). tails encBody (y .0) ++ l) (ap (λ (l : List ℕ). tails encArgs (z .0) ++ l) (sym e) ∙ z₂) ∙ y₂) ∙ x₂) x₃ y₃ z₃
+            (actions-good Good (0, 0) (y .0) y₄ .1),
+        sections-ordered Good (m .0) (n .0) (k .0) (x .0) (y .0) (z .0) x₃ y₃ z₃ x₄ y₄ z₄
+            (guard-some (leb (m .0) maxEntities && (leb (n .0) maxActions && leb (k .0) maxFunctions)) g eg),
       )
 
   schema-enc : (s : Schema) → OrderedSchema Good s → parseSchema p (encSchema s) ≡ some s
@@ -362,17 +407,25 @@ module _ (Good : Ty → Type 0) (p : List ℕ → Option Ty) (r : Reads enc Good
       let ys = actionRows (s .actions) in
       let zs = functionRows (s .functions) in
       let few : T (leb (length xs) maxEntities && (leb (length ys) maxActions && leb (length zs) maxFunctions)) =
-      and-T (leb (length xs) maxEntities) (leb (length ys) maxActions && leb (length zs) maxFunctions) (le→leb (length xs) maxEntities (rw (length-entityRows (s .entities)) (o .fewEntities)))
-      (and-T (leb (length ys) maxActions) (leb (length zs) maxFunctions) (le→leb (length ys) maxActions (rw (length-actionRows (s .actions)) (o .fewActions))) (le→leb (length zs) maxFunctions (rw (length-functionRows (s .functions)) (o .fewFunctions)))) in
+      and-T (leb (length xs) maxEntities) (leb (length ys) maxActions && leb (length zs) maxFunctions)
+      (le→leb (length xs) maxEntities (rw (length-entityRows (s .entities)) (o .fewEntities)))
+      (and-T (leb (length ys) maxActions) (leb (length zs) maxFunctions) (le→leb (length ys) maxActions (rw (length-actionRows (s .actions)) (o .fewActions)))
+      (le→leb (length zs) maxFunctions (rw (length-functionRows (s .functions)) (o .fewFunctions)))) in
       ap (λ (l : List ℕ). parseSchema p (u16 (length xs) ++ (u16 (length ys) ++ (u16 (length zs) ++ headsOf xs ys zs l)))) (sym (no-more xs ys zs))
       ∙ rw (mod-add-div' (length xs) 256, mod-add-div' (length ys) 256, mod-add-div' (length zs) 256)
       (guard-yes (leb (length xs) maxEntities && (leb (length ys) maxActions && leb (length zs) maxFunctions)) _ few
       ∙ rw (drop-heads xs ys zs (tailsOf xs ys zs []))
-      (bind-at _ (rows-enc writeEntity readEntity ascendingFirst encBody (λ h. readBody p (h .1)) (λ h n. T (not (isAction (h .0)))) (EntityRow Good) readEntity-reads (λ h. readBody-reads Good p (h .1) r)
+      (bind-at _ (rows-enc writeEntity readEntity ascendingFirst encBody (λ h. readBody p (h .1)) (λ h n. T (not (isAction (h .0)))) (EntityRow Good)
+      readEntity-reads (λ h. readBody-reads Good p (h .1) r)
       0 xs _ _ (good-entities Good 0 (s .entities) (o .entities)))
-      ∙ bind-at _ (rows-enc writeAction readAction ascendingAction encBody (λ h. readBody p true) (λ h n. T (isAction (h .0))) (ActionRow Good) readAction-reads (λ h. readBody-reads Good p true r)
+      ∙
+      bind-at _ (rows-enc writeAction readAction ascendingAction encBody (λ h. readBody p true) (λ h n. T (isAction (h .0))) (ActionRow Good)
+      readAction-reads (λ h. readBody-reads Good p true r)
       (0, 0) ys _ _ (good-actions Good (0, 0) (s .actions) (o .actions)))
-      ∙ bind-at _ (rows-enc writeFunction readFunction ascendingFirst encArgs (λ h. parseArgs) (λ h n. Unit {0}) (λ h x. Unit {0}) readFunction-reads (λ h. parseArgs-reads)
+      ∙
+      bind-at _
+      (rows-enc writeFunction readFunction ascendingFirst encArgs (λ h. parseArgs) (λ h n. Unit {0}) (λ h x. Unit {0})
+      readFunction-reads (λ h. parseArgs-reads)
       0 zs _ _ (good-functions Good 0 (s .functions) (o .functions)))
       ∙ ap some (schema-equal (entities-rows (s .entities)) (actions-rows (s .actions)) (functions-rows (s .functions)))))
 
@@ -381,16 +434,9 @@ module _ (Good : Ty → Type 0) (p : List ℕ → Option Ty) (r : Reads enc Good
   parseSchema-reads = record { into = schema-some; back = schema-enc }
 
 -- An entity entry that is found has the name, and its body is good.
-pub entityIn-good : (Good : Ty → Type 0) (es : List Entity) (low n : ℕ) (e : Entity) → EntitiesFrom Good low es → entityIn es n ≡ some e → (n ≡ e .name) × Good (rec (e .isOpen) (e .attrs))
+pub entityIn-good : (Good : Ty → Type 0) (es : List Entity) (low n : ℕ) (e : Entity) → EntitiesFrom Good low es → entityIn es n ≡ some e →
+    (n ≡ e .name) × Good (rec (e .isOpen) (e .attrs))
 entityIn-good Good [] low n e w q = none-some q
 entityIn-good Good (d ∷ es) low n e w q = cond-case (eqb n (d .name)) q
     (λ t p. subst (λ (x : Entity). (n ≡ x .name) × Good (rec (x .isOpen) (x .attrs))) (Option·some-injective _ _ p) (eqb→eq n (d .name) t, w .3))
     (λ t p. entityIn-good Good es (suc (d .name)) n e (w .4) p)
-
--- An action entry that is found has the type and id, and its body is good.
-pub actionIn-good : (Good : Ty → Type 0) (xs : List Action) (low : ℕ × ℕ) (k i : ℕ) (a : Action) → ActionsFrom Good low xs → actionIn xs k i ≡ some a → (k ≡ a .type) × (i ≡ a .id) × Good (rec false (a .attrs))
-actionIn-good Good [] low k i a w q = none-some q
-actionIn-good Good (d ∷ xs) low k i a w q = cond-case (eqb k (d .type) && eqb i (d .id)) q
-    (λ t p. let (t₁, t₂) = T-and (eqb k (d .type)) (eqb i (d .id)) t in
-    subst (λ (x : Action). (k ≡ x .type) × (i ≡ x .id) × Good (rec false (x .attrs))) (Option·some-injective _ _ p) (eqb→eq k (d .type) t₁, eqb→eq i (d .id) t₂, w .2))
-    (λ t p. actionIn-good Good xs (d .type, suc (d .id)) k i a (w .3) p)

@@ -21,7 +21,8 @@ use Rattle.cedar.specs.Conformance.{holds, Counts, hasName, conforms}
 use Rattle.cedar.specs.Conforms.{Conforms}
 use Rattle.cedar.specs.Outcome.{Outcome, refused, said, nothing, typed, attribute, named}
 use Rattle.cedar.specs.Calls.{stepFits, disjointCall, boundCall}
-use Rattle.cedar.specs.Sequence.{Listed, Step, standing, EachBytes, givenFrom, written, copied, afterStep, afterSteps, attributeOf, isActionForm, LooksUp, Kept, RunKeeps}
+use Rattle.cedar.specs.Sequence.{Listed, Step, standing, EachBytes, givenFrom, written, copied, afterStep, afterSteps, attributeOf, isActionForm, LooksUp}
+use Rattle.cedar.specs.Sequence.{Kept, RunKeeps}
 use Rattle.cedar.specs.Laws.Tests.{not-T→false, none-some, none-of}
 use Rattle.cedar.specs.Laws.Names.{In, In-cases, In-append}
 use Rattle.cedar.specs.Laws.Whole.{TypeWithin, wholeType-reads}
@@ -32,7 +33,8 @@ use Rattle.cedar.specs.Laws.BoundSound.{bound-sound}
 use Rattle.cedar.specs.Laws.DisjointSound.{disjoint-sound}
 use Rattle.cedar.specs.Laws.Lookup.{record-part, lookup-WF}
 use Rattle.cedar.specs.Laws.AttributeSound.{CarriesPairs, Has, EntriesOrdered, lookup-sound, ownAttr-sound, mayHave-sound}
-use Rattle.cedar.specs.Laws.Calls.{boundCall-typed, disjointCall-said, lookupCall-found, ownAttributeCall-found, mayHaveCall-said, conforms-case, conforms-yes}
+use Rattle.cedar.specs.Laws.Calls.{boundCall-typed, disjointCall-said, lookupCall-found, ownAttributeCall-found, mayHaveCall-said, conforms-case}
+use Rattle.cedar.specs.Laws.Calls.{conforms-yes}
 use Rattle.cedar.specs.Laws.Carried.{attributeOf-name, attributeOf-some, entity-whole, carried-case}
 
 not-action-form : (a : Ty) → T (not (isActionForm (enc a))) → asAct a ≡ none
@@ -49,9 +51,12 @@ agree : {A : Type 0} {o : Option A} {x y : A} → o ≡ some x → o ≡ some y 
 agree p q = Option·some-injective _ _ (sym p ∙ q)
 
 -- What conforms, by trees that are known already.
-conforms-tree : (lim : Limits) (c : Counts) (schema t v : List ℕ) (s : Schema) (a : Ty) (x : Value) → wholeSchema lim schema ≡ some s → wholeType lim t ≡ some a → wholeValue lim v ≡ some x → Conforms lim c schema t v → Holds (conforms c s a x)
+conforms-tree : (lim : Limits) (c : Counts) (schema t v : List ℕ) (s : Schema) (a : Ty) (x : Value) → wholeSchema lim schema ≡ some s →
+    wholeType lim t ≡ some a → wholeValue lim v ≡ some x → Conforms lim c schema t v → Holds (conforms c s a x)
 conforms-tree lim c schema t v s a x es ea ex h = conforms-case lim c schema t v h λ s′ a′ x′ es′ ea′ ex′ yes.
-    yes→Holds (conforms c s a x) (subst (λ (z : Value). conforms c s a z ≡ holds) (agree ex′ ex) (subst (λ (z : Ty). conforms c s z x′ ≡ holds) (agree ea′ ea) (subst (λ (z : Schema). conforms c z a′ x′ ≡ holds) (agree es′ es) yes)))
+    yes→Holds (conforms c s a x)
+    (subst (λ (z : Value). conforms c s a z ≡ holds) (agree ex′ ex)
+    (subst (λ (z : Ty). conforms c s z x′ ≡ holds) (agree ea′ ea) (subst (λ (z : Schema). conforms c z a′ x′ ≡ holds) (agree es′ es) yes)))
 
 module _ (lim : Limits) (c : Counts) (schema t v : List ℕ) (hs : Bytes schema) (ht : Bytes t) (s : Schema) (a : Ty) (x : Value)
     (es : wholeSchema lim schema ≡ some s) (ea : wholeType lim t ≡ some a) (ex : wholeValue lim v ≡ some x) (held : Holds (conforms c s a x)) where
@@ -60,7 +65,8 @@ module _ (lim : Limits) (c : Counts) (schema t v : List ℕ) (hs : Bytes schema)
   apart-from u b eb (inr d) h = disjoint-sound c s b a x d (conforms-tree lim c schema u v s b x es eb ex h) held
 
   apart-call : (u : List ℕ) → Conforms lim c schema u v → (disjointCall lim t u ≡ said true) ⊎ (disjointCall lim u t ≡ said true) → ⊥
-  apart-call u h (inl e) = disjointCall-said lim t u true e λ a′ b ea′ eb d. apart-from u b eb (inl (subst T (sym (ap (λ (z : Ty). disjoint z b) (agree ea ea′) ∙ d)) tt)) h
+  apart-call u h (inl e) =
+      disjointCall-said lim t u true e λ a′ b ea′ eb d. apart-from u b eb (inl (subst T (sym (ap (λ (z : Ty). disjoint z b) (agree ea ea′) ∙ d)) tt)) h
   apart-call u h (inr e) = disjointCall-said lim u t true e λ b a′ eb ea′ d. apart-from u b eb (inr (subst T (sym (ap (disjoint b) (agree ea ea′) ∙ d)) tt)) h
 
   within : TypeWithin lim a
@@ -85,9 +91,11 @@ module _ (lim : Limits) (c : Counts) (schema t v : List ℕ) (hs : Bytes schema)
   own-within n (ext k) y i w e = none-some e
 
   -- What either lookup found holds of the pairs, and its type is whole.
-  looked : T (not (isActionForm t)) → (n : ℕ) (r : Bool) (y : Ty) (ps : Pairs) → CarriesPairs c s x ps → LooksUp lim schema n t r y → Has c s n (r, y) ps × (wholeType lim (enc y) ≡ some y)
+  looked : T (not (isActionForm t)) → (n : ℕ) (r : Bool) (y : Ty) (ps : Pairs) → CarriesPairs c s x ps → LooksUp lim schema n t r y →
+      Has c s n (r, y) ps × (wholeType lim (enc y) ≡ some y)
   looked i n r y ps g (inl (room, work, e)) = lookupCall-found lim schema n t room work r y e λ s′ a′ es′ ea′ p l.
-      let q : lookup (stepFits lim work) s n a ≡ ok (some (r, y)) = subst (λ (z : Ty). lookup (stepFits lim work) s n z ≡ ok (some (r, y))) (agree ea′ ea) (subst (λ (z : Schema). lookup (stepFits lim work) z n a′ ≡ ok (some (r, y))) (agree es′ es) p) in (
+      let q : lookup (stepFits lim work) s n a ≡ ok (some (r, y)) = subst (λ (z : Ty). lookup (stepFits lim work) s n z ≡ ok (some (r, y))) (agree ea′ ea)
+      (subst (λ (z : Schema). lookup (stepFits lim work) z n a′ ≡ ok (some (r, y))) (agree es′ es) p) in (
         lookup-sound c s (stepFits lim work) entries-ordered n a (r, y) x ps (no-action i) q held g,
         (wholeType-reads lim) .back y (lookup-WF (lim .levels) s (λ k e ee. entry-whole k e ee .0) (stepFits lim work) n a (r, y) (within .0) q, l),
       )
@@ -99,7 +107,9 @@ module _ (lim : Limits) (c : Counts) (schema t v : List ℕ) (hs : Bytes schema)
   kept-here = record {
     conforming = conforms-yes lim c schema t v s a x es ea ex (Holds→yes (conforms c s a x) held);
     notDisjoint = λ u e h. apart-call u h e;
-    required = λ i w g n y e. carried-case lim c schema v w s x hs es ex g λ ps ep cp. subst T (sym (attributeOf-name lim w ps ep n)) (looked i n true y ps cp e .0 .there-if tt);
+    required =
+        λ i w g n y e. carried-case lim c schema v w s x hs es ex g λ ps ep cp. subst T (sym (attributeOf-name lim w ps ep n))
+        (looked i n true y ps cp e .0 .there-if tt);
     typedAs = λ i w hw g n r y e z ez. carried-case lim c schema v w s x hs es ex g λ ps ep cp. attributeOf-some lim w ps ep n z hw ez λ q iq eq.
         let (f, k) = looked i n r y ps cp e in conforms-yes lim c schema (enc y) z s y q es k eq (Holds→yes (conforms c s y q) (f .typed q iq));
     denied = λ i w g n e. carried-case lim c schema v w s x hs es ex g λ ps ep cp. mayHaveCall-said lim schema n t false e λ s′ a′ es′ ea′ d.
@@ -109,10 +119,12 @@ module _ (lim : Limits) (c : Counts) (schema t v : List ℕ) (hs : Bytes schema)
 
 -- A value that conforms to a type keeps what is said of it.
 pub kept : (lim : Limits) (c : Counts) (schema t v : List ℕ) → Bytes schema → Bytes t → Conforms lim c schema t v → Kept lim c schema t v
-kept lim c schema t v hs ht h = conforms-case lim c schema t v h λ s a x es ea ex e. kept-here lim c schema t v hs ht s a x es ea ex (yes→Holds (conforms c s a x) e)
+kept lim c schema t v hs ht h =
+    conforms-case lim c schema t v h λ s a x es ea ex e. kept-here lim c schema t v hs ht s a x es ea ex (yes→Holds (conforms c s a x) e)
 
 -- The bound of two listed types keeps the values of both, and is bytes.
-module _ (lim : Limits) (small : lim .bytes < 65536) (c : Counts) (schema t₀ t₁ : List ℕ) (h₀ : Bytes t₀) (h₁ : Bytes t₁) (mode room : ℕ) (z : Ty) (e : boundCall lim mode schema t₀ t₁ room ≡ typed z) where
+module _ (lim : Limits) (small : lim .bytes < 65536) (c : Counts) (schema t₀ t₁ : List ℕ) (h₀ : Bytes t₀) (h₁ : Bytes t₁) (mode room : ℕ) (z : Ty)
+    (e : boundCall lim mode schema t₀ t₁ room ≡ typed z) where
   bound-is-bytes : Bytes (enc z)
   bound-is-bytes = boundCall-typed lim mode schema t₀ t₁ room z e λ m a b ea eb p l. bound-whole lim small t₀ t₁ h₀ h₁ m a b z ea eb p l .0
 
@@ -136,7 +148,8 @@ standing-below [] i x e = none-some e
 standing-below (y ∷ xs) zero x e = omega arith
 standing-below (y ∷ xs) (suc i) x e = let g = standing-below xs i x e in omega arith
 
-standing-append : {C : Type 0} (xs : List Listed) (z : Listed) (i : ℕ) (x : Listed) → standing (xs ++ (z ∷ [])) i ≡ some x → (standing xs i ≡ some x → C) → (i ≡ length xs → z ≡ x → C) → C
+standing-append : {C : Type 0} (xs : List Listed) (z : Listed) (i : ℕ) (x : Listed) → standing (xs ++ (z ∷ [])) i ≡ some x → (standing xs i ≡ some x → C) →
+    (i ≡ length xs → z ≡ x → C) → C
 standing-append [] z zero x e f g = g refl (Option·some-injective _ _ e)
 standing-append [] z (suc i) x e f g = none-some e
 standing-append (y ∷ xs) z zero x e f g = f e
@@ -147,11 +160,13 @@ module _ (lim : Limits) (small : lim .bytes < 65536) (c : Counts) (schema : List
   record Good (xs : List Listed) : Type 0 where
     bytes : (j : ℕ) (y : Listed) → standing xs j ≡ some y → Bytes (y .form)
     made : (j : ℕ) (y : Listed) → standing xs j ≡ some y → (i : ℕ) → In i (y .madeFrom) → i < length xs
-    keeps : (j : ℕ) (y : Listed) → standing xs j ≡ some y → (i : ℕ) (x : Listed) → In i (y .madeFrom) → standing xs i ≡ some x → (v : List ℕ) → Conforms lim c schema (x .form) v → Conforms lim c schema (y .form) v
+    keeps : (j : ℕ) (y : Listed) → standing xs j ≡ some y → (i : ℕ) (x : Listed) → In i (y .madeFrom) → standing xs i ≡ some x → (v : List ℕ) →
+        Conforms lim c schema (x .form) v → Conforms lim c schema (y .form) v
 
   given-at : (ts : List (List ℕ)) (k j : ℕ) (y : Listed) → EachBytes ts → standing (givenFrom k ts) j ≡ some y → Bytes (y .form) × (y .madeFrom ≡ (k + j) ∷ [])
   given-at [] k j y h e = none-some e
-  given-at (t ∷ ts) k zero y h e = subst (λ (z : Listed). Bytes (z .form) × (z .madeFrom ≡ (k + 0) ∷ [])) (Option·some-injective _ _ e) (h .0, ap {B = List ℕ} (λ i. i ∷ []) (omega arith))
+  given-at (t ∷ ts) k zero y h e =
+      subst (λ (z : Listed). Bytes (z .form) × (z .madeFrom ≡ (k + 0) ∷ [])) (Option·some-injective _ _ e) (h .0, ap {B = List ℕ} (λ i. i ∷ []) (omega arith))
   given-at (t ∷ ts) k (suc j) y h e = let (p, q) = given-at ts (suc k) j y (h .1) e in (p, q ∙ ap {B = List ℕ} (λ i. i ∷ []) (omega arith))
 
   given-self : (ts : List (List ℕ)) (j : ℕ) (y : Listed) → EachBytes ts → standing (givenFrom 0 ts) j ≡ some y → (i : ℕ) → In i (y .madeFrom) → i ≡ j
@@ -166,7 +181,8 @@ module _ (lim : Limits) (small : lim .bytes < 65536) (c : Counts) (schema : List
   }
 
   -- A list with a bound of two of its types at its end.
-  module _ (xs : List Listed) (good : Good xs) (j k : ℕ) (x y : Listed) (ej : standing xs j ≡ some x) (ek : standing xs k ≡ some y) (mode room : ℕ) (z : Ty) (e : boundCall lim mode schema (x .form) (y .form) room ≡ typed z) where
+  module _ (xs : List Listed) (good : Good xs) (j k : ℕ) (x y : Listed) (ej : standing xs j ≡ some x) (ek : standing xs k ≡ some y) (mode room : ℕ) (z : Ty)
+      (e : boundCall lim mode schema (x .form) (y .form) room ≡ typed z) where
     new : Listed
     new = record { form = enc z; madeFrom = length xs ∷ (x .madeFrom ++ y .madeFrom) }
 
@@ -188,7 +204,8 @@ module _ (lim : Limits) (small : lim .bytes < 65536) (c : Counts) (schema : List
     unfolding new
     new-good = record {
       bytes = λ i w p. standing-append xs new i w p (λ q. good .bytes i w q)
-          (λ q r. subst (λ (u : Listed). Bytes (u .form)) r (bound-is-bytes lim small c schema (x .form) (y .form) (good .bytes j x ej) (good .bytes k y ek) mode room z e));
+          (λ q r. subst (λ (u : Listed). Bytes (u .form))
+          r (bound-is-bytes lim small c schema (x .form) (y .form) (good .bytes j x ej) (good .bytes k y ek) mode room z e));
       made = λ i w p n m. standing-append xs new i w p
           (λ q. let g = good .made i w q n m in let l = longer in omega arith)
           (λ q r. let l = longer in new-from n (subst (λ (u : Listed). In n (u .madeFrom)) (sym r) m) (λ f. omega arith)
@@ -197,12 +214,16 @@ module _ (lim : Limits) (small : lim .bytes < 65536) (c : Counts) (schema : List
           (λ q. good .keeps i w q n u m (old-at n u (good .made i w q n m) pn) v g)
           (λ q r. subst (λ (d : Listed). Conforms lim c schema (d .form) v) r
           (new-from n (subst (λ (d : Listed). In n (d .madeFrom)) (sym r) m)
-          (λ f. standing-append xs new n u pn (λ d. absurd (let b = standing-below xs n u d in omega arith)) (λ a b. subst (λ (d : Listed). Conforms lim c schema (d .form) v) (sym b) g))
-          (λ f. bound-keeps lim small c schema (x .form) (y .form) (good .bytes j x ej) (good .bytes k y ek) mode room z e v (inl (good .keeps j x ej n u f (old-at n u (good .made j x ej n f) pn) v g)))
-          (λ f. bound-keeps lim small c schema (x .form) (y .form) (good .bytes j x ej) (good .bytes k y ek) mode room z e v (inr (good .keeps k y ek n u f (old-at n u (good .made k y ek n f) pn) v g)))));
+          (λ f. standing-append xs new n u pn (λ d. absurd (let b = standing-below xs n u d in omega arith))
+          (λ a b. subst (λ (d : Listed). Conforms lim c schema (d .form) v) (sym b) g))
+          (λ f. bound-keeps lim small c schema (x .form) (y .form) (good .bytes j x ej) (good .bytes k y ek) mode room z e v
+          (inl (good .keeps j x ej n u f (old-at n u (good .made j x ej n f) pn) v g)))
+          (λ f. bound-keeps lim small c schema (x .form) (y .form) (good .bytes j x ej) (good .bytes k y ek) mode room z e v
+          (inr (good .keeps k y ek n u f (old-at n u (good .made k y ek n f) pn) v g)))));
     }
 
-  copied-good : (xs : List Listed) → Good xs → (j k : ℕ) (x y : Listed) → standing xs j ≡ some x → standing xs k ≡ some y → (mode room : ℕ) (o : Outcome) → boundCall lim mode schema (x .form) (y .form) room ≡ o → Good (copied xs x y (written o))
+  copied-good : (xs : List Listed) → Good xs → (j k : ℕ) (x y : Listed) → standing xs j ≡ some x → standing xs k ≡ some y → (mode room : ℕ) (o : Outcome) →
+      boundCall lim mode schema (x .form) (y .form) room ≡ o → Good (copied xs x y (written o))
   unfolding new
   copied-good xs good j k x y ej ek mode room (refused n) e = good
   copied-good xs good j k x y ej ek mode room (said b) e = good
@@ -214,12 +235,16 @@ module _ (lim : Limits) (small : lim .bytes < 65536) (c : Counts) (schema : List
   step-good : (xs : List Listed) → Good xs → (s : Step) → Good (afterStep lim schema xs s)
   step-good xs good s = left (standing xs (s .left)) refl
     where
-      right : (x : Listed) (o : Option Listed) → standing xs (s .left) ≡ some x → standing xs (s .right) ≡ o → Good (maybe xs (λ y. copied xs x y (written (boundCall lim (s .mode) schema (x .form) (y .form) (s .room)))) o)
+      right : (x : Listed) (o : Option Listed) → standing xs (s .left) ≡ some x → standing xs (s .right) ≡ o →
+          Good (maybe xs (λ y. copied xs x y (written (boundCall lim (s .mode) schema (x .form) (y .form) (s .room)))) o)
       right x none p q = good
-      right x (some y) p q = copied-good xs good (s .left) (s .right) x y p q (s .mode) (s .room) (boundCall lim (s .mode) schema (x .form) (y .form) (s .room)) refl
+      right x (some y) p q =
+          copied-good xs good (s .left) (s .right) x y p q (s .mode) (s .room) (boundCall lim (s .mode) schema (x .form) (y .form) (s .room)) refl
 
       left : (o : Option Listed) → standing xs (s .left) ≡ o
-          → Good (maybe xs (λ x. maybe xs (λ y. copied xs x y (written (boundCall lim (s .mode) schema (x .form) (y .form) (s .room)))) (standing xs (s .right))) o)
+          →
+          Good (maybe xs
+          (λ x. maybe xs (λ y. copied xs x y (written (boundCall lim (s .mode) schema (x .form) (y .form) (s .room)))) (standing xs (s .right))) o)
       left none p = good
       left (some x) p = right x (standing xs (s .right)) p refl
 
@@ -246,18 +271,24 @@ copied-stays : (xs : List Listed) (y z : Listed) (w : Option (List ℕ)) (i : �
 copied-stays xs y z none i x e = e
 copied-stays xs y z (some w) i x e = standing-stays xs _ i x e
 
-step-stays : (lim : Limits) (schema : List ℕ) (xs : List Listed) (s : Step) (i : ℕ) (x : Listed) → standing xs i ≡ some x → standing (afterStep lim schema xs s) i ≡ some x
+step-stays : (lim : Limits) (schema : List ℕ) (xs : List Listed) (s : Step) (i : ℕ) (x : Listed) → standing xs i ≡ some x →
+    standing (afterStep lim schema xs s) i ≡ some x
 step-stays lim schema xs s i x e = left (standing xs (s .left))
   where
-    right : (y : Listed) (o : Option Listed) → standing (maybe xs (λ z. copied xs y z (written (boundCall lim (s .mode) schema (y .form) (z .form) (s .room)))) o) i ≡ some x
+    right : (y : Listed) (o : Option Listed) →
+        standing (maybe xs (λ z. copied xs y z (written (boundCall lim (s .mode) schema (y .form) (z .form) (s .room)))) o) i ≡ some x
     right y none = e
     right y (some z) = copied-stays xs y z (written (boundCall lim (s .mode) schema (y .form) (z .form) (s .room))) i x e
 
-    left : (o : Option Listed) → standing (maybe xs (λ y. maybe xs (λ z. copied xs y z (written (boundCall lim (s .mode) schema (y .form) (z .form) (s .room)))) (standing xs (s .right))) o) i ≡ some x
+    left : (o : Option Listed) →
+        standing
+        (maybe xs (λ y. maybe xs (λ z. copied xs y z (written (boundCall lim (s .mode) schema (y .form) (z .form) (s .room)))) (standing xs (s .right))) o)
+        i ≡ some x
     left none = e
     left (some y) = right y (standing xs (s .right))
 
 -- Nobody changes a listed type: what stands at a position stays there.
-pub listed-stays : (lim : Limits) (schema : List ℕ) (steps : List Step) (xs : List Listed) (i : ℕ) (x : Listed) → standing xs i ≡ some x → standing (afterSteps lim schema xs steps) i ≡ some x
+pub listed-stays : (lim : Limits) (schema : List ℕ) (steps : List Step) (xs : List Listed) (i : ℕ) (x : Listed) → standing xs i ≡ some x →
+    standing (afterSteps lim schema xs steps) i ≡ some x
 listed-stays lim schema [] xs i x e = e
 listed-stays lim schema (s ∷ steps) xs i x e = listed-stays lim schema steps (afterStep lim schema xs s) i x (step-stays lim schema xs s i x e)

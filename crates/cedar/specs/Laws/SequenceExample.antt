@@ -151,7 +151,8 @@ fields-bytes = areBytes→ fields tt
 kept-at : (i j : ℕ) (x y : Listed) → standing listed i ≡ some x → standing listed j ≡ some y → T (mem i (y .madeFrom))
     → (v : List ℕ) → Conforms standard shorter schema (x .form) v → Kept standard shorter schema (y .form) v
 kept-at i j x y ei ej =
-    run-keeps-standard shorter schema given steps schema-bytes given-bytes i j x y (ap (λ (l : List Listed). standing l i) run-example ∙ ei) (ap (λ (l : List Listed). standing l j) run-example ∙ ej)
+    run-keeps-standard shorter schema given steps schema-bytes given-bytes i j x y (ap (λ (l : List Listed). standing l i) run-example ∙ ei)
+    (ap (λ (l : List Listed). standing l j) run-example ∙ ej)
 
 -- The values conform to types given: the uids to entities 2 and 4, the record to (1: Long, 2: String).
 uid2-given : Conforms standard shorter schema entity2 uid2

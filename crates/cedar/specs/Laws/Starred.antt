@@ -11,7 +11,7 @@ use Rattle.cedar.specs.Subtype.{sub}
 use Rattle.cedar.specs.Bound.{bound}
 use Rattle.cedar.specs.Conformance.{conforms, ofArgument}
 use Rattle.cedar.specs.Outcome.{Outcome, refused, said, nothing, bytesOf}
-use Rattle.cedar.specs.Lines.{numberOf, wordOf}
+use Rattle.cedar.specs.Lines.{numberOf, answerText}
 use Rattle.cedar.specs.Calls.{subtypeCall, boundCall, disjointCall, foldCall, lookupCall, mayHaveCall, conformsCall}
 
 -- An outcome as a caller sees it: the refusal's number or 0, the word printed for it, the bytes written.
@@ -19,7 +19,7 @@ abbrev pub Seen : Type 0
 Seen = ℕ × List ℕ × List ℕ
 
 pub seen : Outcome → Seen
-seen o = (numberOf o, wordOf o, bytesOf o)
+seen o = (numberOf o, answerText o, bytesOf o)
 
 refusal : ℕ → Seen
 refusal n = seen (refused n)

@@ -20,10 +20,12 @@ pub record ReadsEntry {H : Type 0} (write : H → ℕ → List ℕ) (Fit : H →
   pub back : (h : H) (n : ℕ) (b : List ℕ) → Fit h n → read (write h n ++ b) ≡ some (h, n, b)
 
 -- Entries of one width: where the bodies begin.
-pub length-heads : {H A : Type 0} (write : H → ℕ → List ℕ) (e : A → List ℕ) (width : ℕ) → ((h : H) (n : ℕ) → length (write h n) ≡ width) → (xs : List (H × A)) → length (heads write e xs) ≡ width * length xs
+pub length-heads : {H A : Type 0} (write : H → ℕ → List ℕ) (e : A → List ℕ) (width : ℕ) → ((h : H) (n : ℕ) → length (write h n) ≡ width) → (xs : List (H × A)) →
+    length (heads write e xs) ≡ width * length xs
 length-heads write e width w [] = sym (mul-zero width)
 length-heads write e width w (x ∷ xs) = length-append (write (x .0) (length (e (x .1)))) (heads write e xs)
-    ∙ ap₂ (λ (i j : ℕ). i + j) (w (x .0) (length (e (x .1)))) (length-heads write e width w xs) ∙ add-comm width (width * length xs) ∙ sym (mul-suc width (length xs))
+    ∙ ap₂ (λ (i j : ℕ). i + j) (w (x .0) (length (e (x .1)))) (length-heads write e width w xs) ∙ add-comm width (width * length xs) ∙
+    sym (mul-suc width (length xs))
 
 module _ {H S A : Type 0} (next : S → H → Option S) (e : A → List ℕ) (Fit : H → ℕ → Type 0) (Good : H → A → Type 0) where
   -- Each head may follow the one before and fits its body's length; each body is good.
@@ -31,13 +33,16 @@ module _ {H S A : Type 0} (next : S → H → Option S) (e : A → List ℕ) (Fi
   Follow s [] = Unit {0}
   Follow s (x ∷ xs) = (s₁ : S) × (next s (x .0) ≡ some s₁) × Fit (x .0) (length (e (x .1))) × Good (x .0) (x .1) × Follow s₁ xs
 
-module _ {H S A : Type 0} (write : H → ℕ → List ℕ) (read : List ℕ → Option (H × ℕ × List ℕ)) (next : S → H → Option S) (e : A → List ℕ) (p : H → List ℕ → Option A)
+module _ {H S A : Type 0} (write : H → ℕ → List ℕ) (read : List ℕ → Option (H × ℕ × List ℕ)) (next : S → H → Option S) (e : A → List ℕ)
+    (p : H → List ℕ → Option A)
     (Fit : H → ℕ → Type 0) (Good : H → A → Type 0) (entry : ReadsEntry write Fit read) (body : (h : H) → Reads e (Good h) (p h)) where
   -- What is read off two lists stood in front of what is left of them.
   pub rows-some : (c : ℕ) (s : S) (es bs : List ℕ) (r : List (H × A) × List ℕ × List ℕ) → Bytes es → Bytes bs → rows read next p c s es bs ≡ some r
-      → (heads write e (r .0) ++ r .1 ≡ es) × (tails e (r .0) ++ r .2 ≡ bs) × (length (r .0) ≡ c) × Follow next e Fit Good s (r .0) × Bytes (r .1) × Bytes (r .2)
+      → (heads write e (r .0) ++ r .1 ≡ es) × (tails e (r .0) ++ r .2 ≡ bs) × (length (r .0) ≡ c) × Follow next e Fit Good s (r .0) × Bytes (r .1) ×
+      Bytes (r .2)
   rows-some zero s es bs r he hb q =
-      subst (λ (y : List (H × A) × List ℕ × List ℕ). (heads write e (y .0) ++ y .1 ≡ es) × (tails e (y .0) ++ y .2 ≡ bs) × (length (y .0) ≡ 0) × Follow next e Fit Good s (y .0) × Bytes (y .1) × Bytes (y .2))
+      subst (λ (y : List (H × A) × List ℕ × List ℕ). (heads write e (y .0) ++ y .1 ≡ es) × (tails e (y .0) ++ y .2 ≡ bs) × (length (y .0) ≡ 0) ×
+      Follow next e Fit Good s (y .0) × Bytes (y .1) × Bytes (y .2))
       (Option·some-injective _ _ q) (refl, refl, refl, tt, he, hb)
   rows-some (suc c) s es bs r he hb q =
       bind-some (read es) _ q λ x ex q₁.
@@ -49,7 +54,8 @@ module _ {H S A : Type 0} (write : H → ℕ → List ℕ) (read : List ℕ → 
       let (a₁, a₂) = (body (x .0)) .into (take (x .1) bs) a (Bytes-take (x .1) bs hb) ea in
       let (i₁, i₂, i₃, i₄, i₅, i₆) = rows-some c s₁ (x .2) (drop (x .1) bs) ys hr (Bytes-drop (x .1) bs hb) ey in
       let lt : length (e a) ≡ x .1 = ap length a₁ ∙ length-take-le (x .1) bs (leb→le (x .1) (length bs) (guard-some (leb (x .1) (length bs)) g eg)) in
-      subst (λ (y : List (H × A) × List ℕ × List ℕ). (heads write e (y .0) ++ y .1 ≡ es) × (tails e (y .0) ++ y .2 ≡ bs) × (length (y .0) ≡ suc c) × Follow next e Fit Good s (y .0) × Bytes (y .1) × Bytes (y .2))
+      subst (λ (y : List (H × A) × List ℕ × List ℕ). (heads write e (y .0) ++ y .1 ≡ es) × (tails e (y .0) ++ y .2 ≡ bs) × (length (y .0) ≡ suc c) ×
+      Follow next e Fit Good s (y .0) × Bytes (y .1) × Bytes (y .2))
       (Option·some-injective _ _ q₅) (
         append-assoc (write (x .0) (length (e a))) (heads write e (ys .0)) (ys .1) ∙ ap₂ (λ (n : ℕ) (l : List ℕ). write (x .0) n ++ l) lt i₁ ∙ w,
         append-assoc (e a) (tails e (ys .0)) (ys .2) ∙ ap₂ (λ (u v : List ℕ). u ++ v) a₁ i₂ ∙ take-append-drop (x .1) bs,
@@ -60,7 +66,8 @@ module _ {H S A : Type 0} (write : H → ℕ → List ℕ) (read : List ℕ → 
       )
 
   -- What stands in front of two lists is read off, and the rest is left.
-  pub rows-enc : (s : S) (xs : List (H × A)) (es bs : List ℕ) → Follow next e Fit Good s xs → rows read next p (length xs) s (heads write e xs ++ es) (tails e xs ++ bs) ≡ some (xs, es, bs)
+  pub rows-enc : (s : S) (xs : List (H × A)) (es bs : List ℕ) → Follow next e Fit Good s xs →
+      rows read next p (length xs) s (heads write e xs ++ es) (tails e xs ++ bs) ≡ some (xs, es, bs)
   rows-enc s [] es bs f = refl
   rows-enc s (x ∷ xs) es bs f =
       let c = e (x .1) in
@@ -70,27 +77,33 @@ module _ {H S A : Type 0} (write : H → ℕ → List ℕ) (read : List ℕ → 
       ∙ rw (append-assoc c (tails e xs) bs)
       (guard-yes (leb (length c) (length (c ++ rest))) _ (le→leb (length c) (length (c ++ rest)) (omega (arith, length-append c rest)))
       ∙ bind-at _ (ap (p (x .0)) (take-append-seam c rest) ∙ (body (x .0)) .back (x .1) (f .3))
-      ∙ bind-at (λ (r : List (H × A) × List ℕ × List ℕ). some ((x .0, x .1) ∷ r .0, r .1, r .2)) (ap (rows read next p (length xs) (f .0) (heads write e xs ++ es)) (drop-append-seam c rest) ∙ rows-enc (f .0) xs es bs (f .4)))
+      ∙
+      bind-at (λ (r : List (H × A) × List ℕ × List ℕ). some ((x .0, x .1) ∷ r .0, r .1, r .2))
+      (ap (rows read next p (length xs) (f .0) (heads write e xs ++ es)) (drop-append-seam c rest) ∙ rows-enc (f .0) xs es bs (f .4)))
 
   -- A counted table is read just where it is laid out so, with no byte over.
   pub parseCounted-reads : (width : ℕ) → ((h : H) (n : ℕ) → length (write h n) ≡ width) → (s : S)
       → Reads (λ (xs : List (H × A)). u16 (length xs) ++ (heads write e xs ++ tails e xs)) (Follow next e Fit Good s) (parseCounted read next p width s)
   parseCounted-reads width wide s = record { into = into; back = back }
     where
-      into : (b : List ℕ) (xs : List (H × A)) → Bytes b → parseCounted read next p width s b ≡ some xs → (u16 (length xs) ++ (heads write e xs ++ tails e xs) ≡ b) × Follow next e Fit Good s xs
+      into : (b : List ℕ) (xs : List (H × A)) → Bytes b → parseCounted read next p width s b ≡ some xs →
+          (u16 (length xs) ++ (heads write e xs ++ tails e xs) ≡ b) × Follow next e Fit Good s xs
       into b xs h q =
           bind-some (word b) _ q λ w ew q₁.
           bind-some (rows read next p (w .0) s (w .1) (drop (width * w .0) (w .1))) _ q₁ λ r er q₂.
           let (v, hw) = word-some b w h ew in
           let (f, n) = finish-some (r .0) (r .2) q₂ in
           let (i₁, i₂, i₃, i₄, i₅, i₆) = rows-some (w .0) s (w .1) (drop (width * w .0) (w .1)) r hw (Bytes-drop (width * w .0) (w .1) hw) er in
-          let d : drop (width * w .0) (w .1) ≡ r .1 = ap₂ (λ (k : ℕ) (l : List ℕ). drop (width * k) l) (sym i₃) (sym i₁) ∙ drop-at (heads write e (r .0)) (r .1) (width * length (r .0)) (length-heads write e width wide (r .0)) in
+          let d : drop (width * w .0) (w .1) ≡ r .1 = ap₂ (λ (k : ℕ) (l : List ℕ). drop (width * k) l) (sym i₃) (sym i₁) ∙
+          drop-at (heads write e (r .0)) (r .1) (width * length (r .0)) (length-heads write e width wide (r .0)) in
           let t : tails e (r .0) ≡ r .1 = sym (append-nil (tails e (r .0))) ∙ ap (λ (l : List ℕ). tails e (r .0) ++ l) (sym n) ∙ i₂ ∙ d in
           subst (λ (y : List (H × A)). (u16 (length y) ++ (heads write e y ++ tails e y) ≡ b) × Follow next e Fit Good s y) f (rw (i₃, t, i₁) v, i₄)
 
-      back : (xs : List (H × A)) → Follow next e Fit Good s xs → parseCounted read next p width s (u16 (length xs) ++ (heads write e xs ++ tails e xs)) ≡ some xs
+      back : (xs : List (H × A)) → Follow next e Fit Good s xs →
+          parseCounted read next p width s (u16 (length xs) ++ (heads write e xs ++ tails e xs)) ≡ some xs
       back xs f =
-          bind-at (λ (w : ℕ × List ℕ). rows read next p (w .0) s (w .1) (drop (width * w .0) (w .1)) >>= λ r. finish (r .0) (r .2)) (word-u16 (length xs) (heads write e xs ++ tails e xs))
+          bind-at (λ (w : ℕ × List ℕ). rows read next p (w .0) s (w .1) (drop (width * w .0) (w .1)) >>= λ r. finish (r .0) (r .2))
+          (word-u16 (length xs) (heads write e xs ++ tails e xs))
           ∙ ap (λ (l : List ℕ). rows read next p (length xs) s (heads write e xs ++ tails e xs) l >>= λ r. finish (r .0) (r .2))
           (drop-at (heads write e xs) (tails e xs) (width * length xs) (length-heads write e width wide xs) ∙ sym (append-nil (tails e xs)))
           ∙ bind-at (λ (r : List (H × A) × List ℕ × List ℕ). finish (r .0) (r .2)) (rows-enc s xs (tails e xs) [] f)

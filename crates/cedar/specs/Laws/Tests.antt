@@ -33,6 +33,11 @@ pub or-inr : (a b : Bool) → T b → T (a || b)
 or-inr true b h = tt
 or-inr false b h = h
 
+-- What the second test gives stands in its place.
+pub or-map : (a b c : Bool) → (T b → T c) → T (a || b) → T (a || c)
+or-map true b c f h = tt
+or-map false b c f h = f h
+
 -- A test or never is the test.
 pub or-false : (a : Bool) → T (a || false) → T a
 or-false true h = tt
@@ -85,6 +90,16 @@ pub →does : {A : Type 0} (d : Dec A) → A → T (does d)
 pub cond-case : {A C : Type 0} (b : Bool) {x y z : A} → cond b x y ≡ z → (T b → x ≡ z → C) → (T (not b) → y ≡ z → C) → C
 cond-case true e f g = f tt e
 cond-case false e f g = g tt e
+
+-- Of two tests the one that was chosen holds.
+pub cond-T : {C : Type 0} (b x y : Bool) → T (cond b x y) → (T x → C) → (T y → C) → C
+cond-T true x y h f g = f h
+cond-T false x y h f g = g h
+
+-- Where the choice is against the first test, the second holds.
+pub cond-second : (b x y : Bool) → T (not b) → T (cond b x y) → T y
+cond-second true x y n h = absurd n
+cond-second false x y n h = h
 
 -- What holds in both cases of a choice holds of it.
 pub cond-both : {A : Type 0} (P : A → Type 0) (b : Bool) {x y : A} → (T b → P x) → (T (not b) → P y) → P (cond b x y)

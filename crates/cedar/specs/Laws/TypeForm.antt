@@ -15,7 +15,8 @@ use Rattle.cedar.specs.Bytes.{u16, flag, _>>=_, guard, word, bit, encNam
 use Rattle.cedar.specs.TypeForm.{Kind, one, setKind, recKind, entKind, actKind, extKind, noKind, kindOf, atomCode, count, enc, entries, bodies}
 use Rattle.cedar.specs.TypeForm.{readAttr, ascendingAttr, attrsOf, parseAttrs, parseAs, parse}
 use Rattle.cedar.specs.Laws.Tests.{none-some}
-use Rattle.cedar.specs.Laws.Bytes.{Reads, reads-map, reads-iff, reads-injective, bind-some, bind-at, guard-some, guard-yes, finish-some, word-some, bit-some, bit-flag, parseNames-some, parseNames-enc}
+use Rattle.cedar.specs.Laws.Bytes.{Reads, reads-map, reads-iff, reads-injective, bind-some, bind-at, guard-some, guard-yes, finish-some, word-some}
+use Rattle.cedar.specs.Laws.Bytes.{bit-some, bit-flag, parseNames-some, parseNames-enc}
 use Rattle.cedar.specs.Laws.Table.{ReadsEntry, Follow, parseCounted-reads, ascending-some, ascending-yes}
 
 abbrev writeAttr : ℕ × Bool → ℕ → List ℕ
@@ -32,7 +33,8 @@ readAttr-reads = record { into = into; back = back }
         let (s₁, h₁) = word-some b n h en in
         let (s₂, h₂) = bit-some (n .1) r h₁ er in
         let (s₃, h₃) = word-some (r .1) l h₂ el in
-        subst (λ (y : (ℕ × Bool) × ℕ × List ℕ). (writeAttr (y .0) (y .1) ++ y .2 ≡ b) × Bytes (y .2) × Unit {0}) (Option·some-injective _ _ e₃) (rw s₃ (rw s₂ s₁), h₃, tt)
+        subst (λ (y : (ℕ × Bool) × ℕ × List ℕ). (writeAttr (y .0) (y .1) ++ y .2 ≡ b) × Bytes (y .2) × Unit {0})
+        (Option·some-injective _ _ e₃) (rw s₃ (rw s₂ s₁), h₃, tt)
 
     back : (h : ℕ × Bool) (l : ℕ) (b : List ℕ) → Unit {0} → readAttr (writeAttr h l ++ b) ≡ some (h, l, b)
     back h l b u = bind-at _ (bit-flag (h .1) (u16 l ++ b)) ∙ ap₂ (λ (i j : ℕ). some ((i, h .1), j, b)) (mod-add-div' (h .0) 256) (mod-add-div' l 256)
@@ -80,8 +82,13 @@ table-good l low (x ∷ xs) f =
 good-table : (l low : ℕ) (xs : Attrs) → WFAttrs l low xs → Follow ascendingAttr enc (λ h n. Unit {0}) (λ h. WF l) low (tableOf xs)
 unfolding depth Ordered tableOf
 good-table l low nil w = tt
-good-table l low (attr n r t xs) w =
-    (suc n, ascending-yes low n (w .1 .0), tt, (le-trans (le-max-left (depth t) (depths xs)) (w .0), w .1 .1), good-table l (suc n) xs (le-trans (le-max-right (depth t) (depths xs)) (w .0), w .1 .2))
+good-table l low (attr n r t xs) w = (
+  suc n,
+  ascending-yes low n (w .1 .0),
+  tt,
+  (le-trans (le-max-left (depth t) (depths xs)) (w .0), w .1 .1),
+  good-table l (suc n) xs (le-trans (le-max-right (depth t) (depths xs)) (w .0), w .1 .2),
+)
 
 -- Where p reads the types of l levels, `parseAttrs p` reads the attribute lists of l levels.
 pub parseAttrs-reads : (p : List ℕ → Option Ty) (l : ℕ) → Reads enc (WF l) p → Reads encAttrs (WFAttrs l 0) (parseAttrs p)
@@ -116,7 +123,8 @@ parseAs-some p l good recKind b t h e =
     bind-some (parseAttrs p (o .1)) _ e₁ λ xs ex e₂.
     let (s, hs) = bit-some b o h eo in
     let (a₁, (a₂, a₃)) = (parseAttrs-reads p l good) .into (o .1) xs hs ex in
-    subst (λ (y : Ty). (enc y ≡ 8 ∷ b) × WF (suc l) y) (Option·some-injective _ _ e₂) (ap {B = List ℕ} (λ r. 8 ∷ r) (ap {B = List ℕ} (λ r. flag (o .0) ∷ r) a₁ ∙ s), (suc-le-suc a₂, a₃))
+    subst (λ (y : Ty). (enc y ≡ 8 ∷ b) × WF (suc l) y)
+    (Option·some-injective _ _ e₂) (ap {B = List ℕ} (λ r. 8 ∷ r) (ap {B = List ℕ} (λ r. flag (o .0) ∷ r) a₁ ∙ s), (suc-le-suc a₂, a₃))
 parseAs-some p l good entKind b t h e =
     bind-some (word b) _ e λ c ec e₁.
     bind-some (guard (leb 1 (c .0))) _ e₁ λ g eg e₂.
@@ -130,7 +138,8 @@ parseAs-some p l good actKind b t h e =
     bind-some (parseAttrs p (n .1)) _ e₁ λ xs ex e₂.
     let (s, hs) = word-some b n h en in
     let (a₁, (a₂, a₃)) = (parseAttrs-reads p l good) .into (n .1) xs hs ex in
-    subst (λ (y : Ty). (enc y ≡ 11 ∷ b) × WF (suc l) y) (Option·some-injective _ _ e₂) (ap {B = List ℕ} (λ r. 11 ∷ r) (ap (λ (r : List ℕ). u16 (n .0) ++ r) a₁ ∙ s), (suc-le-suc a₂, a₃))
+    subst (λ (y : Ty). (enc y ≡ 11 ∷ b) × WF (suc l) y)
+    (Option·some-injective _ _ e₂) (ap {B = List ℕ} (λ r. 11 ∷ r) (ap (λ (r : List ℕ). u16 (n .0) ++ r) a₁ ∙ s), (suc-le-suc a₂, a₃))
 parseAs-some p l good extKind b t h e =
     bind-some (word b) _ e λ n en e₁.
     let (s, hs) = word-some b n h en in
@@ -170,9 +179,11 @@ unfolding parse enc depth Ordered
 parse-suc-enc l r (atom k) w = atom-enc (parse l) k
 parse-suc-enc l r (set t) w = bind-at _ (r .back t (le-of-suc-le-suc (w .0), w .1))
 parse-suc-enc l r (rec p xs) w = bind-at _ (bit-flag p _) ∙ bind-at _ ((parseAttrs-reads (parse l) l r) .back xs (le-of-suc-le-suc (w .0), w .1))
-parse-suc-enc l r (act n xs) w = rw (mod-add-div' n 256) (bind-at (λ ys. some (act n ys)) ((parseAttrs-reads (parse l) l r) .back xs (le-of-suc-le-suc (w .0), w .1)))
+parse-suc-enc l r (act n xs) w =
+    rw (mod-add-div' n 256) (bind-at (λ ys. some (act n ys)) ((parseAttrs-reads (parse l) l r) .back xs (le-of-suc-le-suc (w .0), w .1)))
 parse-suc-enc l r (ent ns) w = rw (mod-add-div' (length ns) 256)
-    (guard-yes (leb 1 (length ns)) (λ u. parseNames (length ns) 0 (encNames ns) >>= λ ks. some (ent ks)) (le→leb 1 (length ns) (w .1 .0)) ∙ bind-at (λ ks. some (ent ks)) (parseNames-enc 0 ns (w .1 .1)))
+    (guard-yes (leb 1 (length ns)) (λ u. parseNames (length ns) 0 (encNames ns) >>= λ ks. some (ent ks)) (le→leb 1 (length ns) (w .1 .0)) ∙
+    bind-at (λ ks. some (ent ks)) (parseNames-enc 0 ns (w .1 .1)))
 parse-suc-enc l r (ext n) w = ap (λ (k : ℕ). some (ext k)) (mod-add-div' n 256)
 
 parse-suc-some : (l : ℕ) → Reads enc (WF l) (parse l) → (b : List ℕ) (t : Ty) → Bytes b → parse (suc l) b ≡ some t → (enc t ≡ b) × WF (suc l) t

@@ -4,7 +4,6 @@ use native.Mathlib.Nat.{mod-add-div', not-suc-le-zero, le-of-suc-le-suc, le-max-
 use mathlib.Core.List.{List, [], _∷_, _++_}
 use mathlib.Core.Bool.{Bool, true, false}
 use mathlib.Core.Path.{_≡_, refl, sym, ap, ap₂, _∙_, subst}
-use mathlib.Core.Logic.{_↔_}
 use mathlib.Core.Option.{Option, some, Option·some-injective}
 use lib.Dec.{T, eqb, eqb→eq, eqb-refl}
 use lib.ListN.{length}
@@ -13,10 +12,11 @@ use Rattle.cedar.specs.Laws.Encoders.{heads, tails}
 use Rattle.cedar.specs.Laws.Shape.{depthValue, depthValues, depthPairs, OrderedValue, OrderedValues, OrderedPairs, WFValue}
 use Rattle.cedar.specs.Bytes.{u16, flag, guard, word, Bytes}
 use Rattle.cedar.specs.Table.{ascending, anyOrder, readLength}
-use Rattle.cedar.specs.ValueForm.{ValueKind, boolKind, longKind, stringKind, uidKind, setKind, recordKind, callKind, noKind, valueKind, countValues, countPairs, encValue, lengths, bodiesOf, entriesOf, valuesOf}
+use Rattle.cedar.specs.ValueForm.{ValueKind, boolKind, longKind, stringKind, uidKind, setKind, recordKind, callKind, noKind, valueKind, countValues}
+use Rattle.cedar.specs.ValueForm.{countPairs, encValue, lengths, bodiesOf, entriesOf, valuesOf}
 use Rattle.cedar.specs.ValueForm.{readPair, valuesFrom, pairsFrom, parseValues, parsePairs, parseValueAs, parseValue}
 use Rattle.cedar.specs.Laws.Tests.{none-some}
-use Rattle.cedar.specs.Laws.Bytes.{Reads, reads-map, reads-iff, reads-injective, bind-some, bind-at, guard-some, guard-yes, finish-some, word-some}
+use Rattle.cedar.specs.Laws.Bytes.{Reads, reads-map, reads-injective, bind-some, bind-at, guard-some, guard-yes, finish-some, word-some}
 use Rattle.cedar.specs.Laws.Table.{ReadsEntry, Follow, parseCounted-reads, ascending-some, ascending-yes, writeLength, readLength-reads}
 
 abbrev writePair : ℕ → ℕ → List ℕ
@@ -68,7 +68,8 @@ encValues vs = u16 (countValues vs) ++ (lengths vs ++ bodiesOf vs)
 abbrev pub WFValues : ℕ → Values → Type 0
 WFValues l vs = (depthValues vs ≤ l) × OrderedValues vs
 
-values-good : (l : ℕ) (s : Unit {0}) (xs : List (Unit {0} × Value)) → Follow anyOrder encValue (λ h n. Unit {0}) (λ h. WFValue l) s xs → WFValues l (valuesFrom xs)
+values-good : (l : ℕ) (s : Unit {0}) (xs : List (Unit {0} × Value)) → Follow anyOrder encValue (λ h n. Unit {0}) (λ h. WFValue l) s xs →
+    WFValues l (valuesFrom xs)
 unfolding depthValue OrderedValue
 values-good l s [] f = (zero-le, tt)
 values-good l s (x ∷ xs) f = let (d, o) = values-good l (f .0) xs (f .4) in (max-le (f .3 .0) d, (f .3 .1, o))
@@ -76,11 +77,18 @@ values-good l s (x ∷ xs) f = let (d, o) = values-good l (f .0) xs (f .4) in (m
 good-values : (l : ℕ) (vs : Values) → WFValues l vs → Follow anyOrder encValue (λ h n. Unit {0}) (λ h. WFValue l) tt (valueTable vs)
 unfolding depthValue OrderedValue valueTable
 good-values l end w = tt
-good-values l (value v vs) w = (tt, refl, tt, (le-trans (le-max-left (depthValue v) (depthValues vs)) (w .0), w .1 .0), good-values l vs (le-trans (le-max-right (depthValue v) (depthValues vs)) (w .0), w .1 .1))
+good-values l (value v vs) w = (
+  tt,
+  refl,
+  tt,
+  (le-trans (le-max-left (depthValue v) (depthValues vs)) (w .0), w .1 .0),
+  good-values l vs (le-trans (le-max-right (depthValue v) (depthValues vs)) (w .0), w .1 .1),
+)
 
 -- Where p reads the values of l levels, `parseValues p` reads the members or arguments of l levels.
 pub parseValues-reads : (p : List ℕ → Option Value) (l : ℕ) → Reads encValue (WFValue l) p → Reads encValues (WFValues l) (parseValues p)
-parseValues-reads p l r = reads-map valuesFrom valueTable values-table (λ xs. rw (countValues-of xs, lengths-of xs, bodiesOf-of xs)) (values-good l tt) (good-values l)
+parseValues-reads p l r =
+    reads-map valuesFrom valueTable values-table (λ xs. rw (countValues-of xs, lengths-of xs, bodiesOf-of xs)) (values-good l tt) (good-values l)
     (parseCounted-reads writeLength readLength anyOrder encValue (λ h. p) (λ h n. Unit {0}) (λ h. WFValue l) readLength-reads (λ h. r) 2 (λ h n. refl) tt)
 
 -- The pairs of a table, and the table of pairs.
@@ -126,12 +134,18 @@ pairs-good l low (x ∷ xs) f =
 good-pairs : (l low : ℕ) (ps : Pairs) → WFPairs l low ps → Follow ascending encValue (λ h n. Unit {0}) (λ h. WFValue l) low (pairTable ps)
 unfolding depthValue OrderedValue pairTable
 good-pairs l low empty w = tt
-good-pairs l low (pair n v ps) w =
-    (suc n, ascending-yes low n (w .1 .0), tt, (le-trans (le-max-left (depthValue v) (depthPairs ps)) (w .0), w .1 .1), good-pairs l (suc n) ps (le-trans (le-max-right (depthValue v) (depthPairs ps)) (w .0), w .1 .2))
+good-pairs l low (pair n v ps) w = (
+  suc n,
+  ascending-yes low n (w .1 .0),
+  tt,
+  (le-trans (le-max-left (depthValue v) (depthPairs ps)) (w .0), w .1 .1),
+  good-pairs l (suc n) ps (le-trans (le-max-right (depthValue v) (depthPairs ps)) (w .0), w .1 .2),
+)
 
 -- Where p reads the values of l levels, `parsePairs p` reads the pairs of l levels.
 pub parsePairs-reads : (p : List ℕ → Option Value) (l : ℕ) → Reads encValue (WFValue l) p → Reads encPairs (WFPairs l 0) (parsePairs p)
-parsePairs-reads p l r = reads-map pairsFrom pairTable pairs-table (λ xs. rw (countPairs-of xs, entriesOf-of xs, valuesOf-of xs)) (pairs-good l 0) (good-pairs l 0)
+parsePairs-reads p l r =
+    reads-map pairsFrom pairTable pairs-table (λ xs. rw (countPairs-of xs, entriesOf-of xs, valuesOf-of xs)) (pairs-good l 0) (good-pairs l 0)
     (parseCounted-reads writePair readPair ascending encValue (λ h. p) (λ h n. Unit {0}) (λ h. WFValue l) readPair-reads (λ h. r) 4 (λ h n. refl) 0)
 
 valueCode : ValueKind → ℕ
@@ -147,14 +161,16 @@ valueCode noKind = 0
 pos : {l : ℕ} → 1 ≤ suc l
 pos = suc-le-suc zero-le
 
-parseValueAs-some : (p : List ℕ → Option Value) (l : ℕ) → Reads encValue (WFValue l) p → (k : ValueKind) (b : List ℕ) (v : Value) → Bytes b → parseValueAs p k b ≡ some v → (encValue v ≡ valueCode k ∷ b) × WFValue (suc l) v
+parseValueAs-some : (p : List ℕ → Option Value) (l : ℕ) → Reads encValue (WFValue l) p → (k : ValueKind) (b : List ℕ) (v : Value) → Bytes b →
+    parseValueAs p k b ≡ some v → (encValue v ≡ valueCode k ∷ b) × WFValue (suc l) v
 unfolding encValue depthValue OrderedValue valueCode
 parseValueAs-some p l good (boolKind x) b v h e =
     let (s, n) = finish-some _ b e in
     subst (λ (y : Value). (encValue y ≡ flag x ∷ b) × WFValue (suc l) y) s (ap {B = List ℕ} (λ r. flag x ∷ r) (sym n), (pos, tt))
 parseValueAs-some p l good longKind b v h e =
     bind-some (guard (eqb (length b) 8)) _ e λ g eg e₁.
-    subst (λ (y : Value). (encValue y ≡ 2 ∷ b) × WFValue (suc l) y) (Option·some-injective _ _ e₁) (refl, (pos, eqb→eq (length b) 8 (guard-some (eqb (length b) 8) g eg)))
+    subst (λ (y : Value). (encValue y ≡ 2 ∷ b) × WFValue (suc l) y)
+    (Option·some-injective _ _ e₁) (refl, (pos, eqb→eq (length b) 8 (guard-some (eqb (length b) 8) g eg)))
 parseValueAs-some p l good stringKind b v h e =
     bind-some (word b) _ e λ n en e₁.
     bind-some (guard (eqb (length (n .1)) (n .0))) _ e₁ λ g eg e₂.
@@ -181,7 +197,8 @@ parseValueAs-some p l good callKind b v h e =
     bind-some (parseValues p (f .1)) _ e₁ λ vs ev e₂.
     let (s, hs) = word-some b f h ef in
     let (r, (d, o)) = (parseValues-reads p l good) .into (f .1) vs hs ev in
-    subst (λ (y : Value). (encValue y ≡ 7 ∷ b) × WFValue (suc l) y) (Option·some-injective _ _ e₂) (ap {B = List ℕ} (λ r. 7 ∷ r) (ap (λ (z : List ℕ). u16 (f .0) ++ z) r ∙ s), (suc-le-suc d, o))
+    subst (λ (y : Value). (encValue y ≡ 7 ∷ b) × WFValue (suc l) y)
+    (Option·some-injective _ _ e₂) (ap {B = List ℕ} (λ r. 7 ∷ r) (ap (λ (z : List ℕ). u16 (f .0) ++ z) r ∙ s), (suc-le-suc d, o))
 parseValueAs-some p l good noKind b v h e = none-some e
 
 valueKind-code : (k : ℕ) (p : List ℕ → Option Value) (b : List ℕ) (v : Value) → parseValueAs p (valueKind k) b ≡ some v → valueCode (valueKind k) ≡ k
@@ -208,9 +225,11 @@ parseValue-suc-enc l r (text s) w = rw (mod-add-div' (length s) 256) (guard-yes 
 parseValue-suc-enc l r (uid k i) w = ap₂ (λ (a b : ℕ). some (uid a b)) (mod-add-div' k 256) (mod-add-div' i 256)
 parseValue-suc-enc l r (setOf vs) w = bind-at (λ ys. some (setOf ys)) ((parseValues-reads (parseValue l) l r) .back vs (le-of-suc-le-suc (w .0), w .1))
 parseValue-suc-enc l r (recordOf ps) w = bind-at (λ ys. some (recordOf ys)) ((parsePairs-reads (parseValue l) l r) .back ps (le-of-suc-le-suc (w .0), w .1))
-parseValue-suc-enc l r (call f vs) w = rw (mod-add-div' f 256) (bind-at (λ ys. some (call f ys)) ((parseValues-reads (parseValue l) l r) .back vs (le-of-suc-le-suc (w .0), w .1)))
+parseValue-suc-enc l r (call f vs) w =
+    rw (mod-add-div' f 256) (bind-at (λ ys. some (call f ys)) ((parseValues-reads (parseValue l) l r) .back vs (le-of-suc-le-suc (w .0), w .1)))
 
-parseValue-suc-some : (l : ℕ) → Reads encValue (WFValue l) (parseValue l) → (b : List ℕ) (v : Value) → Bytes b → parseValue (suc l) b ≡ some v → (encValue v ≡ b) × WFValue (suc l) v
+parseValue-suc-some : (l : ℕ) → Reads encValue (WFValue l) (parseValue l) → (b : List ℕ) (v : Value) → Bytes b → parseValue (suc l) b ≡ some v →
+    (encValue v ≡ b) × WFValue (suc l) v
 unfolding parseValue
 parseValue-suc-some l r [] v h e = none-some e
 parseValue-suc-some l r (k ∷ b) v h e =
@@ -232,10 +251,6 @@ pub parseValue-reads : (l : ℕ) → Reads encValue (WFValue l) (parseValue l)
 unfolding parseValue
 parseValue-reads zero = record { into = λ b v h e. none-some e; back = λ v w. absurd (not-suc-le-zero (le-trans (depthValue-pos v) (w .0))) }
 parseValue-reads (suc l) = record { into = parseValue-suc-some l (parseValue-reads l); back = parseValue-suc-enc l (parseValue-reads l) }
-
--- On bytes, what `parseValue` reads is the value that `encValue` writes so.
-pub parseValue-iff : (l : ℕ) (b : List ℕ) (v : Value) → Bytes b → (parseValue l b ≡ some v) ↔ ((encValue v ≡ b) × WFValue l v)
-parseValue-iff l = reads-iff (parseValue-reads l)
 
 -- Equal bytes, equal values.
 pub encValue-injective : (l : ℕ) (v w : Value) → WFValue l v → WFValue l w → encValue v ≡ encValue w → v ≡ w

@@ -60,7 +60,8 @@ eachValue-map end f g k h = tt
 eachValue-map (value v vs) f g k h = let (a, b) = andThen→ (f v) (eachValue f vs) h in →andThen (g v) (eachValue g vs) (k v a) (eachValue-map vs f g k b)
 
 -- What is yes of each pair goes on to be.
-pub eachPair-map : (ps : Pairs) (f g : ℕ → Value → Verdict) → ((n : ℕ) (x : Value) → Holds (f n x) → Holds (g n x)) → Holds (eachPair f ps) → Holds (eachPair g ps)
+pub eachPair-map : (ps : Pairs) (f g : ℕ → Value → Verdict) → ((n : ℕ) (x : Value) → Holds (f n x) → Holds (g n x)) → Holds (eachPair f ps) →
+    Holds (eachPair g ps)
 eachPair-map empty f g k h = tt
 eachPair-map (pair n v ps) f g k h = let (a, b) = andThen→ (f n v) (eachPair f ps) h in →andThen (g n v) (eachPair g ps) (k n v a) (eachPair-map ps f g k b)
 
