@@ -3,15 +3,9 @@ use Prim.Native.Nat.{ℕ}
 use mathlib.Core.List.{List, []}
 use mathlib.Core.Bool.{Bool, true, false}
 use mathlib.Core.Option.{Option, none, some}
-use Rattle.cedar.specs.Types.{Mode, Ty, Attrs}
+use Rattle.cedar.specs.Types.{Ty, Attrs}
 use Rattle.cedar.specs.TypeForm.{count, enc}
 use Rattle.cedar.specs.Result.{Result, ok, err}
-use Rattle.cedar.specs.Bound.{sameNames}
-use Rattle.cedar.specs.Laws.DirectBound.{directAttrs}
-
--- The bound of two attribute lists, with the names that the mode allows.
-abbrev pub joinedAttrs : Mode → Attrs → Attrs → Result Attrs
-joinedAttrs m xs ys = sameNames m xs ys (directAttrs m xs ys)
 
 -- How many attributes a joined list has; none where there is no list.
 abbrev pub countOf : Result Attrs → ℕ

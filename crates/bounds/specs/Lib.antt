@@ -1,3 +1,2 @@
-pub mod Written
 pub mod Joins
 pub mod Laws

@@ -1,46 +1,48 @@
 // The least upper bound of two types, written where the length pass found it to fit.
 use crate::flags::both_required;
 use crate::flags::open_byte;
-use crate::kept::kept_count;
-use crate::kept::pair_kept;
+use crate::kept_attributes::kept_count;
+use crate::kept_attributes::pair_kept;
 use crate::unions::write_union;
-use crate::writers::copy;
-use crate::writers::put_attribute;
-use crate::writers::put_kind;
-use crate::writers::put_one;
-use crate::writers::put_record;
+use bound_lengths::kinds::Joined;
+use bound_lengths::kinds::unlike_kinds;
+use bound_lengths::names::union_count;
 use forms::kinds::Kind;
 use forms::modes::Mode;
 use forms::numbers::u16_at;
 use forms::offsets::Offset;
 use forms::search::skip_below;
+use forms::tables::bodies_at;
+use forms::tables::entries_at;
 use forms::widths::Width;
-use lengths::kinds::Joined;
-use lengths::kinds::unlike_kinds;
-use lengths::names::union_count;
-use lengths::tables::bodies_at;
-use lengths::tables::entries_at;
+use writing::writers::copy;
+use writing::writers::put_attribute;
+use writing::writers::put_bytes;
+use writing::writers::put_kind;
+use writing::writers::put_one;
+use writing::writers::put_record;
 ghost use mathlib.Core.Path.{_≡_};
 ghost use mathlib.Core.Bool.{true};
 ghost use Prim.Native.Nat.{_+_, _*_, _≤_};
 ghost use lib.Dec.{eqb};
 ghost use lib.ListN.{length, getD};
-ghost use Rattle.cedar.specs.Types.{ent, find as findAttr};
+ghost use Rattle.cedar.specs.Types.{strict, ent, find as findAttr};
 ghost use Rattle.cedar.specs.TypeForm.{enc};
 ghost use Rattle.cedar.specs.Result.{ok};
 ghost use Rattle.cedar.specs.Bound.{union};
 ghost use Rattle.cedar.specs.Laws.DirectBound.{direct};
 ghost use Rattle.forms.specs.Parts.{rd, rest, kind};
-ghost use Rattle.forms.specs.TypeBytes.{whole, dec, decA, namesUp, namesOf};
-ghost use Rattle.lengths.specs.Extents.{table, formOf, Ready};
-ghost use Rattle.bounds.specs.Written.{Written};
+ghost use Rattle.forms.specs.TypeBytes.{whole, dec, decA, namesUp, namesBy};
+ghost use Rattle.writing.specs.FormLengths.{table, formOf, Ready};
+ghost use Rattle.writing.specs.Written.{Written};
 ghost use Rattle.forms.specs.Modes.{asMode};
-ghost use Rattle.lengths.specs.Kinds.{unlike};
-ghost use Rattle.lengths.specs.Pairs.{Front, Tabled, attrsAt, joined};
-ghost use Rattle.bounds.specs.Joins.{joinedAttrs, countOf, pairForm};
+ghost use Rattle.bound_lengths.specs.Kinds.{unlike};
+ghost use Rattle.bound_lengths.specs.Pairs.{Front, joined, joinedAttrs};
+ghost use Rattle.forms.specs.Tables.{Tabled, attrsAt};
+ghost use Rattle.bounds.specs.Joins.{countOf, pairForm};
 
 // Writes the bound of two unlike kinds, neither of them Never, and says how long it is.
-fn write_unlike(mode: u8, j: u8, k: u8, out: &mut [u8]) -> usize
+fn write_unlike(mode: Mode, j: u8, k: u8, out: &mut [u8]) -> usize
     requires { ⌜ Ready enc (unlike (asMode mode) j k) (now out) ⌝ }
     ensures { λ r. ⌜ Written (formOf enc (unlike (asMode mode) j k)) (now (out .entry)) (now (out .exit)) r ⌝ }
 {
@@ -48,24 +50,15 @@ fn write_unlike(mode: u8, j: u8, k: u8, out: &mut [u8]) -> usize
         return 0;
     };
     put_one(out, c);
-    1
-}
-
-// Writes a form as it is, and says how long it is.
-fn write_form(t: &[u8], out: &mut [u8]) -> usize
-    requires { ⌜ length (now t) ≤ length (now out) ⌝ }
-    ensures { λ r. ⌜ Written (now (t .entry)) (now (out .entry)) (now (out .exit)) r ⌝ }
-{
-    copy(t, out);
-    t.len()
+    Offset::ELEMENT
 }
 
 // Writes the entity of the names of two, and says how long it is.
 fn write_entities(a: &[u8], b: &[u8], out: &mut [u8]) -> usize
     requires { ⌜ (length (now a) ≡ 3 + 2 * rd (now a) 1) × (namesUp (rd (now a) 1) 0 (rest 3 (now a)) ≡ true) ⌝ }
     requires { ⌜ (length (now b) ≡ 3 + 2 * rd (now b) 1) × (namesUp (rd (now b) 1) 0 (rest 3 (now b)) ≡ true) ⌝ }
-    requires { ⌜ Ready enc (ok (ent (union (namesOf (rd (now a) 1) (rest 3 (now a))) (namesOf (rd (now b) 1) (rest 3 (now b)))))) (now out) ⌝ }
-    ensures { λ r. ⌜ Written (enc (ent (union (namesOf (rd (now (a .entry)) 1) (rest 3 (now (a .entry)))) (namesOf (rd (now (b .entry)) 1) (rest 3 (now (b .entry))))))) (now (out .entry)) (now (out .exit)) r ⌝ }
+    requires { ⌜ Ready enc (ok (ent (union (namesBy 2 (rd (now a) 1) (rest 3 (now a))) (namesBy 2 (rd (now b) 1) (rest 3 (now b)))))) (now out) ⌝ }
+    ensures { λ r. ⌜ Written (enc (ent (union (namesBy 2 (rd (now (a .entry)) 1) (rest 3 (now (a .entry)))) (namesBy 2 (rd (now (b .entry)) 1) (rest 3 (now (b .entry))))))) (now (out .entry)) (now (out .exit)) r ⌝ }
 {
     let n = u16_at(a, Offset::ENTITY_COUNT);
     let m = u16_at(b, Offset::ENTITY_COUNT);
@@ -76,7 +69,7 @@ fn write_entities(a: &[u8], b: &[u8], out: &mut [u8]) -> usize
 }
 
 // Writes the bound of two types, and says how long it is.
-pub fn write_bound(mode: u8, a: &[u8], b: &[u8], levels: usize, out: &mut [u8]) -> usize
+pub fn write_bound(mode: Mode, a: &[u8], b: &[u8], levels: usize, out: &mut [u8]) -> usize
     requires { ⌜ whole levels (now a) ≡ true ⌝ }
     requires { ⌜ whole levels (now b) ≡ true ⌝ }
     requires { ⌜ Ready enc (direct (asMode mode) (dec levels (now a)) (dec levels (now b))) (now out) ⌝ }
@@ -85,10 +78,10 @@ pub fn write_bound(mode: u8, a: &[u8], b: &[u8], levels: usize, out: &mut [u8]) 
     let j = a[0];
     let k = b[0];
     if j == Kind::NEVER {
-        return write_form(b, out);
+        return put_bytes(b, out);
     }
     if k == Kind::NEVER {
-        return write_form(a, out);
+        return put_bytes(a, out);
     }
     if j != k {
         return write_unlike(mode, j, k, out);
@@ -102,10 +95,10 @@ pub fn write_bound(mode: u8, a: &[u8], b: &[u8], levels: usize, out: &mut [u8]) 
         }
         Kind::RECORD => write_record(mode, a, b, levels, out),
         Kind::ENTITY => {
-            if mode == Mode::PERMISSIVE {
+            if mode.is_permissive() {
                 return write_entities(&a[0..], &b[0..], out);
             }
-            write_form(a, out)
+            put_bytes(a, out)
         }
         Kind::ACTION => {
             if u16_at(a, Offset::ACTION_NAME) != u16_at(b, Offset::ACTION_NAME) {
@@ -113,12 +106,12 @@ pub fn write_bound(mode: u8, a: &[u8], b: &[u8], levels: usize, out: &mut [u8]) 
             }
             write_action(&a[0..], &b[0..], levels, out)
         }
-        _ => write_form(a, out),
+        _ => put_bytes(a, out),
     }
 }
 
 // Writes the bound of two records, and says how long it is.
-fn write_record(mode: u8, a: &[u8], b: &[u8], levels: usize, out: &mut [u8]) -> usize
+fn write_record(mode: Mode, a: &[u8], b: &[u8], levels: usize, out: &mut [u8]) -> usize
     requires { ⌜ (whole levels (now a) ≡ true) × (kind (now a) ≡ 8) ⌝ }
     requires { ⌜ (whole levels (now b) ≡ true) × (kind (now b) ≡ 8) ⌝ }
     requires { ⌜ Ready enc (direct (asMode mode) (dec levels (now a)) (dec levels (now b))) (now out) ⌝ }
@@ -144,19 +137,26 @@ fn write_action(a: &[u8], b: &[u8], levels: usize, out: &mut [u8]) -> usize
     requires { ⌜ (whole levels (now a) ≡ true) × (kind (now a) ≡ 11) ⌝ }
     requires { ⌜ (whole levels (now b) ≡ true) × (kind (now b) ≡ 11) ⌝ }
     requires { ⌜ rd (now a) 1 ≡ rd (now b) 1 ⌝ }
-    requires { ⌜ Ready enc (direct (asMode 0) (dec levels (now a)) (dec levels (now b))) (now out) ⌝ }
-    ensures { λ r. ⌜ Written (formOf enc (direct (asMode 0) (dec levels (now (a .entry))) (dec levels (now (b .entry))))) (now (out .entry)) (now (out .exit)) r ⌝ }
+    requires { ⌜ Ready enc (direct strict (dec levels (now a)) (dec levels (now b))) (now out) ⌝ }
+    ensures { λ r. ⌜ Written (formOf enc (direct strict (dec levels (now (a .entry))) (dec levels (now (b .entry))))) (now (out .entry)) (now (out .exit)) r ⌝ }
 {
     let behind = Offset::ACTION_ENTRIES;
     copy(&a[0..behind], out);
     let x = &a[Offset::ACTION_COUNT..];
     let y = &b[Offset::ACTION_COUNT..];
     let n = u16_at(x, 0);
-    write_attributes(Mode::STRICT, x, y, n, levels - 1, &mut out[behind..]) + behind
+    write_attributes(Mode::Strict, x, y, n, levels - 1, &mut out[behind..]) + behind
 }
 
 // Writes the n attributes of the bound of two tables, each from its count on, and says how long they are.
-fn write_attributes(mode: u8, a: &[u8], b: &[u8], n: usize, levels: usize, out: &mut [u8]) -> usize
+fn write_attributes(
+    mode: Mode,
+    a: &[u8],
+    b: &[u8],
+    n: usize,
+    levels: usize,
+    out: &mut [u8],
+) -> usize
     requires { ⌜ Tabled levels 0 (now a) ⌝ }
     requires { ⌜ Tabled levels 0 (now b) ⌝ }
     requires { ⌜ n ≡ countOf (joinedAttrs (asMode mode) (attrsAt levels 0 (now a)) (attrsAt levels 0 (now b))) ⌝ }
@@ -197,7 +197,7 @@ fn write_attributes(mode: u8, a: &[u8], b: &[u8], n: usize, levels: usize, out: 
 
 // Writes the type of an attribute that is kept, and says how long it is: 0 where the attribute is dropped.
 fn write_pair(
-    mode: u8,
+    mode: Mode,
     e: &[u8],
     t: &[u8],
     f: &[u8],

@@ -1,6 +1,5 @@
-// The least upper bound of two types, written, and the writers of type forms.
+// The least upper bound of two types, written.
 pub mod bound_writes;
 pub mod flags;
-pub mod kept;
+pub mod kept_attributes;
 pub mod unions;
-pub mod writers;

@@ -1,16 +1,16 @@
 // The union of two lists of ascending names, written by one merge.
-use crate::writers::put_name;
+use bound_lengths::names::first_or;
+use bound_lengths::names::taken;
 use forms::widths::Width;
-use lengths::names::first_or;
-use lengths::names::taken;
+use writing::writers::put_name;
 ghost use mathlib.Core.Path.{_≡_};
 ghost use mathlib.Core.Bool.{true};
 ghost use Prim.Native.Nat.{_*_, _<_, _≤_, min};
 ghost use lib.ListN.{length};
 ghost use Rattle.cedar.specs.Bytes.{encNames};
 ghost use Rattle.cedar.specs.Bound.{union};
-ghost use Rattle.forms.specs.TypeBytes.{namesUp, namesOf};
-ghost use Rattle.bounds.specs.Written.{Written};
+ghost use Rattle.forms.specs.TypeBytes.{namesUp, namesBy};
+ghost use Rattle.writing.specs.Written.{Written};
 
 // The lesser of two numbers.
 fn lesser(p: usize, q: usize) -> usize
@@ -27,8 +27,8 @@ pub fn write_union(ns: &[u8], n: usize, ks: &[u8], m: usize, out: &mut [u8]) -> 
     requires { ⌜ (length (now ns) ≡ 2 * n) × (namesUp n 0 (now ns) ≡ true) ⌝ }
     requires { ⌜ (length (now ks) ≡ 2 * m) × (namesUp m 0 (now ks) ≡ true) ⌝ }
     requires { ⌜ (n < 65536) × (m < 65536) ⌝ }
-    requires { ⌜ length (encNames (union (namesOf n (now ns)) (namesOf m (now ks)))) ≤ length (now out) ⌝ }
-    ensures { λ r. ⌜ Written (encNames (union (namesOf n (now (ns .entry))) (namesOf m (now (ks .entry))))) (now (out .entry)) (now (out .exit)) r ⌝ }
+    requires { ⌜ length (encNames (union (namesBy 2 n (now ns)) (namesBy 2 m (now ks)))) ≤ length (now out) ⌝ }
+    ensures { λ r. ⌜ Written (encNames (union (namesBy 2 n (now (ns .entry))) (namesBy 2 m (now (ks .entry))))) (now (out .entry)) (now (out .exit)) r ⌝ }
 {
     let mut x = ns;
     let mut y = ks;

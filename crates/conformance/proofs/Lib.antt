@@ -1,2 +1,2 @@
 -- What several proofs cite.
-mod Told
+mod OtherVerdicts

@@ -5,6 +5,7 @@ use crate::verdicts::tested;
 use forms::kinds::ArgumentKind;
 use forms::kinds::ValueKind;
 use forms::numbers::u16_at;
+use forms::offsets::SchemaOffset;
 use forms::offsets::ValueOffset;
 use forms::widths::Width;
 use schemas::entries::FoundFunction;
@@ -19,7 +20,7 @@ ghost use Rattle.cedar.specs.ValueForm.{callKind};
 ghost use Rattle.cedar.specs.Conformance.{shorter, ofArgument, ofArguments, isExtension};
 ghost use Rattle.forms.specs.Parts.{rd};
 ghost use Rattle.schemas.specs.SchemaBytes.{decS, argFits, argAt, argsFit, argsOf};
-ghost use Rattle.schemas.specs.Entries.{Kept};
+ghost use Rattle.schemas.specs.Entries.{Sectioned};
 ghost use Rattle.forms.specs.ValueBytes.{wholeVAs, wholeV, decV};
 ghost use Rattle.conformance.specs.Walks.{argumentsOf};
 ghost use Rattle.conformance.specs.Verdicts.{verdictOf};
@@ -32,7 +33,7 @@ pub fn call_returns(
     extension: usize,
     levels: usize,
 ) -> Verdict
-    requires { ⌜ Kept (now schema) sections ⌝ }
+    requires { ⌜ Sectioned (now schema) sections ⌝ }
     requires { ⌜ wholeVAs (wholeV levels) callKind (now v) ≡ true ⌝ }
     ensures { λ r. ⌜ r ≡ verdictOf (isExtension shorter (decS standard (now (schema .entry))) extension (rd (now (v .entry)) 1, argumentsOf levels (now (v .entry)))) ⌝ }
 {
@@ -59,7 +60,7 @@ fn arguments_fit(
     v: &[u8],
     levels: usize,
 ) -> Verdict
-    requires { ⌜ Kept (now schema) sections ⌝ }
+    requires { ⌜ Sectioned (now schema) sections ⌝ }
     requires { ⌜ argsFit (now asked) ≡ true ⌝ }
     requires { ⌜ wholeVAs (wholeV levels) callKind (now v) ≡ true ⌝ }
     ensures { λ r. ⌜ r ≡ verdictOf (ofArguments shorter (decS standard (now (schema .entry))) (argumentsOf levels (now (v .entry))) (argsOf (now (asked .entry)))) ⌝ }
@@ -95,7 +96,7 @@ fn argument_fits(
     v: &[u8],
     levels: usize,
 ) -> Verdict
-    requires { ⌜ Kept (now schema) sections ⌝ }
+    requires { ⌜ Sectioned (now schema) sections ⌝ }
     requires { ⌜ (3 ≤ length (now asked)) × (argFits (now asked) ≡ true) ⌝ }
     requires { ⌜ wholeV levels (now v) ≡ true ⌝ }
     ensures { λ r. ⌜ r ≡ verdictOf (ofArgument shorter (decS standard (now (schema .entry))) (decV levels (now (v .entry))) (argAt (now (asked .entry)))) ⌝ }
@@ -110,7 +111,13 @@ fn argument_fits(
             if j != ValueKind::CALL {
                 return Verdict::Fails;
             }
-            inside(call_returns(schema, sections, v, u16_at(asked, 1), levels - 1))
+            inside(call_returns(
+                schema,
+                sections,
+                v,
+                u16_at(asked, SchemaOffset::ARGUMENT_EXTENSION),
+                levels - 1,
+            ))
         }
     }
 }

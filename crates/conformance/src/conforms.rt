@@ -25,14 +25,14 @@ ghost use Rattle.cedar.specs.ValueForm.{setKind, recordKind};
 ghost use Rattle.cedar.specs.Conformance.{shorter, eachValue, conforms as has, conformsAt};
 ghost use Rattle.forms.specs.TypeBytes.{wholeAs, whole, dec, decA, Sound};
 ghost use Rattle.schemas.specs.SchemaBytes.{decS};
-ghost use Rattle.schemas.specs.Entries.{Kept};
+ghost use Rattle.schemas.specs.Entries.{Sectioned};
 ghost use Rattle.forms.specs.ValueBytes.{wholeVAs, wholeV, decV};
 ghost use Rattle.conformance.specs.Walks.{isOpen, attributesOf, membersOf, pairsOf, recordSaid};
 ghost use Rattle.conformance.specs.Verdicts.{verdictOf};
 
 // Whether v has the type t. Parts are handed on, not t and v as they came, which would be copied through memory at each call.
 pub fn conforms(schema: &[u8], sections: Sections, t: &[u8], v: &[u8], levels: usize) -> Verdict
-    requires { ⌜ Kept (now schema) sections ⌝ }
+    requires { ⌜ Sectioned (now schema) sections ⌝ }
     requires { ⌜ whole levels (now t) ≡ true ⌝ }
     requires { ⌜ wholeV levels (now v) ≡ true ⌝ }
     ensures { λ r. ⌜ r ≡ verdictOf (has shorter (decS standard (now (schema .entry))) (dec levels (now (t .entry))) (decV levels (now (v .entry)))) ⌝ }
@@ -63,7 +63,7 @@ pub fn conforms(schema: &[u8], sections: Sections, t: &[u8], v: &[u8], levels: u
 
 // Whether each member of the set v has the type t.
 fn members_conform(schema: &[u8], sections: Sections, t: &[u8], v: &[u8], levels: usize) -> Verdict
-    requires { ⌜ Kept (now schema) sections ⌝ }
+    requires { ⌜ Sectioned (now schema) sections ⌝ }
     requires { ⌜ whole levels (now t) ≡ true ⌝ }
     requires { ⌜ wholeVAs (wholeV levels) setKind (now v) ≡ true ⌝ }
     ensures { λ r. ⌜ r ≡ verdictOf (eachValue (λ x. has shorter (decS standard (now (schema .entry))) (dec levels (now (t .entry))) x) (membersOf levels (now (v .entry)))) ⌝ }
@@ -89,7 +89,7 @@ fn members_conform(schema: &[u8], sections: Sections, t: &[u8], v: &[u8], levels
 // Whether the record v has the record type t: each pair first, then the required names. Names ascend in both: attributes that are
 // passed for one pair are passed for the next.
 fn record_conforms(schema: &[u8], sections: Sections, t: &[u8], v: &[u8], levels: usize) -> Verdict
-    requires { ⌜ Kept (now schema) sections ⌝ }
+    requires { ⌜ Sectioned (now schema) sections ⌝ }
     requires { ⌜ wholeAs (whole levels) recKind (now t) ≡ true ⌝ }
     requires { ⌜ wholeVAs (wholeV levels) recordKind (now v) ≡ true ⌝ }
     ensures { λ r. ⌜ r ≡ verdictOf (recordSaid (decS standard (now (schema .entry))) (isOpen (now (t .entry))) (attributesOf levels (now (t .entry))) (pairsOf levels (now (v .entry)))) ⌝ }
@@ -139,7 +139,7 @@ fn pair_conforms(
     v: &[u8],
     levels: usize,
 ) -> Verdict
-    requires { ⌜ Kept (now schema) sections ⌝ }
+    requires { ⌜ Sectioned (now schema) sections ⌝ }
     requires { ⌜ Sound levels n 0 (now f) (now c) ⌝ }
     requires { ⌜ wholeV levels (now v) ≡ true ⌝ }
     ensures { λ r. ⌜ r ≡ verdictOf (conformsAt shorter (decS standard (now (schema .entry))) (eqb openness 1) (decA (dec levels) n (now (f .entry)) (now (c .entry))) name (decV levels (now (v .entry)))) ⌝ }

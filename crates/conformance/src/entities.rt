@@ -8,7 +8,7 @@ ghost use Prim.Native.Nat.{_*_, _≤_};
 ghost use lib.Dec.{eqb};
 ghost use lib.ListN.{length};
 ghost use Rattle.cedar.specs.Types.{isAction, mem};
-ghost use Rattle.forms.specs.TypeBytes.{namesOf};
+ghost use Rattle.forms.specs.TypeBytes.{namesBy};
 
 // Whether a uid's type is an action type, and the one asked for.
 pub fn is_action_of(name: usize, action: usize) -> bool
@@ -23,7 +23,7 @@ pub fn is_action_of(name: usize, action: usize) -> bool
 // Whether a name stands among n names.
 pub fn stands(names: &[u8], n: usize, name: usize) -> bool
     requires { ⌜ 2 * n ≤ length (now names) ⌝ }
-    ensures { λ r. ⌜ r ≡ mem name (namesOf n (now (names .entry))) ⌝ }
+    ensures { λ r. ⌜ r ≡ mem name (namesBy 2 n (now (names .entry))) ⌝ }
 {
     let mut b = names;
     let mut left = n;

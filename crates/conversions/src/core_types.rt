@@ -1,39 +1,39 @@
 // `TryFrom<Type>` into `CoreSchemaType`: a length pass, and a write pass where every part can be expressed.
-use bounds::writers::put_attribute;
-use bounds::writers::put_entity;
-use bounds::writers::put_kind;
-use bounds::writers::put_one;
-use bounds::writers::put_record;
 use forms::kinds::Kind;
 use forms::numbers::u16_at;
 use forms::offsets::Offset;
 use forms::refusals::Refusal;
+use forms::tables::bodies_at;
+use forms::tables::entries_at;
 use forms::widths::Width;
-use lengths::extents::Extent;
-use lengths::extents::capped;
-use lengths::tables::bodies_at;
-use lengths::tables::entries_at;
+use writing::form_lengths::FormLength;
+use writing::form_lengths::capped;
+use writing::writers::put_attribute;
+use writing::writers::put_entity;
+use writing::writers::put_kind;
+use writing::writers::put_one;
+use writing::writers::put_record;
 ghost use mathlib.Core.Path.{_≡_};
 ghost use mathlib.Core.Bool.{true};
 ghost use Rattle.cedar.specs.TypeForm.{enc};
 ghost use Rattle.forms.specs.TypeBytes.{whole, dec, decA, Sound};
-ghost use Rattle.lengths.specs.Extents.{extentOf, formOf, table, Ready};
-ghost use Rattle.bounds.specs.Written.{Written};
+ghost use Rattle.writing.specs.FormLengths.{formLengthOf, formOf, table, Ready};
+ghost use Rattle.writing.specs.Written.{Written};
 ghost use Rattle.conversions.specs.CoreTypes.{core, coreAttrs, boolOr};
 
 // How long the core type's form is.
-pub fn core_extent(t: &[u8], levels: usize) -> Extent
+pub fn core_length(t: &[u8], levels: usize) -> FormLength
     requires { ⌜ whole levels (now t) ≡ true ⌝ }
-    ensures { λ r. ⌜ r ≡ extentOf enc (core (dec levels (now (t .entry)))) ⌝ }
+    ensures { λ r. ⌜ r ≡ formLengthOf enc (core (dec levels (now (t .entry)))) ⌝ }
 {
     let k = t[0];
     match k {
-        Kind::NEVER => Extent::Not(Refusal::CONVERSION),
-        Kind::ANY_ENTITY => Extent::Not(Refusal::CONVERSION),
-        Kind::SET => core_extent(&t[1..], levels - 1).plus(1),
+        Kind::NEVER => FormLength::Not(Refusal::CONVERSION),
+        Kind::ANY_ENTITY => FormLength::Not(Refusal::CONVERSION),
+        Kind::SET => core_length(&t[Offset::ELEMENT..], levels - 1).plus(Offset::ELEMENT),
         Kind::RECORD => {
             let n = u16_at(t, Offset::RECORD_COUNT);
-            core_attributes_extent(
+            core_attributes_length(
                 entries_at(t, Offset::RECORD_COUNT),
                 bodies_at(t, Offset::RECORD_COUNT),
                 n,
@@ -42,20 +42,20 @@ pub fn core_extent(t: &[u8], levels: usize) -> Extent
         }
         Kind::ENTITY => {
             if u16_at(t, Offset::ENTITY_COUNT) == 1 {
-                return Extent::Of(Offset::ENTITY_END);
+                return FormLength::Of(Offset::ENTITY_END);
             }
-            Extent::Not(Refusal::CONVERSION)
+            FormLength::Not(Refusal::CONVERSION)
         }
-        Kind::ACTION => Extent::Of(Offset::ENTITY_END),
-        Kind::EXTENSION => Extent::Of(Offset::EXTENSION_END),
-        _ => Extent::Of(Offset::ELEMENT),
+        Kind::ACTION => FormLength::Of(Offset::ENTITY_END),
+        Kind::EXTENSION => FormLength::Of(Offset::EXTENSION_END),
+        _ => FormLength::Of(Offset::ELEMENT),
     }
 }
 
 // How long the entries and bodies of a record's core type are.
-fn core_attributes_extent(es: &[u8], bs: &[u8], n: usize, levels: usize) -> Extent
+fn core_attributes_length(es: &[u8], bs: &[u8], n: usize, levels: usize) -> FormLength
     requires { ⌜ Sound levels n 0 (now es) (now bs) ⌝ }
-    ensures { λ r. ⌜ r ≡ extentOf table (coreAttrs (decA (dec levels) n (now (es .entry)) (now (bs .entry)))) ⌝ }
+    ensures { λ r. ⌜ r ≡ formLengthOf table (coreAttrs (decA (dec levels) n (now (es .entry)) (now (bs .entry)))) ⌝ }
 {
     let mut e = es;
     let mut b = bs;
@@ -63,15 +63,15 @@ fn core_attributes_extent(es: &[u8], bs: &[u8], n: usize, levels: usize) -> Exte
     let mut sum = 0;
     while 0 < left {
         let len = u16_at(e, Offset::BODY_LENGTH);
-        let Extent::Of(x) = core_extent(&b[0..len], levels) else {
-            return Extent::Not(Refusal::CONVERSION);
+        let FormLength::Of(x) = core_length(&b[0..len], levels) else {
+            return FormLength::Not(Refusal::CONVERSION);
         };
         sum = capped(sum + x + Width::ATTRIBUTE);
         e = &e[Width::ATTRIBUTE..];
         b = &b[len..];
         left -= 1;
     }
-    Extent::Of(sum)
+    FormLength::Of(sum)
 }
 
 // True and False become Bool.
@@ -97,7 +97,12 @@ pub fn write_core(t: &[u8], levels: usize, out: &mut [u8]) -> usize
     match k {
         Kind::SET => {
             put_one(out, Kind::SET);
-            write_core(&t[1..], levels - 1, &mut out[1..]) + 1
+            write_core(
+                &t[Offset::ELEMENT..],
+                levels - 1,
+                &mut out[Offset::ELEMENT..],
+            )
+                + Offset::ELEMENT
         }
         Kind::RECORD => {
             let n = u16_at(t, Offset::RECORD_COUNT);
@@ -125,7 +130,7 @@ pub fn write_core(t: &[u8], levels: usize, out: &mut [u8]) -> usize
         }
         _ => {
             put_one(out, bool_or(k));
-            1
+            Offset::ELEMENT
         }
     }
 }

@@ -11,8 +11,8 @@ use Rattle.cedar.specs.Result.{Result, ok, err}
 use Rattle.cedar.specs.Calls.{stepFits}
 use Rattle.forms.specs.Parts.{part}
 use Rattle.forms.specs.TypeBytes.{whole, dec}
-use Rattle.folds.specs.declared.steps.Step.{Step}
-use Rattle.folds.specs.declared.steps.Step.the-variants.{To, Not, TooLong}
+use Rattle.folds.specs.declared.steps.JoinStep.{JoinStep}
+use Rattle.folds.specs.declared.steps.JoinStep.the-variants.{To, Not, TooLong}
 
 -- A whole form of at most l levels stands in the first len bytes of `last`, which has room for any form.
 pub record Held (l len : ℕ) (last : List ℕ) : Type 0 where
@@ -23,7 +23,7 @@ pub record Held (l len : ℕ) (last : List ℕ) : Type 0 where
 
 -- A step's answer: the bound b within a workspace of so many bytes, its form left in the first bytes of `last`; no bound, with its reason; or one
 -- too long.
-abbrev pub Stepped : ℕ → Result Ty → ℕ → List ℕ → Step → Type 0
+abbrev pub Stepped : ℕ → Result Ty → ℕ → List ℕ → JoinStep → Type 0
 Stepped l b work last (To n) = (b ≡ ok (dec l (part 0 n last))) × (stepFits standard work (dec l (part 0 n last)) ≡ true) × Held l n last
 Stepped l b work last (Not e) = b ≡ err e
 Stepped l b work last TooLong = (c : Ty) × ((b ≡ ok c) × (stepFits standard work c ≡ false))

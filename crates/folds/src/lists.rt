@@ -1,8 +1,9 @@
 // The fold of a list of types.
-use crate::steps::Step;
+use crate::steps::JoinStep;
 use crate::steps::join_step;
 use forms::kinds::Kind;
 use forms::limits::Limits;
+use forms::modes::Mode;
 use forms::numbers::u16_at;
 use forms::offsets::Offset;
 use forms::refusals::Refusal;
@@ -26,7 +27,7 @@ pub enum Folded {
 
 // Folds n types, given by their lengths and their bytes, onto the type in the first bytes of `last`.
 fn fold_onto(
-    mode: u8,
+    mode: Mode,
     last: &mut [u8],
     len: usize,
     lengths: &[u8],
@@ -46,9 +47,9 @@ fn fold_onto(
     while 0 < left {
         let size = u16_at(e, 0);
         match join_step(mode, last, to, &b[0..size], Limits::LEVELS, second, work) {
-            Step::To(m) => to = m,
-            Step::Not(reason) => return Folded::Not(reason),
-            Step::TooLong => return Folded::Not(Refusal::WORKSPACE),
+            JoinStep::To(m) => to = m,
+            JoinStep::Not(reason) => return Folded::Not(reason),
+            JoinStep::TooLong => return Folded::Not(Refusal::WORKSPACE),
         }
         second = !second;
         e = &e[Width::MEMBER..];
@@ -59,7 +60,7 @@ fn fold_onto(
 }
 
 // The fold of a list, from Never; its form is left in the first bytes of `last`.
-pub fn fold_types(mode: u8, list: &[u8], last: &mut [u8], work: &mut [u8]) -> Folded
+pub fn fold_types(mode: Mode, list: &[u8], last: &mut [u8], work: &mut [u8]) -> Folded
     requires { ⌜ Opened (now list) (now last) ⌝ }
     ensures { λ r. ⌜ FoldsTo (foldTypes (stepFits standard (length (now (work .entry)))) (asMode mode) (listOf (standard .levels) (now (list .entry)))) (now (last .exit)) r ⌝ }
 {
@@ -69,7 +70,7 @@ pub fn fold_types(mode: u8, list: &[u8], last: &mut [u8], work: &mut [u8]) -> Fo
     fold_onto(
         mode,
         last,
-        1,
+        Offset::ELEMENT,
         &list[Offset::LIST_ENTRIES..end],
         &list[end..],
         n,

@@ -1,10 +1,11 @@
 // One step of a fold: a bound written into a half of the workspace.
+use bound_lengths::bound_length::bound_length;
 use bounds::bound_writes::write_bound;
-use bounds::writers::copy;
 use forms::limits::Limits;
-use lengths::bound_extents::bound_extent;
-use lengths::extents::Extent;
+use forms::modes::Mode;
 use relations::is_subtype::is_subtype;
+use writing::form_lengths::FormLength;
+use writing::writers::copy;
 ghost use mathlib.Core.Path.{_≡_};
 ghost use mathlib.Core.Bool.{true};
 ghost use lib.ListN.{length};
@@ -15,7 +16,7 @@ ghost use Rattle.forms.specs.Modes.{asMode};
 ghost use Rattle.folds.specs.Steps.{Held, Stepped};
 
 // Where a step leads: to a bound of so many bytes, to none, by the number of its reason, or to one that is too long.
-pub enum Step {
+pub enum JoinStep {
     To(usize),
     Not(u8),
     TooLong,
@@ -24,49 +25,49 @@ pub enum Step {
 // The bound of the type in the first bytes of `last` and another: written into a half of the workspace, then copied to `last`. The
 // halves cannot be lent at once, so each step reads a copy.
 fn write_step(
-    mode: u8,
+    mode: Mode,
     last: &mut [u8],
     len: usize,
     t: &[u8],
     levels: usize,
     second: bool,
     work: &mut [u8],
-) -> Step
+) -> JoinStep
     requires { ⌜ Held levels len (now last) ⌝ }
     requires { ⌜ whole levels (now t) ≡ true ⌝ }
     ensures { λ r. ⌜ Stepped levels (bound (asMode mode) (dec levels (part 0 len (now (last .entry)))) (dec levels (now (t .entry)))) (length (now (work .entry))) (now (last .exit)) r ⌝ }
 {
     let half = work.len() / 2;
-    let n = match bound_extent(mode, &last[0..len], t, levels) {
-        Extent::Of(n) => n,
-        Extent::Not(e) => return Step::Not(e),
+    let n = match bound_length(mode, &last[0..len], t, levels) {
+        FormLength::Of(n) => n,
+        FormLength::Not(e) => return JoinStep::Not(e),
     };
     if half < n {
-        return Step::TooLong;
+        return JoinStep::TooLong;
     }
     if Limits::BYTES < n {
-        return Step::TooLong;
+        return JoinStep::TooLong;
     }
     if second {
         write_bound(mode, &last[0..len], t, levels, &mut work[half..]);
         copy(&work[half..half + n], last);
-        return Step::To(n);
+        return JoinStep::To(n);
     }
     write_bound(mode, &last[0..len], t, levels, &mut work[..half]);
     copy(&work[0..n], last);
-    Step::To(n)
+    JoinStep::To(n)
 }
 
 // One step: the type in the first bytes of `last` stays where the other is under it; else their bound is written in its place.
 pub fn join_step(
-    mode: u8,
+    mode: Mode,
     last: &mut [u8],
     len: usize,
     t: &[u8],
     levels: usize,
     second: bool,
     work: &mut [u8],
-) -> Step
+) -> JoinStep
     requires { ⌜ Held levels len (now last) ⌝ }
     requires { ⌜ whole levels (now t) ≡ true ⌝ }
     ensures { λ r. ⌜ Stepped levels (bound (asMode mode) (dec levels (part 0 len (now (last .entry)))) (dec levels (now (t .entry)))) (length (now (work .entry))) (now (last .exit)) r ⌝ }
@@ -75,7 +76,7 @@ pub fn join_step(
         return write_step(mode, last, len, t, levels, second, work);
     }
     if work.len() / 2 < len {
-        return Step::TooLong;
+        return JoinStep::TooLong;
     }
-    Step::To(len)
+    JoinStep::To(len)
 }

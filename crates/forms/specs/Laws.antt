@@ -13,3 +13,7 @@ pub mod Views
 pub mod Values
 pub mod ValueTwin
 pub mod Lists
+pub mod Names
+pub mod Tables
+pub mod Codes
+pub mod Modes

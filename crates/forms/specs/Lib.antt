@@ -4,5 +4,7 @@ pub mod Rows
 pub mod TypeBytes
 pub mod ValueBytes
 pub mod ListBytes
+pub mod Tables
+pub mod Codes
 pub mod Search
 pub mod Laws

@@ -1,9 +1,17 @@
--- The mode that a number means. Assumes nothing: this is a definition.
-use Prim.Native.Nat.{ℕ}
-use mathlib.Core.Bool.{cond}
-use lib.Dec.{eqb}
+-- The mode as the code's enum. Assumes nothing: these are definitions.
+use mathlib.Core.Option.{Option, none, some}
 use Rattle.cedar.specs.Types.{Mode, strict, permissive}
+use Rattle.forms.specs.declared.modes.Mode.{Mode as ModeEnum}
+use Rattle.forms.specs.declared.modes.Mode.the-variants.{Strict, Permissive}
+use Rattle.forms.specs.declared.modes.KnownMode.{KnownMode}
+use Rattle.forms.specs.declared.modes.KnownMode.the-variants.{Of, Nothing}
 
--- 1 is permissive, all else strict.
-unfoldable pub asMode : ℕ → Mode
-asMode n = cond (eqb n 1) permissive strict
+-- The mode that a case means.
+abbrev pub asMode : ModeEnum → Mode
+asMode Strict = strict
+asMode Permissive = permissive
+
+-- The mode of a number that was read.
+abbrev pub modeIn : KnownMode → Option Mode
+modeIn (Of m) = some (asMode m)
+modeIn Nothing = none

@@ -32,4 +32,5 @@ pub record Laid (w n : ℕ) (es bs : List ℕ) : Type 0 where
 
 -- Where the first entry stands whose name is not below the name, if it has the name.
 unfoldable pub foundAt : ℕ → ℕ → ℕ → List ℕ → Found
-foundAt w n name es = cond (ltb (below w n name es) n && eqb (rd es (w * below w n name es)) name) (At (below w n name es) (used w (below w n name es) es)) Nothing
+foundAt w n name es =
+    cond (ltb (below w n name es) n && eqb (rd es (w * below w n name es)) name) (At (below w n name es) (used w (below w n name es) es)) Nothing

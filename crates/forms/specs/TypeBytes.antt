@@ -15,10 +15,10 @@ unfoldable pub namesUp : ℕ → ℕ → List ℕ → Bool
 namesUp zero low b = true
 namesUp (suc n) low b = leb low (rd b 0) && namesUp n (rd b 0 + 1) (rest 2 b)
 
--- The first n names.
-unfoldable pub namesOf : ℕ → List ℕ → List ℕ
-namesOf zero b = []
-namesOf (suc n) b = rd b 0 ∷ namesOf n (rest 2 b)
+-- The names that n rows of one width begin with.
+unfoldable pub namesBy : ℕ → ℕ → List ℕ → List ℕ
+namesBy w zero b = []
+namesBy w (suc n) b = rd b 0 ∷ namesBy w n (rest w b)
 
 -- An entity form after its first byte: a count of at least 1, and so many names.
 abbrev pub namesFit : List ℕ → Bool
@@ -51,7 +51,7 @@ abbrev pub decAs : (List ℕ → Ty) → Kind → List ℕ → Ty
 decAs d (one k) b = atom k
 decAs d setKind b = set (d (rest 1 b))
 decAs d recKind b = rec (eqb (getD b 1 0) 1) (attrsOf (tableOf attrRow (λ _. d) 2 b))
-decAs d entKind b = ent (namesOf (rd b 1) (rest 3 b))
+decAs d entKind b = ent (namesBy 2 (rd b 1) (rest 3 b))
 decAs d actKind b = act (rd b 1) (attrsOf (tableOf attrRow (λ _. d) 3 b))
 decAs d extKind b = ext (rd b 1)
 decAs d noKind b = atom never

@@ -22,17 +22,9 @@ pairRow = record { width = 4; ok = λ low es. leb low (rd es 0); next = λ es. r
 abbrev pub wholeMs : (List ℕ → Bool) → ℕ → List ℕ → List ℕ → Bool
 wholeMs w n es bs = rowsTo memberRow (λ _. w) noneLeft n tt es bs
 
--- The members that they say.
-abbrev pub decMs : (List ℕ → Value) → ℕ → List ℕ → List ℕ → Values
-decMs d n es bs = valuesFrom (rowsOf memberRow (λ _. d) n es bs)
-
 -- n pairs, names from low on, with no byte over.
 abbrev pub wholePs : (List ℕ → Bool) → ℕ → ℕ → List ℕ → List ℕ → Bool
 wholePs w n low es bs = rowsTo pairRow (λ _. w) noneLeft n low es bs
-
--- The pairs that they say.
-abbrev pub decPs : (List ℕ → Value) → ℕ → List ℕ → List ℕ → Pairs
-decPs d n es bs = pairsFrom (rowsOf pairRow (λ _. d) n es bs)
 
 -- By the first byte's kind; w tests a part, d decodes one.
 abbrev pub wholeVAs : (List ℕ → Bool) → ValueKind → List ℕ → Bool
@@ -65,13 +57,3 @@ wholeV (suc l) b = ltb 0 (length b) && wholeVAs (wholeV l) (valueKind (kind b)) 
 unfoldable pub decV : ℕ → List ℕ → Value
 decV zero b = boolean false
 decV (suc l) b = decVAs (decV l) (valueKind (kind b)) b
-
--- n members of at most l levels each; n pairs, names from low on.
-pub record SoundMs (l n : ℕ) (es bs : List ℕ) : Type 0 where
-  pub sized : length es ≡ 2 * n
-  pub good : wholeMs (wholeV l) n es bs ≡ true
-
--- n entries of pairs, and n whole values behind them.
-pub record SoundPs (l n low : ℕ) (es bs : List ℕ) : Type 0 where
-  pub sized : length es ≡ 4 * n
-  pub good : wholePs (wholeV l) n low es bs ≡ true

@@ -1,4 +1,6 @@
-// The first byte of a form says its kind.
+// The first byte of a form says its kind; two other bytes say yes or no.
+ghost use mathlib.Core.Path.{_≡_};
+ghost use Rattle.cedar.specs.Bytes.{flag};
 
 // Kinds of type forms.
 pub struct Kind;
@@ -81,6 +83,15 @@ impl Openness {
     pub const CLOSED: u8 = 0;
 
     pub const OPEN: u8 = 1;
+
+    pub fn of(is_open: bool) -> u8
+        ensures { λ r. ⌜ r ≡ flag is_open ⌝ }
+    {
+        if is_open {
+            return Openness::OPEN;
+        }
+        Openness::CLOSED
+    }
 }
 
 // The required byte of an attribute's entry.
@@ -90,4 +101,13 @@ impl Requirement {
     pub const OPTIONAL: u8 = 0;
 
     pub const REQUIRED: u8 = 1;
+
+    pub fn of(required: bool) -> u8
+        ensures { λ r. ⌜ r ≡ flag required ⌝ }
+    {
+        if required {
+            return Requirement::REQUIRED;
+        }
+        Requirement::OPTIONAL
+    }
 }

@@ -1,8 +1,41 @@
-// How strictly types are compared.
-pub struct Mode;
+// How strictly types are compared: `ValidationMode`.
+ghost use mathlib.Core.Path.{_≡_};
+ghost use Rattle.cedar.specs.Types.{isPermissive};
+ghost use Rattle.cedar.specs.Calls.{modeOf};
+ghost use Rattle.forms.specs.Modes.{asMode, modeIn};
+
+pub enum Mode {
+    Strict,
+    Permissive,
+}
+
+// The mode that a number means, or none.
+pub enum KnownMode {
+    Of(Mode),
+    Nothing,
+}
 
 impl Mode {
     pub const STRICT: u8 = 0;
 
     pub const PERMISSIVE: u8 = 1;
+
+    pub fn from_number(n: u8) -> KnownMode
+        ensures { λ r. ⌜ modeIn r ≡ modeOf n ⌝ }
+    {
+        match n {
+            Mode::STRICT => KnownMode::Of(Mode::Strict),
+            Mode::PERMISSIVE => KnownMode::Of(Mode::Permissive),
+            _ => KnownMode::Nothing,
+        }
+    }
+
+    pub fn is_permissive(self) -> bool
+        ensures { λ r. ⌜ r ≡ isPermissive (asMode self) ⌝ }
+    {
+        match self {
+            Mode::Strict => false,
+            Mode::Permissive => true,
+        }
+    }
 }

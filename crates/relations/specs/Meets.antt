@@ -4,25 +4,21 @@ use mathlib.Core.List.{List}
 use mathlib.Core.Bool.{Bool, true, not, _||_, cond, _&&_}
 use lib.Dec.{eqb, leb}
 use lib.ListN.{getD}
-use Rattle.cedar.specs.Types.{Ty, Attrs, maybe, mem, find}
+use Rattle.cedar.specs.Types.{true′, false′, bool, anyset, Ty, Attrs, maybe, mem, find}
+use Rattle.cedar.specs.TypeForm.{atomCode, setCode}
 use Rattle.cedar.specs.Consistency.{consistent}
 use Rattle.forms.specs.Parts.{rest, rd}
 use Rattle.forms.specs.TypeBytes.{Sound}
 
 -- The kinds without parts that are plain: 3 to 6.
 unfoldable pub plainKind : ℕ → Bool
-plainKind k = leb 3 k && leb k 6
+plainKind k = leb (atomCode bool) k && leb k (atomCode anyset)
 
 -- A type of kind j with one of another kind k, which is no entity: True and False with Bool, a set with the untyped set.
 unfoldable pub kindMeets : ℕ → ℕ → Bool
-kindMeets j k = cond (eqb k 3) (eqb j 1 || eqb j 2) (eqb k 6 && eqb j 7)
+kindMeets j k = cond (eqb k (atomCode bool)) (eqb j (atomCode true′) || eqb j (atomCode false′)) (eqb k (atomCode anyset) && eqb j setCode)
 
--- n attributes of at most l levels, names from some name on.
-pub record Listed (l n : ℕ) (es bs : List ℕ) : Type 0 where
-  pub low : ℕ
-  pub sound : Sound l n low es bs
-
--- The same, of any level.
+-- n attributes of whatever level, names from some name on.
 pub record CoreList (n : ℕ) (es bs : List ℕ) : Type 0 where
   pub levels : ℕ
   pub low : ℕ

@@ -1,23 +1,18 @@
 -- Lists of names in the borrow checker's terms. Assumes nothing: these are definitions.
-use Prim.Native.Nat.{ℕ, zero, suc, _+_, _*_, _≤_}
+use Prim.Native.Nat.{ℕ, _+_, _*_, _≤_}
 use mathlib.Core.Bool.{true}
-use mathlib.Core.List.{List, [], _∷_}
+use mathlib.Core.List.{List}
 use mathlib.Core.Path.{_≡_}
 use lib.ListN.{length}
 use Rattle.cedar.specs.Laws.Shape.{Ascend}
 use Rattle.forms.specs.Parts.{rest, rd}
-use Rattle.forms.specs.TypeBytes.{namesUp, namesOf}
+use Rattle.forms.specs.TypeBytes.{namesUp, namesBy}
 
 -- At least n names are there, and they ascend strictly from some name on.
 pub record Ascending (n : ℕ) (b : List ℕ) : Type 0 where
   pub low : ℕ
   pub sized : 2 * n ≤ length b
   pub up : namesUp n low b ≡ true
-
--- The names of n attributes, by their entries.
-unfoldable pub entryNames : ℕ → List ℕ → List ℕ
-entryNames zero es = []
-entryNames (suc n) es = rd es 0 ∷ entryNames n (rest 5 es)
 
 -- An entity form: at least one name, as many as it says, which ascend.
 pub record EntityForm (b : List ℕ) : Type 0 where
@@ -29,8 +24,8 @@ pub record EntityForm (b : List ℕ) : Type 0 where
 pub record EntriesUp (n : ℕ) (es : List ℕ) : Type 0 where
   pub low : ℕ
   pub sized : 5 * n ≤ length es
-  pub up : Ascend low (entryNames n es)
+  pub up : Ascend low (namesBy 5 n es)
 
 -- The names of an entity form.
 abbrev pub entityNames : List ℕ → List ℕ
-entityNames b = namesOf (rd b 1) (rest 3 b)
+entityNames b = namesBy 2 (rd b 1) (rest 3 b)

@@ -5,14 +5,14 @@ use mathlib.Core.Option.{Option, none, some}
 use mathlib.Core.Path.{_≡_}
 use lib.ListN.{length}
 use Rattle.forms.specs.Parts.{rest}
-use Rattle.forms.specs.TypeBytes.{namesOf}
+use Rattle.forms.specs.TypeBytes.{namesBy}
 use Rattle.relations.specs.Names.{Ascending}
 use Rattle.relations.specs.declared.are_types_disjoint.TypeNames.{TypeNames}
 use Rattle.relations.specs.declared.are_types_disjoint.TypeNames.the-variants.{From, Nothing}
 
 -- The names that are meant.
 abbrev pub namesAt : List ℕ → TypeNames → Option (List ℕ)
-namesAt b (From s n) = some (namesOf n (rest s b))
+namesAt b (From s n) = some (namesBy 2 n (rest s b))
 namesAt b Nothing = none
 
 -- They stand in the form, in order.

@@ -17,9 +17,10 @@ ghost use Prim.Native.Nat.{_≤_};
 ghost use lib.Dec.{eqb};
 ghost use lib.ListN.{length};
 ghost use Rattle.cedar.specs.Consistency.{consistentEntity, consistent, consistentAttrs};
-ghost use Rattle.forms.specs.TypeBytes.{whole, dec, decA, Sound};
-ghost use Rattle.relations.specs.Names.{EntityForm, EntriesUp, entityNames, entryNames};
-ghost use Rattle.relations.specs.Meets.{Listed, CoreList, kindMeets, coveredBy, allCovered, metBy};
+ghost use Rattle.forms.specs.TypeBytes.{whole, dec, decA, Sound, namesBy};
+ghost use Rattle.relations.specs.Names.{EntityForm, EntriesUp, entityNames};
+ghost use Rattle.forms.specs.Tables.{Left};
+ghost use Rattle.relations.specs.Meets.{CoreList, kindMeets, coveredBy, allCovered, metBy};
 
 // Whether a type of kind j is consistent with one of another kind k, which is no entity.
 fn kind_consistent(j: u8, k: u8) -> bool
@@ -61,7 +62,7 @@ fn entity_consistent(t0: &[u8], t1: &[u8], levels: usize) -> bool
 fn attribute_covered(e: &[u8], openness: u8, fs: &[u8], cs: &[u8], m: usize) -> bool
     requires { ⌜ 5 ≤ length (now e) ⌝ }
     requires { ⌜ CoreList m (now fs) (now cs) ⌝ }
-    ensures { λ r. ⌜ r ≡ coveredBy (eqb openness 1) (entryNames m (now (fs .entry))) (now (e .entry)) ⌝ }
+    ensures { λ r. ⌜ r ≡ coveredBy (eqb openness 1) (namesBy 5 m (now (fs .entry))) (now (e .entry)) ⌝ }
 {
     if openness == Openness::OPEN {
         return true;
@@ -79,7 +80,7 @@ fn attribute_covered(e: &[u8], openness: u8, fs: &[u8], cs: &[u8], m: usize) -> 
 fn names_covered(es: &[u8], n: usize, openness: u8, fs: &[u8], cs: &[u8], m: usize) -> bool
     requires { ⌜ EntriesUp n (now es) ⌝ }
     requires { ⌜ CoreList m (now fs) (now cs) ⌝ }
-    ensures { λ r. ⌜ r ≡ allCovered n (eqb openness 1) (entryNames m (now (fs .entry))) (now (es .entry)) ⌝ }
+    ensures { λ r. ⌜ r ≡ allCovered n (eqb openness 1) (namesBy 5 m (now (fs .entry))) (now (es .entry)) ⌝ }
 {
     let mut e = es;
     let mut left = n;
@@ -114,7 +115,7 @@ fn attribute_consistent(
     u: &[u8],
     levels: usize,
 ) -> bool
-    requires { ⌜ Listed levels n (now es) (now bs) ⌝ }
+    requires { ⌜ Left levels n (now es) (now bs) ⌝ }
     requires { ⌜ 5 ≤ length (now f) ⌝ }
     requires { ⌜ whole levels (now u) ≡ true ⌝ }
     ensures { λ r. ⌜ r ≡ metBy (eqb openness 1) (now (f .entry)) (dec levels (now (u .entry))) (decA (dec levels) n (now (es .entry)) (now (bs .entry))) ⌝ }

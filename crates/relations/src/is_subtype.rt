@@ -1,10 +1,10 @@
 // Whether a type is a subtype of another.
-use crate::modes::is_permissive;
 use crate::names::names_subset;
-use crate::names::same_attribute_names;
 use crate::same_bytes::same_bytes;
 use forms::kinds::Kind;
 use forms::kinds::Openness;
+use forms::modes::Mode;
+use forms::names::same_names;
 use forms::numbers::u16_at;
 use forms::offsets::Offset;
 use forms::search::Found;
@@ -16,13 +16,13 @@ ghost use Prim.Native.Nat.{_*_, _≤_};
 ghost use lib.Dec.{eqb};
 ghost use lib.ListN.{length};
 ghost use Rattle.cedar.specs.Subtype.{subFlag, subNames, sub, subAttrs};
-ghost use Rattle.forms.specs.TypeBytes.{whole, dec, decA, Sound};
-ghost use Rattle.relations.specs.Names.{EntityForm, entityNames, entryNames};
+ghost use Rattle.forms.specs.TypeBytes.{whole, dec, decA, Sound, namesBy};
+ghost use Rattle.relations.specs.Names.{EntityForm, entityNames};
 ghost use Rattle.forms.specs.Modes.{asMode};
 ghost use Rattle.relations.specs.Under.{kindUnder, recordUnder};
 
 // Whether a type of kind j stands under one of another kind k.
-fn kind_under(mode: u8, j: u8, k: u8) -> bool
+fn kind_under(mode: Mode, j: u8, k: u8) -> bool
     ensures { λ r. ⌜ r ≡ kindUnder (asMode mode) j k ⌝ }
 {
     if j == Kind::NEVER {
@@ -38,10 +38,10 @@ fn kind_under(mode: u8, j: u8, k: u8) -> bool
         Kind::ANY_SET => j == Kind::SET,
         Kind::ANY_ENTITY => {
             if j == Kind::ENTITY {
-                return is_permissive(mode);
+                return mode.is_permissive();
             }
             if j == Kind::ACTION {
-                return is_permissive(mode);
+                return mode.is_permissive();
             }
             false
         }
@@ -50,25 +50,25 @@ fn kind_under(mode: u8, j: u8, k: u8) -> bool
 }
 
 // Whether an attribute's flag stands under another's: strict, they are equal; permissive, required also stands under optional.
-fn required_under(mode: u8, lower: u8, upper: u8) -> bool
+fn required_under(mode: Mode, lower: u8, upper: u8) -> bool
     requires { ⌜ (lower ≤ 1) × (upper ≤ 1) ⌝ }
     ensures { λ r. ⌜ r ≡ subFlag (asMode mode) (eqb lower 1) (eqb upper 1) ⌝ }
 {
-    if is_permissive(mode) {
+    if mode.is_permissive() {
         return upper <= lower;
     }
     lower == upper
 }
 
 // Whether an entity stands under another: strict, their names are equal; permissive, they are a subset.
-fn entity_under(mode: u8, t0: &[u8], t1: &[u8]) -> bool
+fn entity_under(mode: Mode, t0: &[u8], t1: &[u8]) -> bool
     requires { ⌜ EntityForm (now t0) ⌝ }
     requires { ⌜ EntityForm (now t1) ⌝ }
     ensures { λ r. ⌜ r ≡ subNames (asMode mode) (entityNames (now (t0 .entry))) (entityNames (now (t1 .entry))) ⌝ }
 {
     let a = &t0[Offset::ENTITY_NAMES..];
     let b = &t1[Offset::ENTITY_NAMES..];
-    if is_permissive(mode) {
+    if mode.is_permissive() {
         return names_subset(
             a,
             u16_at(t0, Offset::ENTITY_COUNT),
@@ -81,19 +81,19 @@ fn entity_under(mode: u8, t0: &[u8], t1: &[u8]) -> bool
 
 // Whether a record may stand under another but for its attributes: an open one only under an open one; with the same names or,
 // permissive and the upper open, more.
-fn record_under(mode: u8, open0: u8, es: &[u8], n: usize, open1: u8, fs: &[u8], m: usize) -> bool
+fn record_under(mode: Mode, open0: u8, es: &[u8], n: usize, open1: u8, fs: &[u8], m: usize) -> bool
     requires { ⌜ (open0 ≤ 1) × (open1 ≤ 1) ⌝ }
     requires { ⌜ 5 * n ≤ length (now es) ⌝ }
     requires { ⌜ 5 * m ≤ length (now fs) ⌝ }
-    ensures { λ r. ⌜ r ≡ recordUnder (asMode mode) (eqb open0 1) (entryNames n (now (es .entry))) (eqb open1 1) (entryNames m (now (fs .entry))) ⌝ }
+    ensures { λ r. ⌜ r ≡ recordUnder (asMode mode) (eqb open0 1) (namesBy 5 n (now (es .entry))) (eqb open1 1) (namesBy 5 m (now (fs .entry))) ⌝ }
 {
     if open1 < open0 {
         return false;
     }
-    if same_attribute_names(es, n, fs, m) {
+    if same_names(Width::ATTRIBUTE, es, n, fs, m) {
         return true;
     }
-    if is_permissive(mode) {
+    if mode.is_permissive() {
         return open1 == Openness::OPEN;
     }
     false
@@ -102,7 +102,7 @@ fn record_under(mode: u8, open0: u8, es: &[u8], n: usize, open1: u8, fs: &[u8], 
 // Whether each attribute of the upper list, fs and cs, is found in the lower one, es and bs, there with a flag and a type below. Both
 // ascend, so a search goes on where the last one ended.
 fn attributes_subtype(
-    mode: u8,
+    mode: Mode,
     es: &[u8],
     bs: &[u8],
     n: usize,
@@ -146,7 +146,7 @@ fn attributes_subtype(
 }
 
 // Whether t0 is a subtype of t1.
-pub fn is_subtype(mode: u8, t0: &[u8], t1: &[u8], levels: usize) -> bool
+pub fn is_subtype(mode: Mode, t0: &[u8], t1: &[u8], levels: usize) -> bool
     requires { ⌜ whole levels (now t0) ≡ true ⌝ }
     requires { ⌜ whole levels (now t1) ≡ true ⌝ }
     ensures { λ r. ⌜ r ≡ sub (asMode mode) (dec levels (now (t0 .entry))) (dec levels (now (t1 .entry))) ⌝ }

@@ -1,21 +1,18 @@
-// Lists of names that ascend strictly: two bytes each, or the first two of an attribute's entry.
+// Lists of names that ascend strictly.
 use forms::numbers::u16_at;
 use forms::widths::Width;
 ghost use mathlib.Core.Path.{_≡_};
-ghost use Prim.Native.Nat.{_*_, _≤_};
-ghost use lib.ListN.{length};
-ghost use Rattle.cedar.specs.Types.{eqNames};
 ghost use Rattle.cedar.specs.Disjoint.{shares};
 ghost use Rattle.cedar.specs.Subtype.{subset};
-ghost use Rattle.forms.specs.TypeBytes.{namesOf};
-ghost use Rattle.relations.specs.Names.{Ascending, entryNames};
+ghost use Rattle.forms.specs.TypeBytes.{namesBy};
+ghost use Rattle.relations.specs.Names.{Ascending};
 
 // Whether two lists have a name in common: the search stops at the first. What is below a name of the first list is passed over for
 // good, so each list is gone through once.
 pub fn names_share(first: &[u8], n: usize, second: &[u8], m: usize) -> bool
     requires { ⌜ Ascending n (now first) ⌝ }
     requires { ⌜ Ascending m (now second) ⌝ }
-    ensures { λ r. ⌜ r ≡ shares (namesOf n (now (first .entry))) (namesOf m (now (second .entry))) ⌝ }
+    ensures { λ r. ⌜ r ≡ shares (namesBy 2 n (now (first .entry))) (namesBy 2 m (now (second .entry))) ⌝ }
 {
     let mut shared = false;
     let mut a = first;
@@ -46,7 +43,7 @@ pub fn names_share(first: &[u8], n: usize, second: &[u8], m: usize) -> bool
 pub fn names_subset(first: &[u8], n: usize, second: &[u8], m: usize) -> bool
     requires { ⌜ Ascending n (now first) ⌝ }
     requires { ⌜ Ascending m (now second) ⌝ }
-    ensures { λ r. ⌜ r ≡ subset (namesOf n (now (first .entry))) (namesOf m (now (second .entry))) ⌝ }
+    ensures { λ r. ⌜ r ≡ subset (namesBy 2 n (now (first .entry))) (namesBy 2 m (now (second .entry))) ⌝ }
 {
     let mut a = first;
     let mut b = second;
@@ -67,29 +64,6 @@ pub fn names_subset(first: &[u8], n: usize, second: &[u8], m: usize) -> bool
         }
         b = &b[Width::NAME..];
         more -= 1;
-    }
-    true
-}
-
-// Whether two attribute lists have the same names.
-pub fn same_attribute_names(first: &[u8], n: usize, second: &[u8], m: usize) -> bool
-    requires { ⌜ 5 * n ≤ length (now first) ⌝ }
-    requires { ⌜ 5 * m ≤ length (now second) ⌝ }
-    ensures { λ r. ⌜ r ≡ eqNames (entryNames n (now (first .entry))) (entryNames m (now (second .entry))) ⌝ }
-{
-    if n != m {
-        return false;
-    }
-    let mut a = first;
-    let mut b = second;
-    let mut left = n;
-    while 0 < left {
-        if u16_at(a, 0) != u16_at(b, 0) {
-            return false;
-        }
-        a = &a[Width::ATTRIBUTE..];
-        b = &b[Width::ATTRIBUTE..];
-        left -= 1;
     }
     true
 }

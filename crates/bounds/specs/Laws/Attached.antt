@@ -14,13 +14,13 @@ use Rattle.cedar.specs.Result.{Result, ok, err}
 use Rattle.cedar.specs.Outcome.{over}
 use Rattle.cedar.specs.Laws.DirectBound.{direct}
 use Rattle.forms.specs.Parts.{rest}
-use Rattle.bounds.specs.Written.{Written}
-use Rattle.lengths.specs.Extents.{formOf, Ready}
-use Rattle.lengths.specs.Pairs.{joined, joinedTo}
-use Rattle.lengths.specs.Laws.Extents.{before}
-use Rattle.lengths.specs.Laws.Pairs.{after}
-use Rattle.bounds.specs.Laws.Writing.{back, filling-pos, filling-body}
-use Rattle.bounds.specs.Laws.Laying.{Laying, ready-room, laying-ready, laying-at, laying-entry, laying-small, laying-more}
+use Rattle.writing.specs.Written.{Written}
+use Rattle.writing.specs.FormLengths.{formOf, Ready}
+use Rattle.bound_lengths.specs.Pairs.{joined, joinedTo}
+use Rattle.writing.specs.Laws.FormLengths.{before}
+use Rattle.bound_lengths.specs.Laws.Pairs.{after}
+use Rattle.writing.specs.Laws.Writing.{back, filling-pos, filling-body}
+use Rattle.writing.specs.Laws.Laying.{Laying, ready-room, laying-ready, laying-at, laying-entry, laying-small, laying-more}
 use Rattle.bounds.specs.Joins.{pairForm}
 
 -- An attribute that is kept was found, and its types have a bound.
@@ -42,7 +42,9 @@ both m r t (some x) y e = go (direct m t (x .1)) refl e
     go (ok c) p e = kept (isPermissive m || eqFlag r (x .0)) e
       where
         kept : (b : Bool) → cond b (ok (some (r && x .0, c))) (err 11) ≡ ok (some y) → Both m r t (some x) y
-        kept true e = let z : (r && x .0, c) ≡ y = cc in record { other = x; found = refl; required = ap (λ (w : Bool × Ty). w .0) (sym z); bound = p ∙ ap (λ (w : Bool × Ty). ok (w .1)) z }
+        kept true e =
+            let z : (r && x .0, c) ≡ y = cc in
+            record { other = x; found = refl; required = ap (λ (w : Bool × Ty). w .0) (sym z); bound = p ∙ ap (λ (w : Bool × Ty). ok (w .1)) z }
         kept false e = absurd (let z : _≡_ {A = ℕ} 0 1 = cc in omega arith)
     go (err d) p e = absurd (drop (isPermissive m) e)
       where
@@ -72,7 +74,8 @@ module _ {j : Result (Option (Bool × Ty))} {c : Result Ty} {o : List ℕ} (y : 
 pub record Attaching (all : Result Attrs) (n : ℕ) (j : Result (Option (Bool × Ty))) (cs : Result Attrs) (o : List ℕ) (at pos : ℕ) (out : List ℕ) : Type 0 where
   pub laying : Laying all (after n j cs) o at pos out
 
-module _ {all : Result Attrs} {n : ℕ} {j : Result (Option (Bool × Ty))} {cs : Result Attrs} {o : List ℕ} {at pos : ℕ} {out : List ℕ} (g : Attaching all n j cs o at pos out) where
+module _ {all : Result Attrs} {n : ℕ} {j : Result (Option (Bool × Ty))} {cs : Result Attrs} {o : List ℕ} {at pos : ℕ} {out : List ℕ}
+    (g : Attaching all n j cs o at pos out) where
   pub attach-pos : pos ≤ length out
   attach-pos = omega (arith, filling-pos (g .laying .filling))
 
@@ -81,7 +84,8 @@ module _ {all : Result Attrs} {n : ℕ} {j : Result (Option (Bool × Ty))} {cs :
     where
       go : (j : Result (Option (Bool × Ty))) → Laying all (after n j cs) o at pos out → Ready pairForm j (rest pos out)
       go (ok none) i = record { result = none; is = refl; small = omega arith; room = omega arith }
-      go (ok (some y)) i = let r = ready-room (laying-ready i n (y .0) (ok (y .1)) cs refl) (y .1) refl in record { result = some y; is = refl; small = r .0; room = r .1 }
+      go (ok (some y)) i =
+          let r = ready-room (laying-ready i n (y .0) (ok (y .1)) cs refl) (y .1) refl in record { result = some y; is = refl; small = r .0; room = r .1 }
       go (err d) i = let z = i .is in absurd (let y : _≡_ {A = ℕ} 0 1 = cc in omega arith)
 
   module _ (ys : List ℕ) (x : ℕ) (t : Written (formOf pairForm j) (rest pos out) ys x) where
@@ -89,7 +93,8 @@ module _ {all : Result Attrs} {n : ℕ} {j : Result (Option (Bool × Ty))} {cs :
     decided : ((y : Bool × Ty) × (j ≡ ok (some y))) ⊎ ((j ≡ ok none) × (x ≡ 0))
     decided = go j (g .laying) t
       where
-        go : (j : Result (Option (Bool × Ty))) → Laying all (after n j cs) o at pos out → Written (formOf pairForm j) (rest pos out) ys x → ((y : Bool × Ty) × (j ≡ ok (some y))) ⊎ ((j ≡ ok none) × (x ≡ 0))
+        go : (j : Result (Option (Bool × Ty))) → Laying all (after n j cs) o at pos out → Written (formOf pairForm j) (rest pos out) ys x →
+            ((y : Bool × Ty) × (j ≡ ok (some y))) ⊎ ((j ≡ ok none) × (x ≡ 0))
         go (ok none) i t = inr (refl, t .many)
         go (ok (some y)) i t = inl (y, refl)
         go (err d) i t = let z = i .is in absurd (let y : _≡_ {A = ℕ} 0 1 = cc in omega arith)
@@ -101,7 +106,14 @@ module _ {all : Result Attrs} {n : ℕ} {j : Result (Option (Bool × Ty))} {cs :
     nothing e =
         let i : Laying all cs o at pos out = rw e at (g .laying) in
         let b : Written [] (rest pos out) ys x = rw e at t in
-        record { total = i .total; total-is = i .total-is; small = i .small; attrs = i .attrs; is = i .is; filling = filling-body (i .filling) [] (bodies (i .attrs)) ys x refl b }
+        record {
+          total = i .total;
+          total-is = i .total-is;
+          small = i .small;
+          attrs = i .attrs;
+          is = i .is;
+          filling = filling-body (i .filling) [] (bodies (i .attrs)) ys x refl b;
+        }
 
     pub attach-none : x ≡ 0 → Laying all cs o at pos (back pos out ys)
     attach-none h = ⊎-elim long (λ z. let e : pos + x ≡ pos = omega arith in rw e at (nothing (z .0))) decided
@@ -126,5 +138,6 @@ module _ {all : Result Attrs} {n : ℕ} {j : Result (Option (Bool × Ty))} {cs :
       pub attach-small : (x ≤ 4096) × ((pos + x ≤ 4096) × (at + 5 ≤ 4096))
       attach-small = laying-small (g .laying) n (y .0) (ok (y .1)) cs step ys x body
 
-      pub attach-more : (v : ℕ) (zs : List ℕ) → v ≡ flag (y .0) → zs ≡ over (u16 n ++ (v ∷ u16 x)) (rest at (back pos out ys)) → Laying all cs o (at + 5) (pos + x) (back at (back pos out ys) zs)
+      pub attach-more : (v : ℕ) (zs : List ℕ) → v ≡ flag (y .0) → zs ≡ over (u16 n ++ (v ∷ u16 x)) (rest at (back pos out ys)) →
+          Laying all cs o (at + 5) (pos + x) (back at (back pos out ys) zs)
       attach-more v zs f h = laying-more (g .laying) n (y .0) (ok (y .1)) cs step ys x body v zs f h

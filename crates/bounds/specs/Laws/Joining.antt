@@ -18,19 +18,23 @@ use Rattle.forms.specs.Parts.{part, rest, rd}
 use Rattle.forms.specs.Search.{below, used}
 use Rattle.forms.specs.TypeBytes.{whole, dec, decA}
 use Rattle.forms.specs.Laws.Attributes.{past, Past}
-use Rattle.bounds.specs.Written.{Written}
-use Rattle.lengths.specs.Extents.{table, formOf, Ready}
-use Rattle.lengths.specs.Pairs.{Front, Tabled, attrsAt, joined}
-use Rattle.bounds.specs.Laws.Writing.{back}
-use Rattle.lengths.specs.Laws.Tables.{Split}
-use Rattle.bounds.specs.Laws.Laying.{Laying, laying-start, laying-length, laying-same, laying-end}
-use Rattle.bounds.specs.Joins.{joinedAttrs, countOf, pairForm, isOk, isKept}
-use Rattle.lengths.specs.Laws.Pairs.{after, Walk, walk-end, walk-room, walk-flag, walk-fit, walk-body, walk-front, walk-more, walk-step, start-walk, front-room, front-fit, front-body, front-is}
-use Rattle.bounds.specs.Laws.Kept.{joined-direct}
-use Rattle.bounds.specs.Laws.Attached.{Both, both, pair-ready, pair-written, Attaching, attach-some, attach-none, attach-at, attach-entry, attach-small, attach-more}
+use Rattle.writing.specs.Written.{Written}
+use Rattle.writing.specs.FormLengths.{table, formOf, Ready}
+use Rattle.bound_lengths.specs.Pairs.{Front, joinedAttrs, joined}
+use Rattle.forms.specs.Tables.{Tabled, attrsAt}
+use Rattle.writing.specs.Laws.Writing.{back}
+use Rattle.forms.specs.Laws.Tables.{Split}
+use Rattle.writing.specs.Laws.Laying.{Laying, laying-start, laying-length, laying-same, laying-end}
+use Rattle.bounds.specs.Joins.{countOf, pairForm, isOk, isKept}
+use Rattle.bound_lengths.specs.Laws.Pairs.{after, Walk, walk-end, walk-room, walk-flag, walk-fit, walk-body, walk-front, walk-more, walk-step, start-walk}
+use Rattle.bound_lengths.specs.Laws.Pairs.{front-room, front-fit, front-body, front-is}
+use Rattle.bounds.specs.Laws.KeptAttributes.{joined-direct}
+use Rattle.bounds.specs.Laws.Attached.{Both, both, pair-ready, pair-written, Attaching, attach-some, attach-none, attach-at, attach-entry, attach-small}
+use Rattle.bounds.specs.Laws.Attached.{attach-more}
 
 -- The attribute that was found is the first.
-front-other : {l m name : ℕ} {fs cs : List ℕ} (s : Front l m name fs cs) (y : Bool × Ty) → find name (decA (dec l) m fs cs) ≡ some y → (k : ℕ) → k ≡ rd fs 3 → (eqb (getD fs 2 0) 1, dec l (part 0 k cs)) ≡ y
+front-other : {l m name : ℕ} {fs cs : List ℕ} (s : Front l m name fs cs) (y : Bool × Ty) → find name (decA (dec l) m fs cs) ≡ some y → (k : ℕ) → k ≡ rd fs 3 →
+    (eqb (getD fs 2 0) 1, dec l (part 0 k cs)) ≡ y
 front-other s y e k q = let z = sym (front-is s y e k q) ∙ e in cc
 
 -- An attribute and the front of the second list.
@@ -76,16 +80,19 @@ module _ {l m : ℕ} (e : List ℕ) {fs cs : List ℕ} (s : Front l m (rd e 0) f
         pub met-ready : {o : List ℕ} → Ready pairForm Met o → Ready enc (direct d t (dec l (part 0 len cs))) o
         met-ready g = pair-ready (met .0) (met .1) is-bound g
 
-        pub met-written : {o : List ℕ} (xs : List ℕ) (x : ℕ) → Written (formOf enc (direct d t (dec l (part 0 len cs)))) o xs x → Written (formOf pairForm Met) o xs x
+        pub met-written : {o : List ℕ} (xs : List ℕ) (x : ℕ) → Written (formOf enc (direct d t (dec l (part 0 len cs)))) o xs x →
+            Written (formOf pairForm Met) o xs x
         met-written xs x w = pair-written (met .0) (met .1) is-bound xs x w
 
 -- The loop of the write pass: what is left of both lists, and what is written.
-pub record Joining (d : Mode) (all : Result Attrs) (l : ℕ) (o : List ℕ) (left : ℕ) (e s : List ℕ) (m : ℕ) (f c : List ℕ) (at pos : ℕ) (out : List ℕ) : Type 0 where
-  pub walk : Walk l left e s m f c
-  pub few : m < 65536
-  pub laying : Laying all (directAttrs d (decA (dec l) left e s) (decA (dec l) m f c)) o at pos out
+pub record Joining (d : Mode) (all : Result Attrs) (l : ℕ) (o : List ℕ) (left : ℕ) (e s : List ℕ) (m : ℕ) (f c : List ℕ) (at pos : ℕ) (out : List ℕ) : Type 0
+  where
+    pub walk : Walk l left e s m f c
+    pub few : m < 65536
+    pub laying : Laying all (directAttrs d (decA (dec l) left e s) (decA (dec l) m f c)) o at pos out
 
-pub joining-start : {l at : ℕ} {a b : List ℕ} → Tabled l at a → Tabled l at b → {left m : ℕ} {e s f c : List ℕ} → Split at a left e s → Split at b m f c → m < 65536 → (d : Mode) {o : List ℕ} (n : ℕ) →
+pub joining-start : {l at : ℕ} {a b : List ℕ} → Tabled l at a → Tabled l at b → {left m : ℕ} {e s f c : List ℕ} → Split at a left e s → Split at b m f c →
+    m < 65536 → (d : Mode) {o : List ℕ} (n : ℕ) →
     n ≡ countOf (joinedAttrs d (attrsAt l at a) (attrsAt l at b)) → Ready table (joinedAttrs d (attrsAt l at a) (attrsAt l at b)) o →
     Joining d (joinedAttrs d (attrsAt l at a) (attrsAt l at b)) l o left e s m f c 0 (5 * n) o
 joining-start {l} {at} {a} {b} p q u v h d n k g =
@@ -94,10 +101,12 @@ joining-start {l} {at} {a} {b} p q u v h d n k g =
       few = h;
       laying =
           rw (u .n-is, u .es-is, u .bs-is, v .n-is, v .es-is, v .bs-is)
-          (laying-same (laying-start n g (λ xs z. sym (k ∙ ap countOf z))) (directAttrs d (attrsAt l at a) (attrsAt l at b)) (joined-direct d (attrsAt l at a) (attrsAt l at b) (g .result) (g .is)));
+          (laying-same (laying-start n g (λ xs z. sym (k ∙ ap countOf z))) (directAttrs d (attrsAt l at a) (attrsAt l at b))
+          (joined-direct d (attrsAt l at a) (attrsAt l at b) (g .result) (g .is)));
     }
 
-module _ {d : Mode} {all : Result Attrs} {l : ℕ} {o : List ℕ} {left : ℕ} {e s : List ℕ} {m : ℕ} {f c : List ℕ} {at pos : ℕ} {out : List ℕ} (w : Joining d all l o left e s m f c at pos out) where
+module _ {d : Mode} {all : Result Attrs} {l : ℕ} {o : List ℕ} {left : ℕ} {e s : List ℕ} {m : ℕ} {f c : List ℕ} {at pos : ℕ} {out : List ℕ}
+    (w : Joining d all l o left e s m f c at pos out) where
   pub joining-length : length out ≡ length o
   joining-length = laying-length (w .laying)
 
@@ -130,7 +139,8 @@ module _ {d : Mode} {all : Result Attrs} {l : ℕ} {o : List ℕ} {left : ℕ} {
         pub joining-turn : Attaching all (rd e 0) Turned Others o at pos out
         joining-turn = record { laying = laying-same (w .laying) (after (rd e 0) Turned Others) (walk-step (w .walk) p len q name named k off joining-past d) }
 
-        next : (at′ pos′ : ℕ) (out′ : List ℕ) → Laying all Others o at′ pos′ out′ → Joining d all l o (left - 1) (rest 5 e) (rest len s) (m - k) (rest (5 * k) f) (rest off c) at′ pos′ out′
+        next : (at′ pos′ : ℕ) (out′ : List ℕ) → Laying all Others o at′ pos′ out′ →
+            Joining d all l o (left - 1) (rest 5 e) (rest len s) (m - k) (rest (5 * k) f) (rest off c) at′ pos′ out′
         next at′ pos′ out′ i = record { walk = walk-more (w .walk) p len q name named k off joining-past; few = omega (arith, w .few); laying = i }
 
         module _ (zs : List ℕ) (x : ℕ) (t : Written (formOf pairForm Turned) (rest pos out) zs x) where
@@ -147,7 +157,10 @@ module _ {d : Mode} {all : Result Attrs} {l : ℕ} {o : List ℕ} {left : ℕ} {
             found = both d (eqb (getD e 2 0) 1) (dec l (part 0 len s)) (find (rd e 0) (decA (dec l) (m - k) (rest (5 * k) f) (rest off c))) (kept .0) (kept .1)
 
             required : kept .0 .0 ≡ (eqb (getD e 2 0) 1 && eqb (getD (rest (5 * k) f) 2 0) 1)
-            required = found .required ∙ ap (λ (z : Bool × Ty). eqb (getD e 2 0) 1 && z .0) (sym (front-other joining-front (found .other) (found .found) (rd (rest (5 * k) f) 3) refl))
+            required =
+                found .required ∙
+                ap (λ (z : Bool × Ty). eqb (getD e 2 0) 1 && z .0)
+                (sym (front-other joining-front (found .other) (found .found) (rd (rest (5 * k) f) 3) refl))
 
             pub joining-other : 5 ≤ length (rest (5 * k) f)
             joining-other = front-room joining-front (found .other) (found .found)
@@ -161,7 +174,8 @@ module _ {d : Mode} {all : Result Attrs} {l : ℕ} {o : List ℕ} {left : ℕ} {
             pub joining-small : (x ≤ 4096) × ((pos + x ≤ 4096) × (at + 5 ≤ 4096))
             joining-small = attach-small joining-turn zs x t (kept .0) (kept .1)
 
-            pub joining-some : (v : ℕ) (us : List ℕ) → v ≡ flag (eqb (getD e 2 0) 1 && eqb (getD (rest (5 * k) f) 2 0) 1) → us ≡ over (u16 name ++ (v ∷ u16 x)) (rest at (back pos out zs)) →
+            pub joining-some : (v : ℕ) (us : List ℕ) → v ≡ flag (eqb (getD e 2 0) 1 && eqb (getD (rest (5 * k) f) 2 0) 1) →
+                us ≡ over (u16 name ++ (v ∷ u16 x)) (rest at (back pos out zs)) →
                 Joining d all l o (left - 1) (rest 5 e) (rest len s) (m - k) (rest (5 * k) f) (rest off c) (at + 5) (pos + x) (back at (back pos out zs) us)
             joining-some v us r u =
                 next (at + 5) (pos + x) (back at (back pos out zs) us)

@@ -8,7 +8,7 @@ use Rattle.cedar.specs.Bytes.{u16, encNames}
 use Rattle.cedar.specs.Outcome.{over}
 use Rattle.forms.specs.Parts.{rest}
 use Rattle.forms.specs.Laws.Parts.{length-rest}
-use Rattle.bounds.specs.Laws.Writing.{back, Writing, writing-at, writing-more}
+use Rattle.writing.specs.Laws.Writing.{back, Writing, writing-at, writing-more}
 
 -- A turn of the merge that writes.
 module _ {all o : List ℕ} {at : ℕ} {out ns ks : List ℕ} {k : ℕ} (i : Writing all (encNames ns) o at out) (e : ns ≡ k ∷ ks) where

@@ -49,7 +49,8 @@ module _ {H : Type 0} (r : Row ℕ H) (w : H → List ℕ → Bool) (k : (low m 
       go zero h g = rows-none r w noneLeft 0 m es bs (omega arith) ∙ sym (rows-none r w noneLeft 0 low es bs (omega arith)) ∙ g
       go (suc j) h g =
           let o = sym (rows-step r w noneLeft (suc j) low es bs (omega arith)) ∙ g in
-          rows-step r w noneLeft (suc j) m es bs (omega arith) ∙ and-yes (r .ok m es) _ (k low m es (and-l (r .ok low es) _ o) (h (omega arith))) ∙ and-r (r .ok low es) _ o
+          rows-step r w noneLeft (suc j) m es bs (omega arith) ∙ and-yes (r .ok m es) _ (k low m es (and-l (r .ok low es) _ o) (h (omega arith))) ∙
+          and-r (r .ok low es) _ o
 
 -- What is decoded of the first row, and of the others.
 module _ {S H A : Type 0} (r : Row S H) (d : H → List ℕ → A) where
@@ -80,5 +81,6 @@ module _ {S H : Type 0} (r : Row S H) (w : H → List ℕ → Bool) (s : S) (c :
           sized = length-part (c + 2) (c + 2 + r .width * n) b table-entries ∙ omega arith;
         }
 
-    pub table-decoded : {A : Type 0} (d : H → List ℕ → A) → tableOf r d c b ≡ rowsOf r d n (part (c + 2) (c + 2 + r .width * n) b) (rest (c + 2 + r .width * n) b)
+    pub table-decoded : {A : Type 0} (d : H → List ℕ → A) →
+        tableOf r d c b ≡ rowsOf r d n (part (c + 2) (c + 2 + r .width * n) b) (rest (c + 2 + r .width * n) b)
     table-decoded d = rw q refl

@@ -8,9 +8,11 @@ use native.Mathlib.Omega.{arith}
 use lib.Dec.{eqb, leb}
 use lib.ListN.{length}
 use borrow.Author.Tests.{ne-eqb}
-use Rattle.cedar.specs.Types.{Arg, argBool, argLong, argString, argExt, Value, boolean, number, text, uid, setOf, recordOf, call, Values, end, value, Schema, Function, maybe}
+use Rattle.cedar.specs.Types.{Arg, argBool, argLong, argString, argExt, Value, boolean, number, text, uid, setOf, recordOf, call, Values, end, value, Schema}
+use Rattle.cedar.specs.Types.{Function, maybe}
 use Rattle.cedar.specs.ValueForm.{valueKind, callKind, valuesFrom}
-use Rattle.cedar.specs.Conformance.{Verdict as Said, holds, fails, failsInside, unknown, verdict, andThen, shorter, ofArgument, ofArguments, isExtension, functionOf, returnsExt, isArg, argExtension}
+use Rattle.cedar.specs.Conformance.{Verdict as Said, holds, fails, failsInside, unknown, verdict, andThen, shorter, ofArgument, ofArguments, isExtension}
+use Rattle.cedar.specs.Conformance.{functionOf, returnsExt, isArg, argExtension}
 use Rattle.forms.specs.Parts.{part, rest, rd}
 use Rattle.forms.specs.Rows.{rowsOf}
 use Rattle.forms.specs.Laws.Parts.{pos}
@@ -42,7 +44,8 @@ module _ (s : Schema) (d : List ℕ → Value) (b : List ℕ) (j : ℕ) (h : j <
   pub fits-other : (e : ℕ) → (j ≡ 7 → ⊥) → ofArgument shorter s (decVAs d (valueKind j) b) (argExt e) ≡ fails
   unfolding ofArgument
   fits-other e p =
-      by-table (λ i. ofArgument shorter s (decVAs d (valueKind i) b) (argExt e)) (λ i. cond (eqb i 7) (ofArgument shorter s (decVAs d (valueKind 7) b) (argExt e)) fails) 8 refl j h
+      by-table (λ i. ofArgument shorter s (decVAs d (valueKind i) b) (argExt e))
+      (λ i. cond (eqb i 7) (ofArgument shorter s (decVAs d (valueKind 7) b) (argExt e)) fails) 8 refl j h
       ∙ rw (ne-eqb j 7 p) refl
 
 -- Inside an argument no function is unknown.
@@ -50,7 +53,8 @@ inside-then : (x : Bool) (v : Said) → insideOf (verdictOf v) ≡ verdictOf v �
 inside-then true v h = h
 inside-then false v h = refl
 
-inside-both : (u v : Said) → insideOf (verdictOf u) ≡ verdictOf u → insideOf (verdictOf v) ≡ verdictOf v → insideOf (verdictOf (andThen u v)) ≡ verdictOf (andThen u v)
+inside-both : (u v : Said) → insideOf (verdictOf u) ≡ verdictOf u → insideOf (verdictOf v) ≡ verdictOf v →
+    insideOf (verdictOf (andThen u v)) ≡ verdictOf (andThen u v)
 inside-both holds v g h = h
 inside-both fails v g h = refl
 inside-both failsInside v g h = refl
@@ -86,7 +90,8 @@ mutual
   all-inside s (value v vs) (a ∷ ks) = inside-both (ofArgument shorter s v a) (ofArguments shorter s vs ks) (fits-inside s v a) (all-inside s vs ks)
 
 -- A call as an argument: as a value of the extension, where an unknown function is a no.
-pub call-inside : (s : Schema) (e f : ℕ) (vs : Values) → insideOf (verdictOf (isExtension shorter s e (f, vs))) ≡ verdictOf (ofArgument shorter s (call f vs) (argExt e))
+pub call-inside : (s : Schema) (e f : ℕ) (vs : Values) →
+    insideOf (verdictOf (isExtension shorter s e (f, vs))) ≡ verdictOf (ofArgument shorter s (call f vs) (argExt e))
 unfolding ofArgument
 call-inside s e f vs = go (functionOf s f)
   where
@@ -120,22 +125,30 @@ unfolding ofArguments
 no-asked s end = refl
 no-asked s (value v vs) = refl
 
-both : (s : Schema) (v : Value) (vs : Values) (a : Arg) (ks : List Arg) → ofArguments shorter s (value v vs) (a ∷ ks) ≡ andThen (ofArgument shorter s v a) (ofArguments shorter s vs ks)
+both : (s : Schema) (v : Value) (vs : Values) (a : Arg) (ks : List Arg) →
+    ofArguments shorter s (value v vs) (a ∷ ks) ≡ andThen (ofArgument shorter s v a) (ofArguments shorter s vs ks)
 unfolding ofArguments
 both s v vs a ks = refl
 
 module _ {l : ℕ} {s : Schema} {all : Said} {left : ℕ} {e b k : List ℕ} (i : ArgumentsAhead l s all left e b k) where
   pub arguments-end : left ≤ 0 → Holds ≡ verdictOf all
-  arguments-end h = ap verdictOf (no-values s (argsOf k) ∙ sym (i .same ∙ ap (λ xs. ofArguments shorter s (valuesFrom xs) (argsOf k)) (decoded-none memberRow (λ _. decV l) left e b h)))
+  arguments-end h =
+      ap verdictOf
+      (no-values s (argsOf k) ∙
+      sym (i .same ∙ ap (λ xs. ofArguments shorter s (valuesFrom xs) (argsOf k)) (decoded-none memberRow (λ _. decV l) left e b h)))
 
   pub arguments-over : length k ≡ 0 → Holds ≡ verdictOf all
-  arguments-over h = ap verdictOf (no-asked s _ ∙ sym (i .same ∙ ap (λ ks. ofArguments shorter s (valuesFrom (rowsOf memberRow (λ _. decV l) left e b)) ks) (args-none k (omega arith))))
+  arguments-over h =
+      ap verdictOf
+      (no-asked s _ ∙
+      sym (i .same ∙ ap (λ ks. ofArguments shorter s (valuesFrom (rowsOf memberRow (λ _. decV l) left e b)) ks) (args-none k (omega arith))))
 
   module _ (p : 0 < left) (h : length k ≡ 0 → ⊥) (n : ℕ) (q : n ≡ rd e 0) where
     pub arguments-first : ArgFirst k
     arguments-first = args-first k (i .asked) (pos (length k) h)
 
-    step : Then all (ofArgument shorter s (decV l (part 0 n b)) (argAt k)) (ofArguments shorter s (valuesFrom (rowsOf memberRow (λ _. decV l) (left - 1) (rest 2 e) (rest n b))) (argsOf (rest 3 k)))
+    step : Then all (ofArgument shorter s (decV l (part 0 n b)) (argAt k))
+        (ofArguments shorter s (valuesFrom (rowsOf memberRow (λ _. decV l) (left - 1) (rest 2 e) (rest n b))) (argsOf (rest 3 k)))
     step =
         record {
           is =

@@ -42,7 +42,8 @@ module _ (s : Schema) (k : List ℕ) (l : ℕ) (v : List ℕ) (a : argFits k ≡
     pub fit-not : (kind v ≡ 7 → ⊥) → Fails ≡ verdictOf (ofArgument shorter s (decV l v) (argAt k))
     fit-not p = ap verdictOf (sym (opened (argExt (rd k 1)) extension ∙ fits-other s (decV (l - 1)) v (kind v) (value-kind l v h) (rd k 1) p))
 
-    pub fit-call : kind v ≡ 7 → (e : ℕ) → e ≡ rd k 1 → (x : Verdict) → x ≡ verdictOf (isExtension shorter s e (rd v 1, argumentsOf (l - 1) v)) → insideOf x ≡ verdictOf (ofArgument shorter s (decV l v) (argAt k))
+    pub fit-call : kind v ≡ 7 → (e : ℕ) → e ≡ rd k 1 → (x : Verdict) → x ≡ verdictOf (isExtension shorter s e (rd v 1, argumentsOf (l - 1) v)) →
+        insideOf x ≡ verdictOf (ofArgument shorter s (decV l v) (argAt k))
     fit-call q e z x y =
         ap insideOf y ∙ call-inside s e (rd v 1) (argumentsOf (l - 1) v)
         ∙ ap verdictOf (ap₂ (λ (u : Value) (g : Arg). ofArgument shorter s u g) (sym (dec-value l v (value-level l v h) 7 q)) (ap argExt z ∙ sym extension))

@@ -11,11 +11,13 @@ use borrow.Author.Tests.{eqb-true, eqb-false, not-true, not-false}
 use Rattle.cedar.specs.Types.{Atom, Ty, atom, set, rec, act, ent, ext, Attrs, Value, Values, Pairs, Schema, maybe, mem, isAction}
 use Rattle.cedar.specs.TypeForm.{recKind}
 use Rattle.cedar.specs.ValueForm.{valueKind}
-use Rattle.cedar.specs.Conformance.{verdict, fails, andThen, shorter, ofAtom, members, pairs, uidType, asCall, eachValue, eachPair, hasRequired, isExtension, conforms, conformsAt}
+use Rattle.cedar.specs.Conformance.{verdict, fails, andThen, shorter, ofAtom, members, pairs, uidType, asCall, eachValue, eachPair, hasRequired, isExtension}
+use Rattle.cedar.specs.Conformance.{conforms, conformsAt}
 use Rattle.forms.specs.Parts.{rest, rd, kind}
-use Rattle.forms.specs.TypeBytes.{namesOf, wholeAs, whole, dec}
+use Rattle.forms.specs.TypeBytes.{namesBy, wholeAs, whole, dec}
 use Rattle.forms.specs.Laws.Types.{whole-by}
-use Rattle.forms.specs.Laws.Views.{Seen, seen-set, seen-record, seen-entity, seen-action, seen-extension, seen-atom, see, not-empty, is-set, is-record, is-entity, is-action, is-extension, IsAtom, is-atom}
+use Rattle.forms.specs.Laws.Views.{Seen, seen-set, seen-record, seen-entity, seen-action, seen-extension, seen-atom, see, not-empty, is-set, is-record}
+use Rattle.forms.specs.Laws.Views.{is-entity, is-action, is-extension, IsAtom, is-atom}
 use Rattle.conformance.specs.declared.verdicts.Verdict.the-variants.{Holds, Fails}
 use Rattle.conformance.specs.Verdicts.{verdictOf}
 use Rattle.conformance.specs.Kinds.{takes}
@@ -29,7 +31,8 @@ module _ (s : Schema) (v : Value) where
   unfolding conforms
   of-set t = refl
 
-  of-record : (o : Bool) (xs : Attrs) → conforms shorter s (rec o xs) v ≡ maybe fails (λ ps. andThen (eachPair (λ n x. conformsAt shorter s o xs n x) ps) (verdict (hasRequired xs ps))) (pairs v)
+  of-record : (o : Bool) (xs : Attrs) →
+      conforms shorter s (rec o xs) v ≡ maybe fails (λ ps. andThen (eachPair (λ n x. conformsAt shorter s o xs n x) ps) (verdict (hasRequired xs ps))) (pairs v)
   unfolding conforms
   of-record o xs = refl
 
@@ -50,7 +53,8 @@ module _ (s : Schema) (v : Value) where
   of-atom a = refl
 
 -- The value's kind, where the type takes it.
-pub taken-kind : (t v : List ℕ) (x : Bool) → x ≡ takes (kind t) (kind v) → not x ≡ false → (k j : ℕ) → kind t ≡ k → takes k (kind v) ≡ eqb (kind v) j → kind v ≡ j
+pub taken-kind : (t v : List ℕ) (x : Bool) → x ≡ takes (kind t) (kind v) → not x ≡ false → (k j : ℕ) → kind t ≡ k → takes k (kind v) ≡ eqb (kind v) j →
+    kind v ≡ j
 taken-kind t v x y p k j e q = eqb-true (kind v) j (sym q ∙ ap (λ (i : ℕ). takes i (kind v)) (sym e) ∙ sym y ∙ not-false x p)
 
 module _ (l : ℕ) (t v : List ℕ) (h : whole l t ≡ true) (g : wholeV l v ≡ true) where
@@ -68,45 +72,59 @@ module _ (s : Schema) (l : ℕ) (t v : List ℕ) (h : whole l t ≡ true) (g : w
   set-not : kind t ≡ 7 → (kind v ≡ 5 → ⊥) → Fails ≡ verdictOf (conforms shorter s (dec l t) (decV l v))
   set-not e p =
       ap verdictOf (sym (by (kind v) refl (is-set l t h e .is) ∙ of-set s _ _
-      ∙ ap (λ (o : Option Values). maybe fails (eachValue (λ x. conforms shorter s (dec (l - 1) (rest 1 t)) x)) o) (no-members (decV (l - 1)) v (value-kind l v g) p)))
+      ∙
+      ap (λ (o : Option Values). maybe fails (eachValue (λ x. conforms shorter s (dec (l - 1) (rest 1 t)) x)) o)
+      (no-members (decV (l - 1)) v (value-kind l v g) p)))
 
-  pub set-members : kind t ≡ 7 → kind v ≡ 5 → verdictOf (eachValue (λ x. conforms shorter s (dec (l - 1) (rest 1 t)) x) (membersOf (l - 1) v)) ≡ verdictOf (conforms shorter s (dec l t) (decV l v))
+  pub set-members : kind t ≡ 7 → kind v ≡ 5 →
+      verdictOf (eachValue (λ x. conforms shorter s (dec (l - 1) (rest 1 t)) x) (membersOf (l - 1) v)) ≡ verdictOf (conforms shorter s (dec l t) (decV l v))
   set-members e p = ap verdictOf (sym (by 5 p (is-set l t h e .is) ∙ of-set s _ _))
 
   record-not : kind t ≡ 8 → (kind v ≡ 6 → ⊥) → Fails ≡ verdictOf (conforms shorter s (dec l t) (decV l v))
   record-not e p =
       ap verdictOf (sym (by (kind v) refl (is-record l t h e .is) ∙ of-record s _ _ _
-      ∙ ap (λ (o : Option Pairs). maybe fails (λ ps. andThen (eachPair (λ n x. conformsAt shorter s (isOpen t) (attributesOf (l - 1) t) n x) ps) (verdict (hasRequired (attributesOf (l - 1) t) ps))) o)
+      ∙
+      ap (λ (o : Option Pairs). maybe fails
+      (λ ps. andThen (eachPair (λ n x. conformsAt shorter s (isOpen t) (attributesOf (l - 1) t) n x) ps)
+      (verdict (hasRequired (attributesOf (l - 1) t) ps))) o)
       (no-pairs (decV (l - 1)) v (value-kind l v g) p)))
 
   pub record-pairs : kind t ≡ 8 → kind v ≡ 6 →
-      verdictOf (andThen (eachPair (λ n x. conformsAt shorter s (isOpen t) (attributesOf (l - 1) t) n x) (pairsOf (l - 1) v)) (verdict (hasRequired (attributesOf (l - 1) t) (pairsOf (l - 1) v))))
+      verdictOf (andThen (eachPair (λ n x. conformsAt shorter s (isOpen t) (attributesOf (l - 1) t) n x) (pairsOf (l - 1) v))
+      (verdict (hasRequired (attributesOf (l - 1) t) (pairsOf (l - 1) v))))
       ≡ verdictOf (conforms shorter s (dec l t) (decV l v))
   record-pairs e p = ap verdictOf (sym (by 6 p (is-record l t h e .is) ∙ of-record s _ _ _))
 
   entity-not : kind t ≡ 10 → (kind v ≡ 4 → ⊥) → Fails ≡ verdictOf (conforms shorter s (dec l t) (decV l v))
   entity-not e p =
       ap verdictOf (sym (by (kind v) refl (is-entity l t h e .is) ∙ of-entity s _ _
-      ∙ ap (λ (o : Option ℕ). verdict (maybe false (λ k. mem k (namesOf (rd t 1) (rest 3 t))) o)) (no-uid (decV (l - 1)) v (value-kind l v g) p)))
+      ∙ ap (λ (o : Option ℕ). verdict (maybe false (λ k. mem k (namesBy 2 (rd t 1) (rest 3 t))) o)) (no-uid (decV (l - 1)) v (value-kind l v g) p)))
 
-  pub entity-names : kind t ≡ 10 → kind v ≡ 4 → (n k : ℕ) → n ≡ rd t 1 → k ≡ rd v 1 → verdictOf (verdict (mem k (namesOf n (rest 3 t)))) ≡ verdictOf (conforms shorter s (dec l t) (decV l v))
-  entity-names e p n k q u = ap₂ (λ (i j : ℕ). verdictOf (verdict (mem j (namesOf i (rest 3 t))))) q u ∙ ap verdictOf (sym (by 4 p (is-entity l t h e .is) ∙ of-entity s _ _))
+  pub entity-names : kind t ≡ 10 → kind v ≡ 4 → (n k : ℕ) → n ≡ rd t 1 → k ≡ rd v 1 →
+      verdictOf (verdict (mem k (namesBy 2 n (rest 3 t)))) ≡ verdictOf (conforms shorter s (dec l t) (decV l v))
+  entity-names e p n k q u =
+      ap₂ (λ (i j : ℕ). verdictOf (verdict (mem j (namesBy 2 i (rest 3 t))))) q u ∙ ap verdictOf (sym (by 4 p (is-entity l t h e .is) ∙ of-entity s _ _))
 
   action-not : kind t ≡ 11 → (kind v ≡ 4 → ⊥) → Fails ≡ verdictOf (conforms shorter s (dec l t) (decV l v))
   action-not e p =
       ap verdictOf (sym (by (kind v) refl (is-action l t h e .is) ∙ of-action s _ _ _
       ∙ ap (λ (o : Option ℕ). verdict (maybe false (λ k. isAction k && eqb k (rd t 1)) o)) (no-uid (decV (l - 1)) v (value-kind l v g) p)))
 
-  pub action-name : kind t ≡ 11 → kind v ≡ 4 → (k n : ℕ) → k ≡ rd v 1 → n ≡ rd t 1 → verdictOf (verdict (isAction k && eqb k n)) ≡ verdictOf (conforms shorter s (dec l t) (decV l v))
-  action-name e p k n q u = ap₂ (λ (i j : ℕ). verdictOf (verdict (isAction i && eqb i j))) q u ∙ ap verdictOf (sym (by 4 p (is-action l t h e .is) ∙ of-action s _ _ _))
+  pub action-name : kind t ≡ 11 → kind v ≡ 4 → (k n : ℕ) → k ≡ rd v 1 → n ≡ rd t 1 →
+      verdictOf (verdict (isAction k && eqb k n)) ≡ verdictOf (conforms shorter s (dec l t) (decV l v))
+  action-name e p k n q u =
+      ap₂ (λ (i j : ℕ). verdictOf (verdict (isAction i && eqb i j))) q u ∙ ap verdictOf (sym (by 4 p (is-action l t h e .is) ∙ of-action s _ _ _))
 
   extension-not : kind t ≡ 12 → (kind v ≡ 7 → ⊥) → Fails ≡ verdictOf (conforms shorter s (dec l t) (decV l v))
   extension-not e p =
       ap verdictOf (sym (by (kind v) refl (is-extension l t h e .is) ∙ of-extension s _ _
       ∙ ap (λ (o : Option (ℕ × Values)). maybe fails (isExtension shorter s (rd t 1)) o) (no-call (decV (l - 1)) v (value-kind l v g) p)))
 
-  pub extension-call : kind t ≡ 12 → kind v ≡ 7 → (n : ℕ) → n ≡ rd t 1 → verdictOf (isExtension shorter s n (rd v 1, argumentsOf (l - 1) v)) ≡ verdictOf (conforms shorter s (dec l t) (decV l v))
-  extension-call e p n q = ap (λ (i : ℕ). verdictOf (isExtension shorter s i (rd v 1, argumentsOf (l - 1) v))) q ∙ ap verdictOf (sym (by 7 p (is-extension l t h e .is) ∙ of-extension s _ _))
+  pub extension-call : kind t ≡ 12 → kind v ≡ 7 → (n : ℕ) → n ≡ rd t 1 →
+      verdictOf (isExtension shorter s n (rd v 1, argumentsOf (l - 1) v)) ≡ verdictOf (conforms shorter s (dec l t) (decV l v))
+  extension-call e p n q =
+      ap (λ (i : ℕ). verdictOf (isExtension shorter s i (rd v 1, argumentsOf (l - 1) v))) q ∙
+      ap verdictOf (sym (by 7 p (is-extension l t h e .is) ∙ of-extension s _ _))
 
   -- A type without parts.
   atom-takes-all : (a : IsAtom l t) → takes (kind t) (kind v) ≡ ofAtom (a .kind-of) (decVAs (decV (l - 1)) (valueKind (kind v)) v)
@@ -134,5 +152,6 @@ module _ (s : Schema) (l : ℕ) (t v : List ℕ) (h : whole l t ≡ true) (g : w
         go (seen-extension e a) = extension-not e (other 12 7 e refl)
         go (seen-atom a) = ap (λ (b : Bool). verdictOf (verdict b)) (sym no) ∙ atom-said a
 
-    pub kind-atom-yes : not x ≡ false → (kind t ≡ 7 → ⊥) → (kind t ≡ 8 → ⊥) → (kind t ≡ 10 → ⊥) → (kind t ≡ 11 → ⊥) → (kind t ≡ 12 → ⊥) → Holds ≡ verdictOf (conforms shorter s (dec l t) (decV l v))
+    pub kind-atom-yes : not x ≡ false → (kind t ≡ 7 → ⊥) → (kind t ≡ 8 → ⊥) → (kind t ≡ 10 → ⊥) → (kind t ≡ 11 → ⊥) → (kind t ≡ 12 → ⊥) →
+        Holds ≡ verdictOf (conforms shorter s (dec l t) (decV l v))
     kind-atom-yes p p7 p8 p10 p11 p12 = ap (λ (b : Bool). verdictOf (verdict b)) (sym (sym y ∙ not-false x p)) ∙ atom-said (is-atom l t h p7 p8 p10 p11 p12)

@@ -11,7 +11,8 @@ use Rattle.forms.specs.ValueBytes.{decVAs}
 use Rattle.conformance.specs.Laws.Tables.{by-table}
 
 -- Never and what is no kind take none.
-pub takes-rest : (k j : ℕ) → (k ≡ 1 → ⊥) → (k ≡ 2 → ⊥) → (k ≡ 3 → ⊥) → (k ≡ 4 → ⊥) → (k ≡ 5 → ⊥) → (k ≡ 6 → ⊥) → (k ≡ 7 → ⊥) → (k ≡ 8 → ⊥) → (k ≡ 9 → ⊥) → (k ≡ 10 → ⊥) → (k ≡ 11 → ⊥) → (k ≡ 12 → ⊥) → false ≡ takes k j
+pub takes-rest : (k j : ℕ) → (k ≡ 1 → ⊥) → (k ≡ 2 → ⊥) → (k ≡ 3 → ⊥) → (k ≡ 4 → ⊥) → (k ≡ 5 → ⊥) → (k ≡ 6 → ⊥) → (k ≡ 7 → ⊥) → (k ≡ 8 → ⊥) → (k ≡ 9 → ⊥) →
+    (k ≡ 10 → ⊥) → (k ≡ 11 → ⊥) → (k ≡ 12 → ⊥) → false ≡ takes k j
 takes-rest zero j p1 p2 p3 p4 p5 p6 p7 p8 p9 p10 p11 p12 = refl
 takes-rest (suc zero) j p1 p2 p3 p4 p5 p6 p7 p8 p9 p10 p11 p12 = absurd (p1 refl)
 takes-rest (suc (suc zero)) j p1 p2 p3 p4 p5 p6 p7 p8 p9 p10 p11 p12 = absurd (p2 refl)

@@ -23,17 +23,20 @@ use Rattle.conformance.specs.Laws.Ahead.{Ahead, ahead-again, ahead-from,
 use Rattle.conformance.specs.Laws.Pairs.{passed, has-first}
 
 pub attr-named : (w : ℕ × Bool → List ℕ → Bool) (d : ℕ × Bool → List ℕ → Ty) → Named attrRow w noneLeft d (λ h. h .0)
-attr-named w d = record { key-is = λ es. refl; low-is = λ low es h. leb-true low (rd es 0) (and-r (leb (getD es 2 0) 1) (leb low (rd es 0)) h); next-is = λ es. refl }
+attr-named w d =
+    record { key-is = λ es. refl; low-is = λ low es h. leb-true low (rd es 0) (and-r (leb (getD es 2 0) 1) (leb low (rd es 0)) h); next-is = λ es. refl }
 
 -- Attributes in order stay so under another bound of the first name.
-pub attrs-from : {w : ℕ × Bool → List ℕ → Bool} {n low : ℕ} {es bs : List ℕ} → Ahead attrRow w n low es bs → (m : ℕ) → (0 < n → m ≤ rd es 0) → Ahead attrRow w n m es bs
+pub attrs-from : {w : ℕ × Bool → List ℕ → Bool} {n low : ℕ} {es bs : List ℕ} → Ahead attrRow w n low es bs → (m : ℕ) → (0 < n → m ≤ rd es 0) →
+    Ahead attrRow w n m es bs
 attrs-from {w} s m h =
     ahead-from attrRow w
     (λ low m es o g. rw (and-l (leb (getD es 2 0) 1) (leb low (rd es 0)) o) (le-leb m (rd es 0) g))
     s m h
 
 -- Pairs that have the same names from a name on are as good for attributes from that name on.
-required-same : (xs : List ((ℕ × Bool) × Ty)) (name : ℕ) (ps qs : Pairs) → From (λ h. h .0) name xs → ((m : ℕ) → name ≤ m → hasName m ps ≡ hasName m qs) → hasRequired (attrsOf xs) ps ≡ hasRequired (attrsOf xs) qs
+required-same : (xs : List ((ℕ × Bool) × Ty)) (name : ℕ) (ps qs : Pairs) → From (λ h. h .0) name xs → ((m : ℕ) → name ≤ m → hasName m ps ≡ hasName m qs) →
+    hasRequired (attrsOf xs) ps ≡ hasRequired (attrsOf xs) qs
 required-same [] name ps qs f h = refl
 required-same (x ∷ xs) name ps qs f h = ap₂ (λ (a b : Bool). (not (x .0 .1) || a) && b) (h (x .0 .0) (f .0)) (required-same xs name ps qs (f .1) h)
 
@@ -46,7 +49,9 @@ pub record RequiredAhead (t v : List ℕ) (ahead : ℕ) (f : List ℕ) (left : �
   pub few : left < 65536
   pub attrs : Ahead attrRow (λ _. whole level) ahead from f c
   pub rows : Ahead pairRow (λ _. wholeV level) left low e b
-  pub same : (l : ℕ) → hasRequired (attributesOf l t) (pairsOf l v) ≡ hasRequired (attrsOf (rowsOf attrRow (λ _. dec l) ahead f c)) (pairsFrom (rowsOf pairRow (λ _. decV l) left e b))
+  pub same : (l : ℕ) →
+      hasRequired (attributesOf l t) (pairsOf l v) ≡ hasRequired (attrsOf (rowsOf attrRow (λ _. dec l) ahead f c))
+      (pairsFrom (rowsOf pairRow (λ _. decV l) left e b))
 
 -- The table of a record form.
 pub records-table : (l : ℕ) (t : List ℕ) → wholeAs (whole l) recKind t ≡ true → tableFits attrRow (λ _. whole l) 0 2 t ≡ true
@@ -86,10 +91,13 @@ module _ (t v : List ℕ) (h : Records t v) where
 
 module _ {t v : List ℕ} {ahead : ℕ} {f : List ℕ} {left : ℕ} {e b : List ℕ} (i : RequiredAhead t v ahead f left e b) where
   pub required-end : ahead ≤ 0 → (l : ℕ) → true ≡ hasRequired (attributesOf l t) (pairsOf l v)
-  required-end h l = sym (i .same l ∙ ap (λ xs. hasRequired (attrsOf xs) (pairsFrom (rowsOf pairRow (λ _. decV l) left e b))) (decoded-none attrRow (λ _. dec l) ahead f (i .c) h))
+  required-end h l =
+      sym (i .same l ∙
+      ap (λ xs. hasRequired (attrsOf xs) (pairsFrom (rowsOf pairRow (λ _. decV l) left e b))) (decoded-none attrRow (λ _. dec l) ahead f (i .c) h))
 
   -- Pairs below the first attribute's name are passed.
-  pub required-skip : 0 < ahead → (name k off : ℕ) → name ≡ rd f 0 → k ≡ below 4 left name e → off ≡ used 4 k e → RequiredAhead t v ahead f (left - k) (rest (4 * k) e) (rest off b)
+  pub required-skip : 0 < ahead → (name k off : ℕ) → name ≡ rd f 0 → k ≡ below 4 left name e → off ≡ used 4 k e →
+      RequiredAhead t v ahead f (left - k) (rest (4 * k) e) (rest off b)
   required-skip p name k off q u z =
       let s = passed (i .rows) name k off u z in
       let a = attrs-from (i .attrs) name (λ g. omega arith) in
@@ -102,18 +110,22 @@ module _ {t v : List ℕ} {ahead : ℕ} {f : List ℕ} {left : ℕ} {e b : List 
         attrs = i .attrs;
         rows = s .rows;
         same = λ l. i .same l ∙ required-same (rowsOf attrRow (λ _. dec l) ahead f (i .c)) name _ _
-            (rows-from attrRow (λ _. whole (i .level)) noneLeft (λ _. dec l) (λ h. h .0) (attr-named (λ _. whole (i .level)) (λ _. dec l)) ahead name f (i .c) (a .good))
+            (rows-from attrRow (λ _. whole (i .level)) noneLeft (λ _. dec l) (λ h. h .0) (attr-named (λ _. whole (i .level)) (λ _. dec l)) ahead name f (i .c)
+            (a .good))
             (s .later (λ _. decV l));
       }
 
   -- The first attribute, once the first pair's name is not below its name.
   module _ (p : 0 < ahead) (a : 0 < left → rd f 0 ≤ rd e 0) (x : Bool) (y : x ≡ (not (eqb (getD f 2 0) 1) || (ltb 0 left && eqb (rd f 0) (rd e 0)))) where
     step : (l : ℕ) → hasRequired (attributesOf l t) (pairsOf l v) ≡
-        (x && hasRequired (attrsOf (rowsOf attrRow (λ _. dec l) (ahead - 1) (rest 5 f) (rest (rd f 3) (i .c)))) (pairsFrom (rowsOf pairRow (λ _. decV l) left e b)))
+        (x && hasRequired (attrsOf (rowsOf attrRow (λ _. dec l) (ahead - 1) (rest 5 f) (rest (rd f 3) (i .c))))
+        (pairsFrom (rowsOf pairRow (λ _. decV l) left e b)))
     step l =
         i .same l
         ∙ ap (λ xs. hasRequired (attrsOf xs) (pairsFrom (rowsOf pairRow (λ _. decV l) left e b))) (decoded attrRow (λ _. dec l) ahead f (i .c) p (rd f 3) refl)
-        ∙ ap (λ (z : Bool). z && hasRequired (attrsOf (rowsOf attrRow (λ _. dec l) (ahead - 1) (rest 5 f) (rest (rd f 3) (i .c)))) (pairsFrom (rowsOf pairRow (λ _. decV l) left e b)))
+        ∙
+        ap (λ (z : Bool). z && hasRequired (attrsOf (rowsOf attrRow (λ _. dec l) (ahead - 1) (rest 5 f) (rest (rd f 3) (i .c))))
+        (pairsFrom (rowsOf pairRow (λ _. decV l) left e b)))
         (ap (λ (z : Bool). not (eqb (getD f 2 0) 1) || z) (has-first (i .rows) (λ _. decV l) (rd f 0) a) ∙ sym y)
 
     pub required-not : not x ≡ true → (l : ℕ) → false ≡ hasRequired (attributesOf l t) (pairsOf l v)

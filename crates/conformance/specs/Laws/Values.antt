@@ -53,7 +53,9 @@ module _ (l : ℕ) (b : List ℕ) (h : wholeV l b ≡ true) where
   value-kind = go (decLe 8 (kind b))
     where
       go : Dec (8 ≤ kind b) → kind b < 8
-      go (yes p) = absurd (let z : _≡_ {A = Bool} false true = ap (λ (k : ValueKind). wholeVAs (wholeV (l - 1)) k b) (sym (kind-no-value (kind b) (omega arith))) ∙ value-as (kind b) refl in let y : _≡_ {A = ℕ} 0 1 = cc in omega arith)
+      go (yes p) =
+          absurd (let z : _≡_ {A = Bool} false true = ap (λ (k : ValueKind). wholeVAs (wholeV (l - 1)) k b) (sym (kind-no-value (kind b) (omega arith))) ∙
+          value-as (kind b) refl in let y : _≡_ {A = ℕ} 0 1 = cc in omega arith)
       go (no p) = omega arith
 
 pub dec-value : (l : ℕ) (b : List ℕ) → 0 < l → (j : ℕ) → kind b ≡ j → decV l b ≡ decVAs (decV (l - 1)) (valueKind j) b
@@ -64,7 +66,8 @@ dec-value (suc l) b p j e = rw (sub-one (suc l)) (ap (λ (i : ℕ). decVAs (decV
 -- A value of another kind has no such view.
 module _ (d : List ℕ → Value) (b : List ℕ) {j : ℕ} (h : j < 8) where
   pub no-members : (j ≡ 5 → ⊥) → members (decVAs d (valueKind j) b) ≡ none
-  no-members p = by-table (λ i. members (decVAs d (valueKind i) b)) (λ i. cond (eqb i 5) (members (decVAs d setKind b)) none) 8 refl j h ∙ rw (ne-eqb j 5 p) refl
+  no-members p =
+      by-table (λ i. members (decVAs d (valueKind i) b)) (λ i. cond (eqb i 5) (members (decVAs d setKind b)) none) 8 refl j h ∙ rw (ne-eqb j 5 p) refl
 
   pub no-pairs : (j ≡ 6 → ⊥) → pairs (decVAs d (valueKind j) b) ≡ none
   no-pairs p = by-table (λ i. pairs (decVAs d (valueKind i) b)) (λ i. cond (eqb i 6) (pairs (decVAs d recordKind b)) none) 8 refl j h ∙ rw (ne-eqb j 6 p) refl

@@ -15,20 +15,24 @@ use Rattle.cedar.specs.TypeForm.{atomCode, count, enc}
 use Rattle.cedar.specs.Conversion.{convert, convertAttrs}
 use Rattle.cedar.specs.Result.{Result, ok, err, bind}
 use Rattle.forms.specs.Parts.{part, rest, rd, kind}
-use Rattle.forms.specs.TypeBytes.{namesOf, decA, whole, dec, Sound}
+use Rattle.forms.specs.TypeBytes.{namesBy, decA, whole, dec, Sound}
 use Rattle.forms.specs.Laws.Parts.{rest-is}
 use Rattle.forms.specs.Laws.Sure.{rd-drop}
-use Rattle.lengths.specs.declared.extents.Extent.{Extent}
-use Rattle.lengths.specs.declared.extents.Extent.the-variants.{Of, Not}
+use Rattle.writing.specs.declared.form_lengths.FormLength.{FormLength}
+use Rattle.writing.specs.declared.form_lengths.FormLength.the-variants.{Of, Not}
 use Rattle.cedar.specs.Outcome.{over}
-use Rattle.bounds.specs.Written.{Written}
-use Rattle.lengths.specs.Extents.{cap, table, extentOf, formOf, Ready, orRefuse}
-use Rattle.bounds.specs.Laws.Writing.{back}
-use Rattle.lengths.specs.Laws.Extents.{Cut, before, Summing, summing-err, summing-more}
+use Rattle.writing.specs.Written.{Written}
+use Rattle.writing.specs.FormLengths.{cap, table, formLengthOf, formOf, Ready, orRefuse}
+use Rattle.writing.specs.Laws.Writing.{back}
+use Rattle.writing.specs.Laws.FormLengths.{Cut, before, Summing, summing-err, summing-more}
 use Rattle.forms.specs.Laws.Views.{is-set, is-record, is-entity, is-action, is-extension, is-atom}
 use Rattle.forms.specs.Laws.Attributes.{attrs-none}
-use Rattle.bounds.specs.Laws.Laying.{flag-is, behind-front, ready-room, written-known, Laying, laying-start, laying-end, laying-ready, laying-pos, laying-at, laying-entry, laying-back, laying-small, laying-more}
-use Rattle.lengths.specs.Laws.Tables.{Split, split, record-is, attrs-count, Left, left-is, left-flag, atom-code, atom-at}
+use Rattle.writing.specs.Laws.Laying.{flag-is, behind-front, ready-room, written-known, Laying, laying-start, laying-end, laying-ready, laying-pos, laying-at}
+use Rattle.writing.specs.Laws.Laying.{laying-entry, laying-back, laying-small, laying-more}
+use Rattle.forms.specs.Laws.Names.{names-length}
+use Rattle.forms.specs.Laws.Tables.{Split, split, record-is, attrs-count, left-is, left-flag}
+use Rattle.forms.specs.Tables.{Left}
+use Rattle.forms.specs.Laws.Codes.{atom-code, atom-at}
 use Rattle.conversions.specs.CoreTypes.{core, coreAttrs, boolOr}
 
 -- A step after another, with the refusal.
@@ -52,30 +56,34 @@ core-nil = refl
 -- An attribute list from its first on.
 module _ {l n : ℕ} {es bs : List ℕ} (s : Left l n es bs) where
   pub attrs-step : (p : 0 < n) (k : ℕ) (q : k ≡ rd es 3) →
-      coreAttrs (decA (dec l) n es bs) ≡ before (rd es 0) (eqb (getD es 2 0) 1) (core (dec l (part 0 k bs))) (coreAttrs (decA (dec l) (n - 1) (rest 5 es) (rest k bs)))
-  attrs-step p k q = ap coreAttrs (left-is s p k q) ∙ core-before (rd es 0) (eqb (getD es 2 0) 1) (dec l (part 0 k bs)) (decA (dec l) (n - 1) (rest 5 es) (rest k bs))
+      coreAttrs (decA (dec l) n es bs) ≡ before (rd es 0) (eqb (getD es 2 0) 1) (core (dec l (part 0 k bs)))
+      (coreAttrs (decA (dec l) (n - 1) (rest 5 es) (rest k bs)))
+  attrs-step p k q =
+      ap coreAttrs (left-is s p k q) ∙ core-before (rd es 0) (eqb (getD es 2 0) 1) (dec l (part 0 k bs)) (decA (dec l) (n - 1) (rest 5 es) (rest k bs))
 
   pub attrs-end : n ≤ 0 → coreAttrs (decA (dec l) n es bs) ≡ ok nil
   attrs-end p = ap coreAttrs (attrs-none (dec l) n es bs p) ∙ core-nil
 
 -- The only refusal.
-core-err : (t : Ty) (x : Extent) (d : ℕ) → x ≡ extentOf enc (core t) → x ≡ Not d → core t ≡ err 8
+core-err : (t : Ty) (x : FormLength) (d : ℕ) → x ≡ formLengthOf enc (core t) → x ≡ Not d → core t ≡ err 8
 unfolding core
 core-err t x d p q = go (convert t) p
   where
-    go : (o : Option Ty) → x ≡ extentOf enc (orRefuse 8 o) → orRefuse 8 o ≡ err 8
+    go : (o : Option Ty) → x ≡ formLengthOf enc (orRefuse 8 o) → orRefuse 8 o ≡ err 8
     go none p = refl
     go (some u) p = absurd (let z : _≡_ {A = ℕ} 0 1 = cc in omega arith)
 
 -- The loop of the length pass, at an attribute whose type's length was asked.
-module _ {all : Result Attrs} {l n sum : ℕ} {es bs : List ℕ} (i : Summing all (coreAttrs (decA (dec l) n es bs)) sum) (s : Left l n es bs) (p : 0 < n) (k : ℕ) (q : k ≡ rd es 3)
-    (x : Extent) (told : x ≡ extentOf enc (core (dec l (part 0 k bs)))) where
-  pub attrs-not : (d : ℕ) → x ≡ Not d → Not 8 ≡ extentOf table all
+module _ {all : Result Attrs} {l n sum : ℕ} {es bs : List ℕ} (i : Summing all (coreAttrs (decA (dec l) n es bs)) sum) (s : Left l n es bs) (p : 0 < n) (k : ℕ)
+    (q : k ≡ rd es 3)
+    (x : FormLength) (told : x ≡ formLengthOf enc (core (dec l (part 0 k bs)))) where
+  pub attrs-not : (d : ℕ) → x ≡ Not d → Not 8 ≡ formLengthOf table all
   attrs-not d z = summing-err i 8 (attrs-step s p k q ∙ rw (core-err (dec l (part 0 k bs)) x d told z) refl)
 
   pub attrs-more : (y z : ℕ) → x ≡ Of y → z ≡ cap (sum + y + 5) → Summing all (coreAttrs (decA (dec l) (n - 1) (rest 5 es) (rest k bs))) z
   attrs-more y z of g =
-      summing-more i (rd es 0) (eqb (getD es 2 0) 1) (core (dec l (part 0 k bs))) (coreAttrs (decA (dec l) (n - 1) (rest 5 es) (rest k bs))) (attrs-step s p k q) x told y z of g
+      summing-more i (rd es 0) (eqb (getD es 2 0) 1) (core (dec l (part 0 k bs))) (coreAttrs (decA (dec l) (n - 1) (rest 5 es) (rest k bs)))
+      (attrs-step s p k q) x told y z of g
 
 core-atom : (a : Atom) (k : ℕ) → atomCode a ≡ k → (k ≡ 0 → ⊥) → (k ≡ 9 → ⊥) → (c : Ty) × ((core (atom a) ≡ ok c) × (enc c ≡ boolOr k ∷ []))
 unfolding core convert enc
@@ -88,13 +96,8 @@ core-atom string k e p q = (atom string, (refl, rw (← e) refl))
 core-atom anyset k e p q = (atom anyset, (refl, rw (← e) refl))
 core-atom anyent k e p q = absurd (q (sym e))
 
-names-length : (n : ℕ) (b : List ℕ) → length (namesOf n b) ≡ n
-unfolding namesOf
-names-length zero b = refl
-names-length (suc n) b = ap suc (names-length n (rest 2 b))
-
-names-one : (b : List ℕ) → namesOf 1 b ≡ rd b 0 ∷ []
-unfolding namesOf
+names-one : (b : List ℕ) → namesBy 2 1 b ≡ rd b 0 ∷ []
+unfolding namesBy
 names-one b = refl
 
 -- As many attributes as before.
@@ -128,7 +131,8 @@ module _ (l : ℕ) (b : List ℕ) (h : whole l b ≡ true) where
   unfolding core convert enc
   set-cut e = record { make = set; is = rw (is-set l b h e .is) (refuse-map 8 (convert (dec (l - 1) (rest 1 b))) set); cut = λ a q. refl }
 
-  pub record-cut : {n : ℕ} {es bs : List ℕ} → kind b ≡ 8 → Split 2 b n es bs → Cut table enc (8 ∷ getD b 1 0 ∷ u16 n) (coreAttrs (decA (dec (l - 1)) n es bs)) (core (dec l b))
+  pub record-cut : {n : ℕ} {es bs : List ℕ} → kind b ≡ 8 → Split 2 b n es bs →
+      Cut table enc (8 ∷ getD b 1 0 ∷ u16 n) (coreAttrs (decA (dec (l - 1)) n es bs)) (core (dec l b))
   unfolding core coreAttrs convert enc
   record-cut {n} {es} {bs} e s =
       let xs = decA (dec (l - 1)) n es bs in
@@ -147,7 +151,7 @@ module _ (l : ℕ) (b : List ℕ) (h : whole l b ≡ true) where
 
   pub entities-core : kind b ≡ 10 → (n : ℕ) → n ≡ rd b 1 → (n ≡ 1 → ⊥) → core (dec l b) ≡ err 8
   unfolding core convert
-  entities-core e n q g = rw (is-entity l b h e .is, names-length (rd b 1) (rest 3 b), ne-eqb (rd b 1) 1 (λ z. g (q ∙ z))) refl
+  entities-core e n q g = rw (is-entity l b h e .is, names-length 2 (rd b 1) (rest 3 b), ne-eqb (rd b 1) 1 (λ z. g (q ∙ z))) refl
 
   pub action-core : kind b ≡ 11 → core (dec l b) ≡ ok (ent (rd b 1 ∷ []))
   unfolding core convert
@@ -158,24 +162,26 @@ module _ (l : ℕ) (b : List ℕ) (h : whole l b ≡ true) where
   extension-core e = rw (is-extension l b h e .is) refl
 
   -- The length pass.
-  pub known-extent : (c : Ty) (k : ℕ) → core (dec l b) ≡ ok c → length (enc c) ≡ k → k ≤ 5 → Of k ≡ extentOf enc (core (dec l b))
-  known-extent c k e q p = rw (e, q) (ap Of (omega arith))
+  pub known-length : (c : Ty) (k : ℕ) → core (dec l b) ≡ ok c → length (enc c) ≡ k → k ≤ 5 → Of k ≡ formLengthOf enc (core (dec l b))
+  known-length c k e q p = rw (e, q) (ap Of (omega arith))
 
-  pub refused-extent : core (dec l b) ≡ err 8 → Not 8 ≡ extentOf enc (core (dec l b))
-  refused-extent e = rw e refl
+  pub refused-length : core (dec l b) ≡ err 8 → Not 8 ≡ formLengthOf enc (core (dec l b))
+  refused-length e = rw e refl
 
   -- A form of one byte.
-  module _ (p7 : kind b ≡ 7 → ⊥) (p8 : kind b ≡ 8 → ⊥) (p10 : kind b ≡ 10 → ⊥) (p11 : kind b ≡ 11 → ⊥) (p12 : kind b ≡ 12 → ⊥) (p0 : kind b ≡ 0 → ⊥) (p9 : kind b ≡ 9 → ⊥) where
+  module _ (p7 : kind b ≡ 7 → ⊥) (p8 : kind b ≡ 8 → ⊥) (p10 : kind b ≡ 10 → ⊥) (p11 : kind b ≡ 11 → ⊥) (p12 : kind b ≡ 12 → ⊥) (p0 : kind b ≡ 0 → ⊥)
+      (p9 : kind b ≡ 9 → ⊥) where
     single : (c : Ty) × ((core (dec l b) ≡ ok c) × (enc c ≡ boolOr (kind b) ∷ []))
     single =
         let a = is-atom l b h p7 p8 p10 p11 p12 in
         let s = core-atom (a .kind-of) (kind b) (atom-code a) p0 p9 in
         (s .0, (ap core (a .is) ∙ s .1 .0, s .1 .1))
 
-    pub atom-extent : Of 1 ≡ extentOf enc (core (dec l b))
-    atom-extent = known-extent (single .0) 1 (single .1 .0) (ap length (single .1 .1)) (omega arith)
+    pub atom-length : Of 1 ≡ formLengthOf enc (core (dec l b))
+    atom-length = known-length (single .0) 1 (single .1 .0) (ap length (single .1 .1)) (omega arith)
 
-    pub atom-written : {o : List ℕ} (g : Ready enc (core (dec l b)) o) → (1 ≤ length o) × ((k : ℕ) (xs : List ℕ) → k ≡ boolOr (kind b) → xs ≡ over (k ∷ []) o → Written (formOf enc (core (dec l b))) o xs 1)
+    pub atom-written : {o : List ℕ} (g : Ready enc (core (dec l b)) o) →
+        (1 ≤ length o) × ((k : ℕ) (xs : List ℕ) → k ≡ boolOr (kind b) → xs ≡ over (k ∷ []) o → Written (formOf enc (core (dec l b))) o xs 1)
     atom-written {o} g = (
       omega (arith, ready-room g (single .0) (single .1 .0), ap length (single .1 .1)),
       λ k xs q f. written-known g (single .0) (single .1 .0) (k ∷ []) xs 1 (single .1 .1 ∙ rw q refl) f refl,
@@ -186,7 +192,8 @@ module _ (l : ℕ) (b : List ℕ) (h : whole l b ≡ true) where
     pub entity-room : (n : ℕ) → core (dec l b) ≡ ok (ent (n ∷ [])) → 5 ≤ length o
     entity-room n e = omega (arith, ready-room g _ e, entity-long n)
 
-    pub entity-written : (n k : ℕ) (xs : List ℕ) → core (dec l b) ≡ ok (ent (n ∷ [])) → k ≡ n → xs ≡ over (10 ∷ u16 1 ++ u16 k) o → Written (formOf enc (core (dec l b))) o xs 5
+    pub entity-written : (n k : ℕ) (xs : List ℕ) → core (dec l b) ≡ ok (ent (n ∷ [])) → k ≡ n → xs ≡ over (10 ∷ u16 1 ++ u16 k) o →
+        Written (formOf enc (core (dec l b))) o xs 5
     unfolding enc
     entity-written n k xs e q f = written-known g (ent (n ∷ [])) e (10 ∷ u16 1 ++ u16 k) xs 5 (rw q refl) f refl
 
@@ -231,7 +238,8 @@ pub core-laying : {l n low : ℕ} {es bs o : List ℕ} → Sound l n low es bs �
     Laying (coreAttrs (decA (dec l) n es bs)) (coreAttrs (decA (dec l) n es bs)) o 0 (5 * n) o
 core-laying {l} {n} {low} {es} {bs} s g = laying-start n g (λ xs e. core-count (decA (dec l) n es bs) xs e ∙ attrs-count (dec l) n es bs)
 
-module _ {all : Result Attrs} {l n : ℕ} {es bs o : List ℕ} {at pos : ℕ} {out : List ℕ} (i : Laying all (coreAttrs (decA (dec l) n es bs)) o at pos out) (s : Left l n es bs) where
+module _ {all : Result Attrs} {l n : ℕ} {es bs o : List ℕ} {at pos : ℕ} {out : List ℕ} (i : Laying all (coreAttrs (decA (dec l) n es bs)) o at pos out)
+    (s : Left l n es bs) where
   pub core-end : n ≤ 0 → Written (formOf table all) o out pos
   core-end p = laying-end i (attrs-end s p)
 
@@ -255,11 +263,11 @@ module _ {all : Result Attrs} {l n : ℕ} {es bs o : List ℕ} {at pos : ℕ} {o
       pub core-entry : 5 ≤ length (rest at (back pos out ys))
       core-entry = laying-entry i (rd es 0) (eqb (getD es 2 0) 1) Type′ Rest (attrs-step s p k q) ys x t
 
-      pub core-back : length (back pos out ys) ≡ length out
-      core-back = laying-back i (rd es 0) (eqb (getD es 2 0) 1) Type′ Rest (attrs-step s p k q) ys x t
-
       pub core-small : (x ≤ 4096) × ((pos + x ≤ 4096) × (at + 5 ≤ 4096))
       core-small = laying-small i (rd es 0) (eqb (getD es 2 0) 1) Type′ Rest (attrs-step s p k q) ys x t
 
-      pub core-more : (m : ℕ) (zs : List ℕ) → m ≡ rd es 0 → zs ≡ over (u16 m ++ (getD es 2 0 ∷ u16 x)) (rest at (back pos out ys)) → Laying all Rest o (at + 5) (pos + x) (back at (back pos out ys) zs)
-      core-more m zs e f = laying-more i (rd es 0) (eqb (getD es 2 0) 1) Type′ Rest (attrs-step s p k q) ys x t (getD es 2 0) zs (sym (flag-is (getD es 2 0) (left-flag s p))) (f ∙ rw e refl)
+      pub core-more : (m : ℕ) (zs : List ℕ) → m ≡ rd es 0 → zs ≡ over (u16 m ++ (getD es 2 0 ∷ u16 x)) (rest at (back pos out ys)) →
+          Laying all Rest o (at + 5) (pos + x) (back at (back pos out ys) zs)
+      core-more m zs e f =
+          laying-more i (rd es 0) (eqb (getD es 2 0) 1) Type′ Rest (attrs-step s p k q) ys x t (getD es 2 0) zs (sym (flag-is (getD es 2 0) (left-flag s p)))
+          (f ∙ rw e refl)

@@ -8,7 +8,7 @@ use lib.ListN.{length, set, length-set}
 use Rattle.cedar.specs.Types.{Mode, Ty, atom, never}
 use Rattle.cedar.specs.TypeForm.{enc}
 use Rattle.cedar.specs.Limits.{standard}
-use Rattle.cedar.specs.Result.{Result, ok, err}
+use Rattle.cedar.specs.Result.{Result}
 use Rattle.cedar.specs.Bound.{bound}
 use Rattle.cedar.specs.Fold.{foldFrom, foldTypes}
 use Rattle.cedar.specs.Calls.{stepFits}
@@ -16,8 +16,8 @@ use Rattle.forms.specs.Parts.{part, rest, rd}
 use Rattle.forms.specs.TypeBytes.{whole, dec}
 use Rattle.forms.specs.ListBytes.{SoundTs, decTs, listOf}
 use Rattle.forms.specs.Laws.Lists.{type-entry, types-none, is-list}
-use Rattle.folds.specs.declared.steps.Step.{Step}
-use Rattle.folds.specs.declared.steps.Step.the-variants as steps
+use Rattle.folds.specs.declared.steps.JoinStep.{JoinStep}
+use Rattle.folds.specs.declared.steps.JoinStep.the-variants as steps
 use Rattle.folds.specs.declared.lists.Folded.the-variants.{To, Not}
 use Rattle.folds.specs.declared.lists.Folded.{Folded}
 use Rattle.folds.specs.Steps.{Held, Stepped}
@@ -54,9 +54,9 @@ module _ {work : ℕ} {m : Mode} {all : Result Ty} {len : ℕ} {last : List ℕ}
       goes : all ≡ foldFrom (stepFits standard work) m (dec 16 (part 0 len last)) (dec 16 (part 0 k bs) ∷ decTs 16 (left - 1) (rest 2 es) (rest k bs))
       goes = i .same ∙ ap (foldFrom (stepFits standard work) m (dec 16 (part 0 len last))) first
 
-      module _ (last′ : List ℕ) (r : Step) (g : Stepped 16 (bound m (dec 16 (part 0 len last)) (dec 16 (part 0 k bs))) work last′ r) where
-        told : (x : Step) → r ≡ x → Stepped 16 (bound m (dec 16 (part 0 len last)) (dec 16 (part 0 k bs))) work last′ x
-        told x h = subst (λ (y : Step). Stepped 16 (bound m (dec 16 (part 0 len last)) (dec 16 (part 0 k bs))) work last′ y) h g
+      module _ (last′ : List ℕ) (r : JoinStep) (g : Stepped 16 (bound m (dec 16 (part 0 len last)) (dec 16 (part 0 k bs))) work last′ r) where
+        told : (x : JoinStep) → r ≡ x → Stepped 16 (bound m (dec 16 (part 0 len last)) (dec 16 (part 0 k bs))) work last′ x
+        told x h = subst (λ (y : JoinStep). Stepped 16 (bound m (dec 16 (part 0 len last)) (dec 16 (part 0 k bs))) work last′ y) h g
 
         pub folding-not : (e : ℕ) → r ≡ steps.Not e → FoldsTo all last′ (Not e)
         folding-not e h = goes ∙ rw (told (steps.Not e) h) refl
@@ -100,5 +100,6 @@ module _ (list last : List ℕ) (o : Opened list last) (n : ℕ) (q : n ≡ rd l
       FoldsTo (foldTypes (stepFits standard work) m (listOf 16 list)) last′ r
   list-folds work m last′ r f = subst (λ (x : Result Ty). FoldsTo x last′ r) same f
     where
-      same : foldFrom (stepFits standard work) m (dec 16 (part 0 1 (set last 0 0))) (decTs 16 n (part 2 (2 + 2 * n) list) (rest (2 + 2 * n) list)) ≡ foldTypes (stepFits standard work) m (listOf 16 list)
+      same : foldFrom (stepFits standard work) m (dec 16 (part 0 1 (set last 0 0))) (decTs 16 n (part 2 (2 + 2 * n) list) (rest (2 + 2 * n) list)) ≡ foldTypes
+          (stepFits standard work) m (listOf 16 list)
       same = rw (never-is last (o .room), q) refl

@@ -47,7 +47,8 @@ entry {l} {n} {low} {es} {bs} s p =
       is = go n p;
     }
   where
-    go : (k : ℕ) → 0 < k → decA (dec l) k es bs ≡ attr (rd es 0) (eqb (getD es 2 0) 1) (dec l (part 0 (rd es 3) bs)) (decA (dec l) (k - 1) (rest 5 es) (rest (rd es 3) bs))
+    go : (k : ℕ) → 0 < k →
+        decA (dec l) k es bs ≡ attr (rd es 0) (eqb (getD es 2 0) 1) (dec l (part 0 (rd es 3) bs)) (decA (dec l) (k - 1) (rest 5 es) (rest (rd es 3) bs))
     go zero p = absurd (omega arith)
     go (suc k) p = unfold rowsOf in rw (sub-one (suc k)) refl
 
@@ -61,7 +62,8 @@ attrs-none d (suc n) es bs h = absurd (omega arith)
 
 -- What `find` and `skip_below` ask.
 pub laid : {l n low : ℕ} {es bs : List ℕ} → Sound l n low es bs → Laid 5 n es bs
-laid {l} {n} {low} {es} {bs} s = record { wide = omega arith; sized = s .sized; room = rows-used attrRow (λ _. whole l) noneLeft (λ _. dec l) n low es bs (s .good) }
+laid {l} {n} {low} {es} {bs} s =
+    record { wide = omega arith; sized = s .sized; room = rows-used attrRow (λ _. whole l) noneLeft (λ _. dec l) n low es bs (s .good) }
 
 attr-named : (l : ℕ) → Named attrRow (λ _. whole l) noneLeft (λ _. dec l) (λ h. h .0)
 attr-named l =
@@ -83,10 +85,12 @@ find-low (x ∷ xs) m low f h = rw (ne-eqb m (x .0 .0) (λ z. omega (arith, f .0
 -- No name below the first bound.
 pub find-under : {l n low : ℕ} {es bs : List ℕ} → Sound l n low es bs → (m : ℕ) → m < low → find m (decA (dec l) n es bs) ≡ none
 find-under {l} {n} {low} {es} {bs} s m h =
-    find-low (rowsOf attrRow (λ _. dec l) n es bs) m low (rows-from attrRow (λ _. whole l) noneLeft (λ _. dec l) (λ h. h .0) (attr-named l) n low es bs (s .good)) h
+    find-low (rowsOf attrRow (λ _. dec l) n es bs) m low
+    (rows-from attrRow (λ _. whole l) noneLeft (λ _. dec l) (λ h. h .0) (attr-named l) n low es bs (s .good)) h
 
 -- Past k entries.
-pub skip-sound : {l n low : ℕ} {es bs : List ℕ} → Sound l n low es bs → (k : ℕ) → k ≤ n → Sound l (n - k) (lowAt 5 k low es) (rest (5 * k) es) (rest (used 5 k es) bs)
+pub skip-sound : {l n low : ℕ} {es bs : List ℕ} → Sound l n low es bs → (k : ℕ) → k ≤ n →
+    Sound l (n - k) (lowAt 5 k low es) (rest (5 * k) es) (rest (used 5 k es) bs)
 skip-sound {l} {n} {low} {es} {bs} s k h =
     record {
       sized = omega (arith, length-rest (5 * k) es, s .sized);
@@ -133,10 +137,12 @@ rd-rest : (a : ℕ) (b : List ℕ) → rd (rest a b) 0 ≡ rd b a
 rd-rest a b = let e : a + 0 ≡ a = omega arith in ap (λ (z : List ℕ). rd z 0) (rest-is a b) ∙ rd-drop a b 0 ∙ ap (λ (j : ℕ). rd b j) e
 
 -- A name that is the first.
-find-first : {l n low : ℕ} {es bs : List ℕ} → Sound l n low es bs → 0 < n → (name : ℕ) → rd es 0 ≡ name → find name (decA (dec l) n es bs) ≡ some (eqb (getD es 2 0) 1, dec l (part 0 (rd es 3) bs))
+find-first : {l n low : ℕ} {es bs : List ℕ} → Sound l n low es bs → 0 < n → (name : ℕ) → rd es 0 ≡ name →
+    find name (decA (dec l) n es bs) ≡ some (eqb (getD es 2 0) 1, dec l (part 0 (rd es 3) bs))
 find-first {l} {n} {low} {es} {bs} s p name q = ap (λ (xs : Attrs). find name xs) (entry s p .is) ∙ rw (eq-eqb name (rd es 0) (sym q)) refl
 
-pub found-at : {l n low : ℕ} {es bs : List ℕ} → Sound l n low es bs → (name : ℕ) (r : Found) → r ≡ foundAt 5 n name es → (i off : ℕ) → r ≡ At i off → Here l n name es bs i off
+pub found-at : {l n low : ℕ} {es bs : List ℕ} → Sound l n low es bs → (name : ℕ) (r : Found) → r ≡ foundAt 5 n name es → (i off : ℕ) → r ≡ At i off →
+    Here l n name es bs i off
 found-at {l} {n} {low} {es} {bs} s name r q i off e =
     let f = found-where 5 n name es i off (sym e ∙ q) in
     let p = past s name i off (f .0) (f .2) in
@@ -148,7 +154,8 @@ found-at {l} {n} {low} {es} {bs} s name r q i off e =
       is = p .later name (omega arith) ∙ find-first (p .sound) (omega (arith, f .1)) name named;
     }
 
-pub found-not : {l n low : ℕ} {es bs : List ℕ} → Sound l n low es bs → (name : ℕ) (r : Found) → r ≡ foundAt 5 n name es → r ≡ Nothing → find name (decA (dec l) n es bs) ≡ none
+pub found-not : {l n low : ℕ} {es bs : List ℕ} → Sound l n low es bs → (name : ℕ) (r : Found) → r ≡ foundAt 5 n name es → r ≡ Nothing →
+    find name (decA (dec l) n es bs) ≡ none
 found-not {l} {n} {low} {es} {bs} s name r q e =
     let k = below 5 n name es in
     let p = past s name k (used 5 k es) refl refl in
@@ -156,10 +163,13 @@ found-not {l} {n} {low} {es} {bs} s name r q e =
   where
     go : (p : Past l n name es bs (below 5 n name es) (used 5 (below 5 n name es) es)) → Dec (below 5 n name es < n) →
         find name (decA (dec l) (n - below 5 n name es) (rest (5 * below 5 n name es) es) (rest (used 5 (below 5 n name es) es) bs)) ≡ none
-    go p (no h) = ap (λ (xs : Attrs). find name xs) (attrs-none (dec l) (n - below 5 n name es) (rest (5 * below 5 n name es) es) (rest (used 5 (below 5 n name es) es) bs) (omega arith))
+    go p (no h) =
+        ap (λ (xs : Attrs). find name xs)
+        (attrs-none (dec l) (n - below 5 n name es) (rest (5 * below 5 n name es) es) (rest (used 5 (below 5 n name es) es) bs) (omega arith))
     go p (yes h) =
         let t = entry (p .sound) (omega arith) in
-        let u : rd (rest (5 * below 5 n name es) es) 0 ≡ name → ⊥ = (λ z. found-none 5 n name es (sym e ∙ q) h (sym (rd-rest (5 * below 5 n name es) es) ∙ z)) in
+        let u : rd (rest (5 * below 5 n name es) es) 0 ≡ name →
+        ⊥ = (λ z. found-none 5 n name es (sym e ∙ q) h (sym (rd-rest (5 * below 5 n name es) es) ∙ z)) in
         let a = p .above h in
         let b : name < rd (rest (5 * below 5 n name es) es) 0 = omega arith in
         ap (λ (xs : Attrs). find name xs) (t .is)

@@ -31,8 +31,10 @@ type-fits-twin lim b = sure-same (whole-type-twin lim b) (sym (sure-present (who
 
 pub type-fits-is : (lim : Limits) (b : List ℕ) → typeFits lim b ≡ true → (length b ≤ lim .bytes) × (whole (lim .levels) b ≡ true)
 type-fits-is lim b h =
-    let g = sym (sure-present (whole-type-twin lim b)) ∙ h in
-    (leb-true (length b) (lim .bytes) (and-l (leb (length b) (lim .bytes)) (whole (lim .levels) b) g), and-r (leb (length b) (lim .bytes)) (whole (lim .levels) b) g)
+    let g = sym (sure-present (whole-type-twin lim b)) ∙ h in (
+      leb-true (length b) (lim .bytes) (and-l (leb (length b) (lim .bytes)) (whole (lim .levels) b) g),
+      and-r (leb (length b) (lim .bytes)) (whole (lim .levels) b) g,
+    )
 
 -- The law: cedar reads a list just where it fits, and it is the one decoded.
 pub list-twin : (lim : Limits) (b : List ℕ) → Sure (parseList (λ c. wholeType lim c) b) (listFits lim b) (listOf (lim .levels) b)
@@ -40,9 +42,11 @@ list-twin lim b =
     let xs = tableOf memberRow (λ _. dec (lim .levels)) 0 b in
     let f = tableFits memberRow (λ _. typeFits lim) tt 0 b in
     sure-same
-    (bind-to _ (table-twin memberRow (λ _. typeFits lim) (λ _. dec (lim .levels)) readLength anyOrder (λ h c. wholeType lim c) member-reads (λ h c. type-fits-twin lim c) member-local tt 0 b)
+    (bind-to _ (table-twin memberRow (λ _. typeFits lim) (λ _. dec (lim .levels)) readLength anyOrder (λ h c. wholeType lim c) member-reads
+    (λ h c. type-fits-twin lim c) member-local tt 0 b)
     λ q. map-to (λ u. seconds xs) (guard-to (leb (length xs) maxListed)))
-    (rw (rows-length memberRow (λ _. typeFits lim) (λ _. dec (lim .levels)) (rd b 0) (part 2 (tableEnd memberRow 0 b) b) (rest (tableEnd memberRow 0 b) b)) (and-comm f (leb (rd b 0) maxListed)))
+    (rw (rows-length memberRow (λ _. typeFits lim) (λ _. dec (lim .levels)) (rd b 0) (part 2 (tableEnd memberRow 0 b) b) (rest (tableEnd memberRow 0 b) b))
+    (and-comm f (leb (rd b 0) maxListed)))
     refl
 
 pub whole-list-twin : (lim : Limits) (b : List ℕ) → Sure (wholeList lim b) (leb (length b) blockBytes && listFits lim b) (listOf (lim .levels) b)

@@ -89,7 +89,8 @@ module _ {S H : Type 0} {r : Row S H} {w : H → List ℕ → Bool} {e : List �
             (ap (λ (j : ℕ). w (r .head f) (part 0 j b)) (sym q) ∙ sym y ∙ not-true x h)))))
             ∙ sym (i .same ∙ rows-step r w e left t f b p)
 
-        pub rows-again : (o : Bool) → o ≡ r .ok t f → not o ≡ false → k ≤ length b → (x : Bool) → x ≡ w (r .head f) (part 0 k b) → not x ≡ false → (u : S) → u ≡ r .next f →
+        pub rows-again : (o : Bool) → o ≡ r .ok t f → not o ≡ false → k ≤ length b → (x : Bool) → x ≡ w (r .head f) (part 0 k b) → not x ≡ false → (u : S) →
+            u ≡ r .next f →
             RowsLeft r w e n s es bs (left - 1) u (rest (r .width) f) (rest k b)
         rows-again o oq oh h x y xh u uq =
             record {

@@ -90,11 +90,17 @@ module _ {S H A : Type 0} (r : Row S H) (w : H → List ℕ → Bool) (d : H →
         let h = more (r .width) n in
         let k = r .width * suc n in
         rw (l .length-at k es h, l .head-at k es h, rest-take (r .width) n es)
-        (ap {B = List (H × A)} (λ z. (r .head es, d (r .head es) (part 0 (bodyLength r es) bs)) ∷ z) (rows-of-within n (rest (r .width) es) (rest (bodyLength r es) bs)))
+        (ap {B = List (H × A)} (λ z. (r .head es, d (r .head es) (part 0 (bodyLength r es) bs)) ∷ z)
+        (rows-of-within n (rest (r .width) es) (rest (bodyLength r es) bs)))
 
-  module _ (read : List ℕ → Option (H × ℕ × List ℕ)) (next : S → H → Option S) (p : H → List ℕ → Option A) (t : Reads r read next) (body : (h : H) (b : List ℕ) → Sure (p h b) (w h b) (d h b)) where
+  module _ (read : List ℕ → Option (H × ℕ × List ℕ)) (next : S → H → Option S) (p : H → List ℕ → Option A) (t : Reads r read next)
+      (body : (h : H) (b : List ℕ) → Sure (p h b) (w h b) (d h b)) where
     pub rows-twin : (n : ℕ) (s : S) (es bs : List ℕ) →
-        Sure (rows read next p n s es bs) (leb (r .width * n) (length es) && rowsTo r w (λ _. true) n s es bs) (rowsOf r d n es bs, drop (r .width * n) es, leftOf r n es bs)
+        Sure (rows read next p n s es bs) (leb (r .width * n) (length es) && rowsTo r w (λ _. true) n s es bs) (
+          rowsOf r d n es bs,
+          drop (r .width * n) es,
+          leftOf r n es bs,
+        )
     unfolding rowsTo rowsOf leftOf
     rows-twin zero s es bs = sure-same (sure-some-of _) (rw (mul-zero (r .width), leb·zero (length es)) refl) (rw (mul-zero (r .width)) refl)
     rows-twin (suc n) s es bs =
@@ -105,7 +111,8 @@ module _ {S H A : Type 0} (r : Row S H) (w : H → List ℕ → Bool) (d : H →
         bind-to _ (guard-to (leb k (length bs))) λ q₃.
         bind-to _ (body (r .head es) (take k bs)) λ q₄.
         map-to (λ y. ((r .head es, d (r .head es) (take k bs)) ∷ y .0, y .1, y .2)) (rows-twin n (r .next es) (drop (r .width) es) (drop k bs)))
-        (shuffle (leb (r .width) (length es)) (t .good es) (t .after s es) (leb k (length bs)) (w (r .head es) (take k bs)) (leb (r .width * n) (length (drop (r .width) es)))
+        (shuffle (leb (r .width) (length es)) (t .good es) (t .after s es) (leb k (length bs)) (w (r .head es) (take k bs))
+        (leb (r .width * n) (length (drop (r .width) es)))
         (rowsTo r w (λ _. true) n (r .next es) (drop (r .width) es) (drop k bs))
         ∙ rw (rest-is (r .width) es, rest-is k bs, part-is k bs, t .ok-is s es, room (r .width) n es) refl)
         (let e : r .width + r .width * n ≡ r .width * suc n = rw (mul-suc (r .width) n) (omega arith) in
@@ -125,8 +132,10 @@ module _ {S H A : Type 0} (r : Row S H) (w : H → List ℕ → Bool) (d : H →
         finish-to (rowsOf r d n es bs) (leftOf r n es bs))
         (and-same (leb (c + 2) (length b)) λ q.
         let a : leb (r .width * n) (length es) ≡ leb (tableEnd r c b) (length b) =
-        rw (length-drop (c + 2) b) (leb-same (r .width * n) (length b - (c + 2)) (tableEnd r c b) (length b) (λ h. omega (arith, leb-true (c + 2) (length b) q)) (λ h. omega arith)) in
-        let z : (rowsTo r w (λ _. true) n s es bs && noneLeft (leftOf r n es bs)) ≡ rowsTo r w noneLeft n s (part (c + 2) (tableEnd r c b) b) (rest (tableEnd r c b) b) =
+        rw (length-drop (c + 2) b) (leb-same (r .width * n) (length b - (c + 2)) (tableEnd r c b) (length b) (λ h. omega (arith, leb-true (c + 2) (length b) q))
+        (λ h. omega arith)) in
+        let z : (rowsTo r w (λ _. true) n s es bs && noneLeft (leftOf r n es bs)) ≡ rowsTo r w noneLeft n s (part (c + 2) (tableEnd r c b) b)
+        (rest (tableEnd r c b) b) =
         sym (rows-last noneLeft n s es bs) ∙ sym (rw (f, e) (rows-within l noneLeft n s es bs)) in
         and-assoc (leb (r .width * n) (length es)) (rowsTo r w (λ _. true) n s es bs) (noneLeft (leftOf r n es bs))
         ∙ ap₂ (λ (x y : Bool). x && y) a z)

@@ -128,14 +128,16 @@ module _ (w n name : ℕ) (es bs : List ℕ) (l : Laid w n es bs) (k : ℕ) (q :
   find-past h = rw (← q, le-ltb k n h) refl
 
 -- What an answer says.
-pub found-where : (w n name : ℕ) (es : List ℕ) (i off : ℕ) → At i off ≡ foundAt w n name es → (i ≡ below w n name es) × (i < n) × (off ≡ used w i es) × (rd es (w * i) ≡ name)
+pub found-where : (w n name : ℕ) (es : List ℕ) (i off : ℕ) → At i off ≡ foundAt w n name es → (i ≡ below w n name es) × (i < n) × (off ≡ used w i es) ×
+    (rd es (w * i) ≡ name)
 unfolding foundAt
 found-where w n name es i off e = go (ltb k n && eqb (rd es (w * k)) name) refl e
   where
     k : ℕ
     k = below w n name es
 
-    go : (b : Bool) → (ltb k n && eqb (rd es (w * k)) name) ≡ b → At i off ≡ cond b (At k (used w k es)) Nothing → (i ≡ k) × (i < n) × (off ≡ used w i es) × (rd es (w * i) ≡ name)
+    go : (b : Bool) → (ltb k n && eqb (rd es (w * k)) name) ≡ b → At i off ≡ cond b (At k (used w k es)) Nothing → (i ≡ k) × (i < n) × (off ≡ used w i es) ×
+        (rd es (w * i) ≡ name)
     go true q e =
         let a : i ≡ k = cc in
         let o : off ≡ used w k es = cc in

@@ -37,7 +37,8 @@ unfolding below
 below-stop w zero name es h = absurd (omega arith)
 below-stop w (suc n) name es h = go (ltb (rd es 0) name) refl (below w n name (rest w es)) h (λ g. below-stop w n name (rest w es) g)
   where
-    go : (b : Bool) → ltb (rd es 0) name ≡ b → (k : ℕ) → cond b (suc k) 0 < suc n → (k < n → name ≤ rd (rest (w * k) (rest w es)) 0) → name ≤ rd (rest (w * cond b (suc k) 0) es) 0
+    go : (b : Bool) → ltb (rd es 0) name ≡ b → (k : ℕ) → cond b (suc k) 0 < suc n → (k < n → name ≤ rd (rest (w * k) (rest w es)) 0) →
+        name ≤ rd (rest (w * cond b (suc k) 0) es) 0
     go true e k g f = rw (← rest-more w k es) (f (omega arith))
     go false e k g f = rw (rest-none w es) (ltb-false (rd es 0) name e)
 
@@ -108,9 +109,11 @@ module _ {H A : Type 0} (r : Row ℕ H) (w : H → List ℕ → Bool) (e : List 
     pub rows-below : (n name : ℕ) (es bs : List ℕ) → Below key name (rowsOf r d (below (r .width) n name es) es bs)
     unfolding rowsOf below
     rows-below zero name es bs = tt
-    rows-below (suc n) name es bs = go (ltb (rd es 0) name) refl (below (r .width) n name (rest (r .width) es)) (rows-below n name (rest (r .width) es) (rest (bodyLength r es) bs))
+    rows-below (suc n) name es bs =
+        go (ltb (rd es 0) name) refl (below (r .width) n name (rest (r .width) es)) (rows-below n name (rest (r .width) es) (rest (bodyLength r es) bs))
       where
-        go : (b : Bool) → ltb (rd es 0) name ≡ b → (k : ℕ) → Below key name (rowsOf r d k (rest (r .width) es) (rest (bodyLength r es) bs)) → Below key name (rowsOf r d (cond b (suc k) 0) es bs)
+        go : (b : Bool) → ltb (rd es 0) name ≡ b → (k : ℕ) → Below key name (rowsOf r d k (rest (r .width) es) (rest (bodyLength r es) bs)) →
+            Below key name (rowsOf r d (cond b (suc k) 0) es bs)
         go true q k f = unfold rowsOf in (omega (arith, t .key-is es, ltb-true (rd es 0) name q), f)
         go false q k f = unfold rowsOf in tt
 

@@ -146,7 +146,8 @@ pub bit-at : (l : List ℕ) (n : ℕ) → Sure (bit (drop n l)) (leb (n + 1) (le
 bit-at l n =
     let e : n + 0 ≡ n = omega arith in
     sure-same (bit-to (drop n l))
-    (rw (length-drop n l, getD-drop n l 0 0, e) (ap (λ (z : Bool). z && leb (getD l n 0) 1) (leb-same 1 (length l - n) (n + 1) (length l) (λ h. omega arith) (λ h. omega arith))))
+    (rw (length-drop n l, getD-drop n l 0 0, e)
+    (ap (λ (z : Bool). z && leb (getD l n 0) 1) (leb-same 1 (length l - n) (n + 1) (length l) (λ h. omega arith) (λ h. omega arith))))
     (rw (getD-drop n l 0 0, e, drop-drop 1 n l) refl)
 
 -- A form of at most so many bytes.

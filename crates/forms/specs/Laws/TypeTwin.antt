@@ -19,9 +19,10 @@ use Rattle.cedar.specs.Bytes.{parseNames}
 use Rattle.cedar.specs.TypeForm.{Kind, one, setKind, recKind, entKind, actKind, extKind, noKind, kindOf, attrsOf, readAttr, ascendingAttr, parseAs, parse}
 use Rattle.forms.specs.Parts.{part, rest, rd, kind}
 use Rattle.forms.specs.Rows.{Row, bodyLength, noneLeft, tableFits, tableOf}
-use Rattle.forms.specs.TypeBytes.{namesUp, namesOf, namesFit, attrRow, wholeAs, decAs, whole, dec}
+use Rattle.forms.specs.TypeBytes.{namesUp, namesBy, namesFit, attrRow, wholeAs, decAs, whole, dec}
 use Rattle.forms.specs.Laws.Parts.{and-same, and-yes, rest-is, rd-take}
-use Rattle.forms.specs.Laws.Sure.{Sure, sure-same, sure-none, bind-to, map-to, guard-to, finish-to, word-at, bit-at, ascending-to, eqb-same, leb-eqb, leb-under, within-to}
+use Rattle.forms.specs.Laws.Sure.{Sure, sure-same, sure-none, bind-to, map-to, guard-to, finish-to, word-at, bit-at, ascending-to, eqb-same, leb-eqb}
+use Rattle.forms.specs.Laws.Sure.{leb-under, within-to}
 use Rattle.forms.specs.Laws.RowsTwin.{Reads, Local, table-twin}
 
 -- An attribute's entry.
@@ -55,14 +56,16 @@ attr-local =
     }
 
 -- Ascending names with no byte over.
-pub names-twin : (n low : ℕ) (l : List ℕ) → Sure (parseNames n low l) (eqb (length l) (2 * n) && namesUp n low l) (namesOf n l)
-unfolding namesUp namesOf
+pub names-twin : (n low : ℕ) (l : List ℕ) → Sure (parseNames n low l) (eqb (length l) (2 * n) && namesUp n low l) (namesBy 2 n l)
+unfolding namesUp namesBy
 names-twin zero low l = sure-same (finish-to [] l) (sym (and-true (eqb (length l) 0))) refl
 names-twin (suc n) low l =
     sure-same
     (bind-to _ (word-at l 0) λ q₁. bind-to _ (guard-to (leb low (rd l 0))) λ q₂. map-to (λ ks. rd l 0 ∷ ks) (names-twin n (suc (rd l 0)) (drop 2 l)))
     (swap (leb 2 (length l)) (leb low (rd l 0)) (eqb (length (drop 2 l)) (2 * n)) (namesUp n (suc (rd l 0)) (drop 2 l))
-    ∙ rw (rest-is 2 l, add-one (rd l 0), length-drop 2 l, mul-suc 2 n) (ap (λ (z : Bool). z && (leb low (rd l 0) && namesUp n (suc (rd l 0)) (drop 2 l))) (leb-eqb 2 (length l) (2 * n) (2 * n + 2) (omega arith))))
+    ∙
+    rw (rest-is 2 l, add-one (rd l 0), length-drop 2 l, mul-suc 2 n)
+    (ap (λ (z : Bool). z && (leb low (rd l 0) && namesUp n (suc (rd l 0)) (drop 2 l))) (leb-eqb 2 (length l) (2 * n) (2 * n + 2) (omega arith))))
     (rw (rest-is 2 l) refl)
   where
     swap : (a g e r : Bool) → a && (g && (e && r)) ≡ (a && e) && (g && r)
@@ -78,7 +81,8 @@ module _ (p : List ℕ → Option Ty) (w : List ℕ → Bool) (d : List ℕ → 
   as-twin recKind x b =
       let f = tableFits attrRow (λ _. w) 0 2 (x ∷ b) in
       sure-same
-      (bind-to _ (bit-at (x ∷ b) 1) λ q. map-to (rec (eqb (getD (x ∷ b) 1 0) 1)) (map-to attrsOf (table-twin attrRow (λ _. w) (λ _. d) readAttr ascendingAttr (λ h. p) attr-reads (λ h. t) attr-local 0 2 (x ∷ b))))
+      (bind-to _ (bit-at (x ∷ b) 1) λ q. map-to (rec (eqb (getD (x ∷ b) 1 0) 1))
+      (map-to attrsOf (table-twin attrRow (λ _. w) (λ _. d) readAttr ascendingAttr (λ h. p) attr-reads (λ h. t) attr-local 0 2 (x ∷ b))))
       (and-assoc (leb 2 (length (x ∷ b))) (leb (getD (x ∷ b) 1 0) 1) f)
       refl
   as-twin entKind x b =
@@ -92,7 +96,8 @@ module _ (p : List ℕ → Option Ty) (w : List ℕ → Bool) (d : List ℕ → 
       (rw (rest-is 3 (x ∷ b)) refl)
   as-twin actKind x b =
       sure-same
-      (bind-to _ (word-at (x ∷ b) 1) λ q. map-to (act (rd (x ∷ b) 1)) (map-to attrsOf (table-twin attrRow (λ _. w) (λ _. d) readAttr ascendingAttr (λ h. p) attr-reads (λ h. t) attr-local 0 3 (x ∷ b))))
+      (bind-to _ (word-at (x ∷ b) 1) λ q. map-to (act (rd (x ∷ b) 1))
+      (map-to attrsOf (table-twin attrRow (λ _. w) (λ _. d) readAttr ascendingAttr (λ h. p) attr-reads (λ h. t) attr-local 0 3 (x ∷ b))))
       (leb-under 3 5 (length (x ∷ b)) _ (omega arith))
       refl
   as-twin extKind x b =
@@ -106,7 +111,9 @@ pub type-twin : (l : ℕ) (b : List ℕ) → Sure (parse l b) (whole l b) (dec l
 unfolding parse whole dec
 type-twin zero b = sure-none _
 type-twin (suc l) [] = sure-none _
-type-twin (suc l) (k ∷ b) = sure-same (as-twin (parse l) (whole l) (dec l) (type-twin l) (kindOf k) k b) (sym (and-yes _ (wholeAs (whole l) (kindOf k) (k ∷ b)) (lt-ltb 0 (suc (length b)) (omega arith)))) refl
+type-twin (suc l) (k ∷ b) =
+    sure-same (as-twin (parse l) (whole l) (dec l) (type-twin l) (kindOf k) k b)
+    (sym (and-yes _ (wholeAs (whole l) (kindOf k) (k ∷ b)) (lt-ltb 0 (suc (length b)) (omega arith)))) refl
 
 -- Within the limits of a type.
 pub whole-type-twin : (lim : Limits) (b : List ℕ) → Sure (wholeType lim b) (leb (length b) (lim .bytes) && whole (lim .levels) b) (dec (lim .levels) b)

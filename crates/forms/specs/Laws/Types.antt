@@ -9,7 +9,7 @@ use lib.Dec.{eqb, leb, ltb}
 use lib.ListN.{length, getD, List·getD-eq-default}
 use borrow.Author.Tests.{leb-true, lt-leb, le-leb, lt-ltb, le-ltb, eq-eqb, ne-eqb}
 use Rattle.forms.specs.Parts.{part, rest, rd, kind}
-use Rattle.forms.specs.TypeBytes.{namesUp, namesOf, namesFit, attrRow, wholeAs, decAs, whole, dec}
+use Rattle.forms.specs.TypeBytes.{namesUp, namesBy, namesFit, attrRow, wholeAs, decAs, whole, dec}
 use Rattle.forms.specs.Rows.{tableFits}
 use Rattle.cedar.specs.Types.{Atom, never, true′, false′, bool, long, string, anyset, anyent}
 use Rattle.cedar.specs.TypeForm.{one, setKind, recKind, entKind, actKind, extKind, noKind, kindOf}
@@ -21,21 +21,13 @@ names-step zero low b p = absurd (omega arith)
 names-step (suc n) low b p = rw (sub-one (suc n)) refl
 
 -- The first of n names, and the others.
-pub names-first : (n : ℕ) (b : List ℕ) → 0 < n → namesOf n b ≡ rd b 0 ∷ namesOf (n - 1) (rest 2 b)
-unfolding namesOf
-names-first zero b p = absurd (omega arith)
-names-first (suc n) b p = rw (sub-one (suc n)) refl
-
-pub names-none : (n : ℕ) (b : List ℕ) → n ≤ 0 → namesOf n b ≡ []
-unfolding namesOf
-names-none zero b p = refl
-names-none (suc n) b p = absurd (omega arith)
-
 -- Names that ascend: the first is not too low, and the others ascend from it on.
 pub names-up : (n low : ℕ) (b : List ℕ) → 0 < n → namesUp n low b ≡ true → (low ≤ rd b 0) × (namesUp (n - 1) (rd b 0 + 1) (rest 2 b) ≡ true)
 names-up n low b p h =
-    let g = sym (names-step n low b p) ∙ h in
-    (leb-true low (rd b 0) (and-l (leb low (rd b 0)) (namesUp (n - 1) (rd b 0 + 1) (rest 2 b)) g), and-r (leb low (rd b 0)) (namesUp (n - 1) (rd b 0 + 1) (rest 2 b)) g)
+    let g = sym (names-step n low b p) ∙ h in (
+      leb-true low (rd b 0) (and-l (leb low (rd b 0)) (namesUp (n - 1) (rd b 0 + 1) (rest 2 b)) g),
+      and-r (leb low (rd b 0)) (namesUp (n - 1) (rd b 0 + 1) (rest 2 b)) g,
+    )
 
 -- The loop of `names_ascend`: what is left answers for all.
 pub record NamesLeft (n : ℕ) (ns : List ℕ) (left low : ℕ) (b : List ℕ) : Type 0 where
@@ -133,7 +125,10 @@ kind-atom (suc (suc (suc (suc (suc (suc (suc (suc (suc (suc (suc (suc zero))))))
 kind-atom (suc (suc (suc (suc (suc (suc (suc (suc (suc (suc (suc (suc (suc k))))))))))))) p7 p8 p10 p11 p12 h = absurd (omega arith)
 
 pub kind-unknown : (k : ℕ) → 12 < k → kindOf k ≡ noKind
-kind-unknown k h = List·getD-eq-default (one never ∷ one true′ ∷ one false′ ∷ one bool ∷ one long ∷ one string ∷ one anyset ∷ setKind ∷ recKind ∷ one anyent ∷ entKind ∷ actKind ∷ extKind ∷ []) noKind h
+kind-unknown k h =
+    List·getD-eq-default
+    (one never ∷ one true′ ∷ one false′ ∷ one bool ∷ one long ∷ one string ∷ one anyset ∷ setKind ∷ recKind ∷ one anyent ∷ entKind ∷ actKind ∷ extKind ∷ [])
+    noKind h
 
 module _ (l : ℕ) (b : List ℕ) (p : l ≡ 0 → ⊥) (s : length b ≡ 0 → ⊥) where
   pub record-short : kind b ≡ 8 → length b < 2 → false ≡ whole l b

@@ -12,12 +12,14 @@ use Rattle.cedar.specs.Types.{Value, boolean, number, text, uid, setOf, recordO
 use Rattle.cedar.specs.Limits.{Limits}
 use Rattle.cedar.specs.Whole.{wholeValue}
 use Rattle.cedar.specs.Table.{readLength, anyOrder, ascending}
-use Rattle.cedar.specs.ValueForm.{ValueKind, boolKind, longKind, stringKind, uidKind, setKind, recordKind, callKind, noKind, valueKind, readPair, valuesFrom, pairsFrom, parseValueAs, parseValue}
+use Rattle.cedar.specs.ValueForm.{ValueKind, boolKind, longKind, stringKind, uidKind, setKind, recordKind, callKind, noKind, valueKind, readPair, valuesFrom}
+use Rattle.cedar.specs.ValueForm.{pairsFrom, parseValueAs, parseValue}
 use Rattle.forms.specs.Parts.{rest, rd, kind}
 use Rattle.forms.specs.Rows.{Row, bodyLength, tableFits, tableOf}
 use Rattle.forms.specs.ValueBytes.{memberRow, pairRow, wholeVAs, decVAs, wholeV, decV}
 use Rattle.forms.specs.Laws.Parts.{and-same, and-yes, rest-is, rd-take}
-use Rattle.forms.specs.Laws.Sure.{Sure, sure-same, sure-none, sure-some-of, bind-to, map-to, guard-to, finish-to, word-at, ascending-to, eqb-same, leb-eqb, leb-under, within-to}
+use Rattle.forms.specs.Laws.Sure.{Sure, sure-same, sure-none, sure-some-of, bind-to, map-to, guard-to, finish-to, word-at, ascending-to, eqb-same}
+use Rattle.forms.specs.Laws.Sure.{leb-eqb, leb-under, within-to}
 use Rattle.forms.specs.Laws.RowsTwin.{Reads, Local, table-twin}
 
 -- A member's entry.
@@ -59,23 +61,28 @@ pair-local =
 module _ (p : List ℕ → Option Value) (w : List ℕ → Bool) (d : List ℕ → Value) (t : (b : List ℕ) → Sure (p b) (w b) (d b)) where
   value-as-twin : (k : ValueKind) (x : ℕ) (b : List ℕ) → Sure (parseValueAs p k b) (wholeVAs w k (x ∷ b)) (decVAs d k (x ∷ b))
   value-as-twin (boolKind z) x b = sure-same (finish-to (boolean z) b) (sym (eqb·suc-suc (length b) 0)) refl
-  value-as-twin longKind x b = sure-same (map-to (λ u. number b) (guard-to (eqb (length b) 8))) (sym (eqb·suc-suc (length b) 8)) (ap number (sym (rest-is 1 (x ∷ b))))
+  value-as-twin longKind x b =
+      sure-same (map-to (λ u. number b) (guard-to (eqb (length b) 8))) (sym (eqb·suc-suc (length b) 8)) (ap number (sym (rest-is 1 (x ∷ b))))
   value-as-twin stringKind x b =
       let n = rd (x ∷ b) 1 in
       sure-same
       (bind-to _ (word-at (x ∷ b) 1) λ q. map-to (λ u. text (drop 3 (x ∷ b))) (guard-to (eqb (length (drop 3 (x ∷ b))) n)))
-      (and-same (leb 3 (length (x ∷ b))) λ q. rw (length-drop 3 (x ∷ b)) (eqb-same (length (x ∷ b) - 3) n (length (x ∷ b)) (3 + n) (λ h. omega (arith, leb-true 3 (length (x ∷ b)) q)) (λ h. omega arith)))
+      (and-same (leb 3 (length (x ∷ b))) λ q. rw (length-drop 3 (x ∷ b))
+      (eqb-same (length (x ∷ b) - 3) n (length (x ∷ b)) (3 + n) (λ h. omega (arith, leb-true 3 (length (x ∷ b)) q)) (λ h. omega arith)))
       (ap text (sym (rest-is 3 (x ∷ b))))
   value-as-twin uidKind x b =
       sure-same
       (bind-to _ (word-at (x ∷ b) 1) λ q₁. bind-to _ (word-at (x ∷ b) 3) λ q₂. finish-to (uid (rd (x ∷ b) 1) (rd (x ∷ b) 3)) (drop 5 (x ∷ b)))
       (leb-under 3 5 (length (x ∷ b)) _ (omega arith) ∙ rw (length-drop 5 (x ∷ b)) (leb-eqb 5 (length (x ∷ b)) 0 5 refl))
       refl
-  value-as-twin setKind x b = map-to setOf (map-to valuesFrom (table-twin memberRow (λ _. w) (λ _. d) readLength anyOrder (λ h. p) member-reads (λ h. t) member-local tt 1 (x ∷ b)))
-  value-as-twin recordKind x b = map-to recordOf (map-to pairsFrom (table-twin pairRow (λ _. w) (λ _. d) readPair ascending (λ h. p) pair-reads (λ h. t) pair-local 0 1 (x ∷ b)))
+  value-as-twin setKind x b =
+      map-to setOf (map-to valuesFrom (table-twin memberRow (λ _. w) (λ _. d) readLength anyOrder (λ h. p) member-reads (λ h. t) member-local tt 1 (x ∷ b)))
+  value-as-twin recordKind x b =
+      map-to recordOf (map-to pairsFrom (table-twin pairRow (λ _. w) (λ _. d) readPair ascending (λ h. p) pair-reads (λ h. t) pair-local 0 1 (x ∷ b)))
   value-as-twin callKind x b =
       sure-same
-      (bind-to _ (word-at (x ∷ b) 1) λ q. map-to (call (rd (x ∷ b) 1)) (map-to valuesFrom (table-twin memberRow (λ _. w) (λ _. d) readLength anyOrder (λ h. p) member-reads (λ h. t) member-local tt 3 (x ∷ b))))
+      (bind-to _ (word-at (x ∷ b) 1) λ q. map-to (call (rd (x ∷ b) 1))
+      (map-to valuesFrom (table-twin memberRow (λ _. w) (λ _. d) readLength anyOrder (λ h. p) member-reads (λ h. t) member-local tt 3 (x ∷ b))))
       (leb-under 3 5 (length (x ∷ b)) _ (omega arith))
       refl
   value-as-twin noKind x b = sure-none _

@@ -30,7 +30,8 @@ module _ (l : ℕ) (b : List ℕ) (p : l ≡ 0 → ⊥) where
   value-empty h = and-not-l (ltb 0 (length b)) _ (le-ltb 0 (length b) (omega arith)) ∙ sym value-step
 
   pub value-by : (length b ≡ 0 → ⊥) → (k : ℕ) → kind b ≡ k → wholeV l b ≡ wholeVAs (wholeV (l - 1)) (valueKind k) b
-  value-by h k e = value-step ∙ and-yes (ltb 0 (length b)) _ (lt-ltb 0 (length b) (pos (length b) h)) ∙ ap (λ (j : ℕ). wholeVAs (wholeV (l - 1)) (valueKind j) b) e
+  value-by h k e =
+      value-step ∙ and-yes (ltb 0 (length b)) _ (lt-ltb 0 (length b) (pos (length b) h)) ∙ ap (λ (j : ℕ). wholeVAs (wholeV (l - 1)) (valueKind j) b) e
 
 -- The two Booleans, and kinds that are none.
 pub kind-boolean : (k : ℕ) → (k ≡ 2 → ⊥) → (k ≡ 3 → ⊥) → (k ≡ 4 → ⊥) → (k ≡ 5 → ⊥) → (k ≡ 6 → ⊥) → (k ≡ 7 → ⊥) → k ≤ 7 → (x : Bool) × (valueKind k ≡ boolKind x)
@@ -51,5 +52,6 @@ module _ (l : ℕ) (b : List ℕ) (p : l ≡ 0 → ⊥) (s : length b ≡ 0 → 
   pub unknown-no-value : 7 < kind b → false ≡ wholeV l b
   unknown-no-value h = sym (value-by l b p s (kind b) refl ∙ rw (kind-no-value (kind b) h) refl)
 
-  pub boolean-open : (kind b ≡ 2 → ⊥) → (kind b ≡ 3 → ⊥) → (kind b ≡ 4 → ⊥) → (kind b ≡ 5 → ⊥) → (kind b ≡ 6 → ⊥) → (kind b ≡ 7 → ⊥) → kind b ≤ 7 → eqb (length b) 1 ≡ wholeV l b
+  pub boolean-open : (kind b ≡ 2 → ⊥) → (kind b ≡ 3 → ⊥) → (kind b ≡ 4 → ⊥) → (kind b ≡ 5 → ⊥) → (kind b ≡ 6 → ⊥) → (kind b ≡ 7 → ⊥) → kind b ≤ 7 →
+      eqb (length b) 1 ≡ wholeV l b
   boolean-open p2 p3 p4 p5 p6 p7 h = sym (value-by l b p s (kind b) refl ∙ rw (kind-boolean (kind b) p2 p3 p4 p5 p6 p7 h .1) refl)

@@ -13,7 +13,7 @@ use Rattle.cedar.specs.Types.{Atom, Ty, Attrs, atom, set, rec, act, ent, ext}
 use Rattle.cedar.specs.TypeForm.{one, noKind, kindOf, attrsOf}
 use Rattle.forms.specs.Parts.{part, rest, rd, kind}
 use Rattle.forms.specs.Rows.{noneLeft, tableEnd, tableFits, rowsTo}
-use Rattle.forms.specs.TypeBytes.{namesUp, namesOf, namesFit, attrRow, wholeAs, decAs, whole, wholeA, decA, dec, Sound}
+use Rattle.forms.specs.TypeBytes.{namesUp, namesBy, namesFit, attrRow, wholeAs, decAs, whole, wholeA, decA, dec, Sound}
 use Rattle.forms.specs.Laws.Parts.{and-l, and-r, length-part}
 use Rattle.forms.specs.Laws.Types.{kind-atom, kind-unknown}
 
@@ -44,7 +44,7 @@ pub record IsEntity (l : ℕ) (b : List ℕ) : Type 0 where
   pub many : 1 ≤ rd b 1
   pub sized : length b ≡ 3 + 2 * rd b 1
   pub up : namesUp (rd b 1) 0 (rest 3 b) ≡ true
-  pub is : dec l b ≡ ent (namesOf (rd b 1) (rest 3 b))
+  pub is : dec l b ≡ ent (namesBy 2 (rd b 1) (rest 3 b))
 
 pub record IsExtension (l : ℕ) (b : List ℕ) : Type 0 where
   pub deep : 0 < l
@@ -67,7 +67,8 @@ not-empty zero b h = false-not h
 not-empty (suc l) b h = ltb-true 0 (length b) (and-l (ltb 0 (length b)) _ h)
 
 -- By the first byte.
-opened : (l : ℕ) (b : List ℕ) (k : ℕ) → whole l b ≡ true → kind b ≡ k → (0 < l) × (wholeAs (whole (l - 1)) (kindOf k) b ≡ true) × (dec l b ≡ decAs (dec (l - 1)) (kindOf k) b)
+opened : (l : ℕ) (b : List ℕ) (k : ℕ) → whole l b ≡ true → kind b ≡ k → (0 < l) × (wholeAs (whole (l - 1)) (kindOf k) b ≡ true) ×
+    (dec l b ≡ decAs (dec (l - 1)) (kindOf k) b)
 unfolding whole dec
 opened zero b k h e = false-not h
 opened (suc l) b k h e = (

@@ -11,12 +11,12 @@ use Rattle.cedar.specs.Bytes.{Bytes}
 use Rattle.cedar.specs.Types.{eqNames, same}
 use Rattle.cedar.specs.Consistency.{consistentEntity, consistent, consistentAttrs}
 use Rattle.forms.specs.Parts.{part, rest, rd, kind}
-use Rattle.forms.specs.TypeBytes.{whole, dec, decA, Sound}
+use Rattle.forms.specs.TypeBytes.{whole, dec, decA, Sound, namesBy}
 use Rattle.forms.specs.Laws.Views.{is-set, is-record, is-entity, is-extension}
-use Rattle.relations.specs.Names.{entityNames, entryNames, EntriesUp}
+use Rattle.relations.specs.Names.{entityNames, EntriesUp}
 use Rattle.relations.specs.Meets.{plainKind, kindMeets, CoreList, allCovered}
-use Rattle.relations.specs.Laws.Kinds.{code-dec}
-use Rattle.relations.specs.Laws.Equality.{names-of-entries}
+use Rattle.forms.specs.Laws.Codes.{code-dec}
+use Rattle.forms.specs.Laws.Names.{names-of-entries}
 use Rattle.relations.specs.Laws.SameForm.{same-types}
 use Rattle.relations.specs.Laws.Walks.{sound-ascends}
 use Rattle.relations.specs.Laws.Covered.{all-covered}
@@ -37,7 +37,8 @@ module _ (l : ℕ) (a b : List ℕ) (h : whole l a ≡ true) (g : whole l b ≡ 
 
   pub unlike-kinds : (kind b ≡ 10 → ⊥) → (kind a ≡ kind b → ⊥) → kindMeets (kind a) (kind b) ≡ consistent (dec l a) (dec l b)
   unlike-kinds k n =
-      sym (consistent-kinds (dec l a) (dec l b) (λ e. n (sym (code-dec l a h) ∙ e ∙ code-dec l b g)) (λ e. k (sym (code-dec l b g) ∙ e)) ∙ ap₂ kindMeets (code-dec l a h) (code-dec l b g))
+      sym (consistent-kinds (dec l a) (dec l b) (λ e. n (sym (code-dec l a h) ∙ e ∙ code-dec l b g)) (λ e. k (sym (code-dec l b g) ∙ e)) ∙
+      ap₂ kindMeets (code-dec l a h) (code-dec l b g))
 
   -- Kinds that are alike.
   module _ (e : kind a ≡ kind b) where
@@ -59,8 +60,9 @@ module _ (l : ℕ) (a b : List ℕ) (h : whole l a ≡ true) (g : whole l b ≡ 
 
     module _ (k : kind b ≡ 8) (n i : ℕ) (nq : n ≡ rd a 2) (iq : i ≡ rd b 2) where
       records : consistent (dec l a) (dec l b) ≡
-          (consistentAttrs (eqb (getD a 1 0) 1) (decA (dec (l - 1)) n (part 4 (4 + 5 * n) a) (rest (4 + 5 * n) a)) (decA (dec (l - 1)) i (part 4 (4 + 5 * i) b) (rest (4 + 5 * i) b))
-          && allCovered n (eqb (getD b 1 0) 1) (entryNames i (part 4 (4 + 5 * i) b)) (part 4 (4 + 5 * n) a))
+          (consistentAttrs (eqb (getD a 1 0) 1) (decA (dec (l - 1)) n (part 4 (4 + 5 * n) a) (rest (4 + 5 * n) a))
+          (decA (dec (l - 1)) i (part 4 (4 + 5 * i) b) (rest (4 + 5 * i) b))
+          && allCovered n (eqb (getD b 1 0) 1) (namesBy 5 i (part 4 (4 + 5 * i) b)) (part 4 (4 + 5 * n) a))
       unfolding consistent
       records =
           let xs = decA (dec (l - 1)) (rd a 2) (part 4 (4 + 5 * rd a 2) a) (rest (4 + 5 * rd a 2) a) in
@@ -72,9 +74,12 @@ module _ (l : ℕ) (a b : List ℕ) (h : whole l a ≡ true) (g : whole l b ≡ 
           ∙ ap (λ (ns : List ℕ). allCovered (rd a 2) (eqb (getD b 1 0) 1) ns (part 4 (4 + 5 * rd a 2) a))
           (names-of-entries (dec (l - 1)) (rd b 2) (part 4 (4 + 5 * rd b 2) b) (rest (4 + 5 * rd b 2) b))))
 
-      module _ (x : Bool) (xq : x ≡ consistentAttrs (eqb (getD a 1 0) 1) (decA (dec (l - 1)) n (part 4 (4 + 5 * n) a) (rest (4 + 5 * n) a)) (decA (dec (l - 1)) i (part 4 (4 + 5 * i) b) (rest (4 + 5 * i) b))) where
+      module _ (x : Bool)
+          (xq : x ≡ consistentAttrs (eqb (getD a 1 0) 1) (decA (dec (l - 1)) n (part 4 (4 + 5 * n) a) (rest (4 + 5 * n) a))
+          (decA (dec (l - 1)) i (part 4 (4 + 5 * i) b) (rest (4 + 5 * i) b))) where
         pub record-not : not x ≡ true → false ≡ consistent (dec l a) (dec l b)
         record-not z = sym (records ∙ rw (sym xq ∙ not-true x z) refl)
 
-        pub with-record : not x ≡ false → (y : Bool) → y ≡ allCovered n (eqb (getD b 1 0) 1) (entryNames i (part 4 (4 + 5 * i) b)) (part 4 (4 + 5 * n) a) → y ≡ consistent (dec l a) (dec l b)
+        pub with-record : not x ≡ false → (y : Bool) → y ≡ allCovered n (eqb (getD b 1 0) 1) (namesBy 5 i (part 4 (4 + 5 * i) b)) (part 4 (4 + 5 * n) a) →
+            y ≡ consistent (dec l a) (dec l b)
         with-record z y yq = yq ∙ sym (records ∙ rw (sym xq ∙ not-false x z) refl)

@@ -15,14 +15,14 @@ use Rattle.cedar.specs.Consistency.{coveredNames}
 use Rattle.forms.specs.Parts.{rest, rd}
 use Rattle.forms.specs.Search.{below, used, foundAt}
 use Rattle.forms.specs.Rows.{rowsOf}
-use Rattle.forms.specs.TypeBytes.{dec, decA}
+use Rattle.forms.specs.TypeBytes.{dec, decA, namesBy}
 use Rattle.forms.specs.declared.search.Found.{Found}
 use Rattle.forms.specs.declared.search.Found.the-variants.{At, Nothing}
 use Rattle.forms.specs.Laws.Parts.{length-rest}
 use Rattle.forms.specs.Laws.Attributes.{Past, past, found-at, found-not}
-use Rattle.relations.specs.Names.{entryNames, EntriesUp}
+use Rattle.relations.specs.Names.{EntriesUp}
 use Rattle.relations.specs.Meets.{CoreList, coveredBy, allCovered}
-use Rattle.relations.specs.Laws.Equality.{names-of-entries}
+use Rattle.forms.specs.Laws.Names.{names-of-entries}
 
 -- An attribute is found where its name is one of the list.
 pub find-mem : (k : ℕ) (ys : Attrs) → present (find k ys) ≡ mem k (names ys)
@@ -65,10 +65,12 @@ module _ (p : Bool) (ns e : List ℕ) where
         go true = refl
         go false = refl
 
-    module _ (m : ℕ) (fs cs : List ℕ) (s : CoreList m fs cs) (nq : ns ≡ entryNames m fs) (k : ℕ) (kq : k ≡ rd e 0) (r : Found) (rq : r ≡ foundAt 5 m k fs) (g : getD e 2 0 ≡ 1) where
+    module _ (m : ℕ) (fs cs : List ℕ) (s : CoreList m fs cs) (nq : ns ≡ namesBy 5 m fs) (k : ℕ) (kq : k ≡ rd e 0) (r : Found) (rq : r ≡ foundAt 5 m k fs)
+        (g : getD e 2 0 ≡ 1) where
       by-find : (o : Option (Bool × Ty)) → find k (decA (dec (s .levels)) m fs cs) ≡ o → coveredBy p ns e ≡ present o
       by-find o z =
-          required g ∙ ap₂ mem (sym kq) (nq ∙ sym (names-of-entries (dec (s .levels)) m fs cs)) ∙ sym (find-mem k (decA (dec (s .levels)) m fs cs)) ∙ ap present z
+          required g ∙ ap₂ mem (sym kq) (nq ∙ sym (names-of-entries (dec (s .levels)) m fs cs)) ∙ sym (find-mem k (decA (dec (s .levels)) m fs cs)) ∙
+          ap present z
 
       pub covered-not : r ≡ Nothing → false ≡ coveredBy p ns e
       covered-not z = sym (by-find none (found-not (s .sound) k r rq z))
@@ -77,8 +79,9 @@ module _ (p : Bool) (ns e : List ℕ) where
       covered-found i off z = sym (by-find _ (found-at (s .sound) k r rq i off z .is))
 
 -- Lists that have the same names from one on cover the same from there on.
-covered-later : (n : ℕ) (p : Bool) (ns ks es : List ℕ) (low : ℕ) → Ascend low (entryNames n es) → ((k : ℕ) → low ≤ k → mem k ns ≡ mem k ks) → allCovered n p ns es ≡ allCovered n p ks es
-unfolding allCovered coveredBy entryNames
+covered-later : (n : ℕ) (p : Bool) (ns ks es : List ℕ) (low : ℕ) → Ascend low (namesBy 5 n es) → ((k : ℕ) → low ≤ k → mem k ns ≡ mem k ks) →
+    allCovered n p ns es ≡ allCovered n p ks es
+unfolding allCovered coveredBy namesBy
 covered-later zero p ns ks es low a h = refl
 covered-later (suc n) p ns ks es low a h =
     ap₂ (λ (x y : Bool). x && y)
@@ -90,16 +93,17 @@ pub record Covering (p : Bool) (all : Bool) (most left : ℕ) (e : List ℕ) (mo
   pub few : more ≤ most
   pub entries : EntriesUp left e
   pub core : CoreList more f c
-  pub same : all ≡ allCovered left p (entryNames more f) e
+  pub same : all ≡ allCovered left p (namesBy 5 more f) e
 
-pub covering-start : (p : Bool) {n m : ℕ} {es fs cs : List ℕ} → EntriesUp n es → CoreList m fs cs → Covering p (allCovered n p (entryNames m fs) es) m n es m fs cs
+pub covering-start : (p : Bool) {n m : ℕ} {es fs cs : List ℕ} → EntriesUp n es → CoreList m fs cs →
+    Covering p (allCovered n p (namesBy 5 m fs) es) m n es m fs cs
 covering-start p s t = record { few = omega arith; entries = s; core = t; same = refl }
 
 module _ {p all : Bool} {most left more : ℕ} {e f c : List ℕ} (i : Covering p all most left e more f c) where
   pub covering-end : left ≤ 0 → true ≡ all
   covering-end h = sym (i .same ∙ go left h)
     where
-      go : (k : ℕ) → k ≤ 0 → allCovered k p (entryNames more f) e ≡ true
+      go : (k : ℕ) → k ≤ 0 → allCovered k p (namesBy 5 more f) e ≡ true
       go zero h = unfold allCovered in refl
       go (suc k) h = absurd (omega arith)
 
@@ -110,19 +114,19 @@ module _ {p all : Bool} {most left more : ℕ} {e f c : List ℕ} (i : Covering 
     pub covering-core : CoreList (more - k) (rest (5 * k) f) (rest off c)
     covering-core = let s = covering-past in record { levels = i .core .levels; low = s .low; sound = s .sound }
 
-    later : (j : ℕ) → name ≤ j → mem j (entryNames more f) ≡ mem j (entryNames (more - k) (rest (5 * k) f))
+    later : (j : ℕ) → name ≤ j → mem j (namesBy 5 more f) ≡ mem j (namesBy 5 (more - k) (rest (5 * k) f))
     later j h =
         let d = dec (i .core .levels) in
         ap (mem j) (sym (names-of-entries d more f c)) ∙ sym (find-mem j (decA d more f c))
         ∙ ap present (covering-past .later j h)
         ∙ find-mem j (decA d (more - k) (rest (5 * k) f) (rest off c)) ∙ ap (mem j) (names-of-entries d (more - k) (rest (5 * k) f) (rest off c))
 
-    above : Ascend (suc (rd e 0)) (entryNames (left - 1) (rest 5 e))
+    above : Ascend (suc (rd e 0)) (namesBy 5 (left - 1) (rest 5 e))
     above = go left q (i .entries .up)
       where
-        go : (n : ℕ) → 0 < n → Ascend (i .entries .low) (entryNames n e) → Ascend (suc (rd e 0)) (entryNames (n - 1) (rest 5 e))
+        go : (n : ℕ) → 0 < n → Ascend (i .entries .low) (namesBy 5 n e) → Ascend (suc (rd e 0)) (namesBy 5 (n - 1) (rest 5 e))
         go zero h a = absurd (omega arith)
-        go (suc n) h a = unfold entryNames in rw (sub-one (suc n)) (a .1)
+        go (suc n) h a = unfold namesBy in rw (sub-one (suc n)) (a .1)
 
     first : (ns : List ℕ) → allCovered left p ns e ≡ (coveredBy p ns e && allCovered (left - 1) p ns (rest 5 e))
     first ns = go left q
@@ -131,14 +135,14 @@ module _ {p all : Bool} {most left more : ℕ} {e f c : List ℕ} (i : Covering 
         go zero h = absurd (omega arith)
         go (suc n) h = unfold allCovered in rw (sub-one (suc n)) refl
 
-    step : all ≡ (coveredBy p (entryNames (more - k) (rest (5 * k) f)) e && allCovered (left - 1) p (entryNames (more - k) (rest (5 * k) f)) (rest 5 e))
+    step : all ≡ (coveredBy p (namesBy 5 (more - k) (rest (5 * k) f)) e && allCovered (left - 1) p (namesBy 5 (more - k) (rest (5 * k) f)) (rest 5 e))
     unfolding coveredBy
     step =
-        i .same ∙ first (entryNames more f)
+        i .same ∙ first (namesBy 5 more f)
         ∙ ap₂ (λ (x y : Bool). (x || not (eqb (getD e 2 0) 1) || p) && y) (later (rd e 0) (omega arith))
-        (covered-later (left - 1) p (entryNames more f) (entryNames (more - k) (rest (5 * k) f)) (rest 5 e) (suc (rd e 0)) above (λ j g. later j (omega arith)))
+        (covered-later (left - 1) p (namesBy 5 more f) (namesBy 5 (more - k) (rest (5 * k) f)) (rest 5 e) (suc (rd e 0)) above (λ j g. later j (omega arith)))
 
-    module _ (x : Bool) (xq : x ≡ coveredBy p (entryNames (more - k) (rest (5 * k) f)) e) where
+    module _ (x : Bool) (xq : x ≡ coveredBy p (namesBy 5 (more - k) (rest (5 * k) f)) e) where
       pub covering-not : not x ≡ true → false ≡ all
       covering-not h = sym (step ∙ rw (sym xq ∙ not-true x h) refl)
 

@@ -9,13 +9,14 @@ use lib.ListN.{length}
 use Rattle.cedar.specs.Types.{Ty, atom, set, rec, act, ent, ext}
 use Rattle.cedar.specs.Disjoint.{typeNames, shares, disjoint}
 use Rattle.forms.specs.Parts.{rest, rd, kind}
-use Rattle.forms.specs.TypeBytes.{namesOf, whole, dec}
+use Rattle.forms.specs.TypeBytes.{namesBy, whole, dec}
 use Rattle.forms.specs.Laws.Parts.{rest-is, length-rest}
 use Rattle.forms.specs.Laws.Sure.{rd-drop}
 use Rattle.relations.specs.Names.{Ascending}
 use Rattle.relations.specs.TypeNames.{namesAt, NamesFound}
 use Rattle.forms.specs.Laws.Views.{is-entity, is-action}
-use Rattle.relations.specs.Laws.Kinds.{code, code-dec}
+use Rattle.forms.specs.Codes.{code}
+use Rattle.forms.specs.Laws.Codes.{code-dec}
 use Rattle.relations.specs.Laws.Names.{entity-form, entity-names, one-name}
 use Rattle.relations.specs.declared.are_types_disjoint.TypeNames.{TypeNames}
 use Rattle.relations.specs.declared.are_types_disjoint.TypeNames.the-variants.{From, Nothing}
@@ -35,7 +36,7 @@ module _ (l : ℕ) (b : List ℕ) (h : whole l b ≡ true) where
       rw q (record { is = sym (ap typeNames (s .is)); within = (omega (arith, s .sized), entity-names (entity-form s)) })
 
   pub named-action : kind b ≡ 11 → NamesFound b (typeNames (dec l b)) (From 1 1)
-  unfolding namesOf
+  unfolding namesBy
   named-action e =
       let s = is-action l b h e in
       let z : 1 + 0 ≡ 1 = omega arith in
@@ -53,7 +54,7 @@ module _ {b : List ℕ} {o : Option (List ℕ)} {r : TypeNames} (f : NamesFound 
   found-nothing e = sym (f .is) ∙ ap (namesAt b) e
 
   module _ (s n : ℕ) (e : r ≡ From s n) where
-    pub found-from : o ≡ some (namesOf n (rest s b))
+    pub found-from : o ≡ some (namesBy 2 n (rest s b))
     found-from = sym (f .is) ∙ ap (namesAt b) e
 
     pub found-within : (s ≤ length b) × Ascending n (rest s b)

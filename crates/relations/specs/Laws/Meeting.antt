@@ -18,7 +18,8 @@ use Rattle.forms.specs.TypeBytes.{dec, decA, Sound}
 use Rattle.forms.specs.declared.search.Found.{Found}
 use Rattle.forms.specs.declared.search.Found.the-variants.{At, Nothing}
 use Rattle.forms.specs.Laws.Attributes.{Entry, entry, entry-more, attrs-none, Past, past, Here, found-at, found-not}
-use Rattle.relations.specs.Meets.{Listed, metBy}
+use Rattle.forms.specs.Tables.{Left}
+use Rattle.relations.specs.Meets.{metBy}
 use Rattle.relations.specs.Laws.Walks.{sound-ascends}
 
 or-true : (x : Bool) → x || true ≡ true
@@ -26,10 +27,14 @@ or-true true = refl
 or-true false = refl
 
 -- One core attribute, as `attribute_consistent` tests it.
-module _ {l n : ℕ} {es bs : List ℕ} (s : Listed l n es bs) (o : Bool) (f : List ℕ) (u : Ty) (name : ℕ) (q : name ≡ rd f 0) (r : Found) (rq : r ≡ foundAt 5 n name es) where
-  met : (x : Option (Bool × Ty)) → find name (decA (dec l) n es bs) ≡ x → metBy o f u (decA (dec l) n es bs) ≡ maybe (not (eqb (getD f 2 0) 1) || o) (λ y. consistent (y .1) u) x
+module _ {l n : ℕ} {es bs : List ℕ} (s : Left l n es bs) (o : Bool) (f : List ℕ) (u : Ty) (name : ℕ) (q : name ≡ rd f 0) (r : Found)
+    (rq : r ≡ foundAt 5 n name es) where
+  met : (x : Option (Bool × Ty)) → find name (decA (dec l) n es bs) ≡ x →
+      metBy o f u (decA (dec l) n es bs) ≡ maybe (not (eqb (getD f 2 0) 1) || o) (λ y. consistent (y .1) u) x
   unfolding metBy
-  met x h = ap (λ (z : Option (Bool × Ty)). maybe (not (eqb (getD f 2 0) 1) || o) (λ y. consistent (y .1) u) z) (ap (λ (k : ℕ). find k (decA (dec l) n es bs)) (sym q) ∙ h)
+  met x h =
+      ap (λ (z : Option (Bool × Ty)). maybe (not (eqb (getD f 2 0) 1) || o) (λ y. consistent (y .1) u) z)
+      (ap (λ (k : ℕ). find k (decA (dec l) n es bs)) (sym q) ∙ h)
 
   module _ (g : r ≡ Nothing) where
     alone : metBy o f u (decA (dec l) n es bs) ≡ (not (eqb (getD f 2 0) 1) || o)
@@ -56,7 +61,8 @@ module _ {l n : ℕ} {es bs : List ℕ} (s : Listed l n es bs) (o : Bool) (f : L
     met-with k kq = rw kq (sym (met _ (met-here .is)))
 
 -- Two lists that have the same from a name on are the same to a core list from there on.
-meet-later : (o : Bool) (xs zs ys : Attrs) (low : ℕ) → Ascend low (names ys) → ((k : ℕ) → low ≤ k → find k xs ≡ find k zs) → consistentAttrs o xs ys ≡ consistentAttrs o zs ys
+meet-later : (o : Bool) (xs zs ys : Attrs) (low : ℕ) → Ascend low (names ys) → ((k : ℕ) → low ≤ k → find k xs ≡ find k zs) →
+    consistentAttrs o xs ys ≡ consistentAttrs o zs ys
 unfolding consistent
 meet-later o xs zs nil low a h = refl
 meet-later o xs zs (attr n s u ys) low a h =
@@ -67,7 +73,7 @@ meet-later o xs zs (attr n s u ys) low a h =
 -- A walk that has come so far: what is left of both lists answers for the whole.
 pub record Meeting (o : Bool) (l : ℕ) (xs ys : Attrs) (most left : ℕ) (e b : List ℕ) (more : ℕ) (f c : List ℕ) : Type 0 where
   pub few : left ≤ most
-  pub listed : Listed l left e b
+  pub listed : Left l left e b
   pub low : ℕ
   pub core : Sound l more low f c
   pub same : consistentAttrs o xs ys ≡ consistentAttrs o (decA (dec l) left e b) (decA (dec l) more f c)
@@ -89,7 +95,7 @@ module _ {o : Bool} {l : ℕ} {xs ys : Attrs} {most left more : ℕ} {e b f c : 
       pub meeting-past : Past l left name e b k off
       meeting-past = past (i .listed .sound) name k off kq oq
 
-      pub meeting-list : Listed l (left - k) (rest (5 * k) e) (rest off b)
+      pub meeting-list : Left l (left - k) (rest (5 * k) e) (rest off b)
       meeting-list = let s = meeting-past in record { low = s .low; sound = s .sound }
 
       module _ (u : ℕ) (uq : u ≡ rd f 3) (x : Bool) (xq : x ≡ metBy o f (dec l (part 0 u c)) (decA (dec l) (left - k) (rest (5 * k) e) (rest off b))) where

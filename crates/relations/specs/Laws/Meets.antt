@@ -11,14 +11,15 @@ use Rattle.cedar.specs.TypeForm.{kindOf, atomCode}
 use Rattle.cedar.specs.Disjoint.{shares}
 use Rattle.cedar.specs.Consistency.{plain, consistentAtom, consistentEntity, consistent}
 use Rattle.forms.specs.Parts.{rest, rd, kind}
-use Rattle.forms.specs.TypeBytes.{namesOf, whole, dec}
+use Rattle.forms.specs.TypeBytes.{namesBy, whole, dec}
 use Rattle.forms.specs.Laws.Parts.{rest-is}
 use Rattle.forms.specs.Laws.Sure.{rd-drop, eqb-same}
-use Rattle.forms.specs.Laws.Types.{names-first}
+use Rattle.forms.specs.Laws.Names.{names-first}
 use Rattle.forms.specs.Laws.Views.{is-entity, is-action}
 use Rattle.relations.specs.Names.{EntityForm, entityNames}
 use Rattle.relations.specs.Meets.{plainKind, kindMeets}
-use Rattle.relations.specs.Laws.Kinds.{code, code-dec}
+use Rattle.forms.specs.Codes.{code}
+use Rattle.forms.specs.Laws.Codes.{code-dec}
 use Rattle.relations.specs.Laws.Under.{by-atom, is-code, one-injective, atom-kind, not-parts, not-code, no-set, no-record, unlike}
 
 -- Plain kinds.
@@ -91,7 +92,8 @@ consistent-kinds a (ent ks) n p = absurd (p refl)
 consistent-kinds a (ext i) n p = unlike a (ext i) n
 
 -- Types of one kind without parts, and an action, which is no core type.
-pub kinds-meet : (a b : Ty) → code a ≡ code b → (code b ≡ 7 → ⊥) → (code b ≡ 8 → ⊥) → (code b ≡ 10 → ⊥) → (code b ≡ 12 → ⊥) → plainKind (code b) ≡ consistent a b
+pub kinds-meet : (a b : Ty) → code a ≡ code b → (code b ≡ 7 → ⊥) → (code b ≡ 8 → ⊥) → (code b ≡ 10 → ⊥) → (code b ≡ 12 → ⊥) →
+    plainKind (code b) ≡ consistent a b
 unfolding consistent plainKind
 kinds-meet a (atom k) e p q r s = go a e
   where
@@ -140,16 +142,17 @@ rd-rest a b = let e : a + 0 ≡ a = omega arith in ap (λ (z : List ℕ). rd z 0
 
 -- A type with an entity, as `entity_consistent` tests them.
 module _ (l : ℕ) (a b : List ℕ) (h : whole l a ≡ true) (f : EntityForm b) where
-  heads : entityNames b ≡ rd (rest 3 b) 0 ∷ namesOf (rd b 1 - 1) (rest 2 (rest 3 b))
-  heads = names-first (rd b 1) (rest 3 b) (omega (arith, f .many))
+  heads : entityNames b ≡ rd (rest 3 b) 0 ∷ namesBy 2 (rd b 1 - 1) (rest 2 (rest 3 b))
+  heads = names-first 2 (rd b 1) (rest 3 b) (omega (arith, f .many))
 
   pub entity-any : kind a ≡ 9 → true ≡ consistentEntity (dec l a) (entityNames b)
-  entity-any e = rw heads (any-entity (dec l a) (rd (rest 3 b) 0) (namesOf (rd b 1 - 1) (rest 2 (rest 3 b))) (code-dec l a h ∙ e))
+  entity-any e = rw heads (any-entity (dec l a) (rd (rest 3 b) 0) (namesBy 2 (rd b 1 - 1) (rest 2 (rest 3 b))) (code-dec l a h ∙ e))
 
-  pub entity-name : kind a ≡ 10 → (n : ℕ) → n ≡ rd a 1 → (r : Bool) → r ≡ shares (namesOf n (rest 3 a)) (namesOf 1 (rest 3 b)) → r ≡ consistentEntity (dec l a) (entityNames b)
-  unfolding namesOf
+  pub entity-name : kind a ≡ 10 → (n : ℕ) → n ≡ rd a 1 → (r : Bool) → r ≡ shares (namesBy 2 n (rest 3 a)) (namesBy 2 1 (rest 3 b)) →
+      r ≡ consistentEntity (dec l a) (entityNames b)
+  unfolding namesBy
   entity-name e n q r t =
-      t ∙ shares-one (namesOf n (rest 3 a)) (rd (rest 3 b) 0) ∙ rw (q, heads, is-entity l a h e .is) refl
+      t ∙ shares-one (namesBy 2 n (rest 3 a)) (rd (rest 3 b) 0) ∙ rw (q, heads, is-entity l a h e .is) refl
 
   pub entity-action : kind a ≡ 11 → (x y : ℕ) → x ≡ rd a 1 → y ≡ rd b 3 → eqb x y ≡ consistentEntity (dec l a) (entityNames b)
   entity-action e x y p q =
@@ -158,4 +161,5 @@ module _ (l : ℕ) (a b : List ℕ) (h : whole l a ≡ true) (f : EntityForm b) 
   pub entity-other : (kind a ≡ 9 → ⊥) → (kind a ≡ 10 → ⊥) → (kind a ≡ 11 → ⊥) → false ≡ consistentEntity (dec l a) (entityNames b)
   entity-other p q r =
       let c = code-dec l a h in
-      rw heads (no-entities (dec l a) (rd (rest 3 b) 0) (namesOf (rd b 1 - 1) (rest 2 (rest 3 b))) (λ z. p (sym c ∙ z)) (λ z. q (sym c ∙ z)) (λ z. r (sym c ∙ z)))
+      rw heads (no-entities (dec l a) (rd (rest 3 b) 0) (namesBy 2 (rd b 1 - 1) (rest 2 (rest 3 b))) (λ z. p (sym c ∙ z)) (λ z. q (sym c ∙ z))
+      (λ z. r (sym c ∙ z)))

@@ -13,9 +13,10 @@ use Rattle.cedar.specs.Laws.Shape.{Ascend}
 use Rattle.cedar.specs.Disjoint.{shares}
 use Rattle.cedar.specs.Subtype.{subset}
 use Rattle.forms.specs.Parts.{rest, rd}
-use Rattle.forms.specs.TypeBytes.{namesUp, namesOf}
+use Rattle.forms.specs.TypeBytes.{namesUp, namesBy}
 use Rattle.forms.specs.Laws.Parts.{and-l, and-r, length-rest}
-use Rattle.forms.specs.Laws.Types.{names-first, names-none, names-up}
+use Rattle.forms.specs.Laws.Types.{names-up}
+use Rattle.forms.specs.Laws.Names.{names-first, names-none}
 use Rattle.forms.specs.Laws.Views.{IsEntity}
 use Rattle.relations.specs.Names.{Ascending, EntityForm}
 
@@ -36,23 +37,23 @@ subset-skip y low (n ∷ ns) ks a h =
     rw (ne-eqb n y (λ e. let p = a .0 in omega arith)) (ap (λ (z : Bool). mem n ks && z) (subset-skip y (suc n) ns ks (a .1) (let p = a .0 in omega arith)))
 
 -- Names of bytes.
-pub names-ascend : (n low : ℕ) (b : List ℕ) → namesUp n low b ≡ true → Ascend low (namesOf n b)
-unfolding namesUp namesOf
+pub names-ascend : (n low : ℕ) (b : List ℕ) → namesUp n low b ≡ true → Ascend low (namesBy 2 n b)
+unfolding namesUp namesBy
 names-ascend zero low b h = tt
 names-ascend (suc n) low b h =
     (leb-true low (rd b 0) (and-l (leb low (rd b 0)) _ h), names-ascend n (suc (rd b 0)) (rest 2 b) (rw (add-one (rd b 0)) at (and-r (leb low (rd b 0)) _ h)))
 
 -- The first name of a list, and the others, which are above it.
 pub record FirstName (n : ℕ) (b : List ℕ) : Type 0 where
-  pub is : namesOf n b ≡ rd b 0 ∷ namesOf (n - 1) (rest 2 b)
-  pub above : Ascend (suc (rd b 0)) (namesOf (n - 1) (rest 2 b))
+  pub is : namesBy 2 n b ≡ rd b 0 ∷ namesBy 2 (n - 1) (rest 2 b)
+  pub above : Ascend (suc (rd b 0)) (namesBy 2 (n - 1) (rest 2 b))
   pub more : Ascending (n - 1) (rest 2 b)
 
 pub first-name : {n : ℕ} {b : List ℕ} → Ascending n b → 0 < n → FirstName n b
 first-name {n} {b} s p =
     let u = names-up n (s .low) b p (s .up) .1 in
     record {
-      is = names-first n b p;
+      is = names-first 2 n b p;
       above = names-ascend (n - 1) (suc (rd b 0)) (rest 2 b) (rw (add-one (rd b 0)) at u);
       more = record { low = rd b 0 + 1; sized = omega (arith, length-rest 2 b, s .sized); up = u };
     }
@@ -76,13 +77,14 @@ first-of {b} s = one-name (rest 3 b) (omega (arith, length-rest 3 b, s .sized, s
 pub record Walk (f : List ℕ → List ℕ → Bool) (n m : ℕ) (ns ks : List ℕ) (left more : ℕ) (a b : List ℕ) : Type 0 where
   pub first : Ascending left a
   pub second : Ascending more b
-  pub same : f (namesOf n ns) (namesOf m ks) ≡ f (namesOf left a) (namesOf more b)
+  pub same : f (namesBy 2 n ns) (namesBy 2 m ks) ≡ f (namesBy 2 left a) (namesBy 2 more b)
 
 pub walk-start : {f : List ℕ → List ℕ → Bool} {n m : ℕ} {ns ks : List ℕ} → Ascending n ns → Ascending m ks → Walk f n m ns ks n m ns ks
 walk-start s t = record { first = s; second = t; same = refl }
 
 -- The same walk, where branches met.
-pub walk-met : {f : List ℕ → List ℕ → Bool} {n m left left′ more : ℕ} {ns ks a a′ b : List ℕ} → left′ ≡ left → a′ ≡ a → Walk f n m ns ks left more a b → Walk f n m ns ks left′ more a′ b
+pub walk-met : {f : List ℕ → List ℕ → Bool} {n m left left′ more : ℕ} {ns ks a a′ b : List ℕ} → left′ ≡ left → a′ ≡ a → Walk f n m ns ks left more a b →
+    Walk f n m ns ks left′ more a′ b
 walk-met p q i = rw (p, q) i
 
 -- What the second list has below the first does not count.
@@ -90,7 +92,7 @@ abbrev Skips : (List ℕ → List ℕ → Bool) → Type 0
 Skips f = (y low : ℕ) (ns ks : List ℕ) → Ascend low ns → y < low → f ns (y ∷ ks) ≡ f ns ks
 
 module _ {f : List ℕ → List ℕ → Bool} {n m left more : ℕ} {ns ks a b : List ℕ} (i : Walk f n m ns ks left more a b) (p : 0 < left) (q : 0 < more) where
-  both : f (namesOf left a) (namesOf more b) ≡ f (rd a 0 ∷ namesOf (left - 1) (rest 2 a)) (rd b 0 ∷ namesOf (more - 1) (rest 2 b))
+  both : f (namesBy 2 left a) (namesBy 2 more b) ≡ f (rd a 0 ∷ namesBy 2 (left - 1) (rest 2 a)) (rd b 0 ∷ namesBy 2 (more - 1) (rest 2 b))
   both = ap₂ f (first-name (i .first) p .is) (first-name (i .second) q .is)
 
   pub walk-second : Skips f → (x y : ℕ) → x ≡ rd a 0 → y ≡ rd b 0 → y < x → Walk f n m ns ks left (more - 1) a (rest 2 b)
@@ -100,54 +102,61 @@ module _ {f : List ℕ → List ℕ → Bool} {n m left more : ℕ} {ns ks a b :
         first = i .first;
         second = first-name (i .second) q .more;
         same =
-            i .same ∙ both ∙ s (rd b 0) (rd a 0) (rd a 0 ∷ namesOf (left - 1) (rest 2 a)) (namesOf (more - 1) (rest 2 b)) (omega arith, u .above) (omega arith)
-            ∙ ap (λ (z : List ℕ). f z (namesOf (more - 1) (rest 2 b))) (sym (u .is));
+            i .same ∙ both ∙ s (rd b 0) (rd a 0) (rd a 0 ∷ namesBy 2 (left - 1) (rest 2 a)) (namesBy 2 (more - 1) (rest 2 b)) (
+              omega arith,
+              u .above,
+            ) (omega arith)
+            ∙ ap (λ (z : List ℕ). f z (namesBy 2 (more - 1) (rest 2 b))) (sym (u .is));
       }
 
 -- The search for a name in common.
 module _ {n m left more : ℕ} {ns ks a b : List ℕ} (i : Walk shares n m ns ks left more a b) where
-  pub share-end : left ≤ 0 → false ≡ shares (namesOf n ns) (namesOf m ks)
-  share-end h = sym (i .same ∙ ap (λ (z : List ℕ). shares z (namesOf more b)) (names-none left a h))
+  pub share-end : left ≤ 0 → false ≡ shares (namesBy 2 n ns) (namesBy 2 m ks)
+  share-end h = sym (i .same ∙ ap (λ (z : List ℕ). shares z (namesBy 2 more b)) (names-none 2 left a h))
 
   module _ (p : 0 < left) (x : ℕ) (xq : x ≡ rd a 0) where
-    pub share-hit : 0 < more → (y : ℕ) → y ≡ rd b 0 → x ≡ y → true ≡ shares (namesOf n ns) (namesOf m ks)
+    pub share-hit : 0 < more → (y : ℕ) → y ≡ rd b 0 → x ≡ y → true ≡ shares (namesBy 2 n ns) (namesBy 2 m ks)
     share-hit q y yq h = sym (i .same ∙ both i p q ∙ rw (eq-eqb (rd a 0) (rd b 0) (omega arith)) refl)
 
-    share-absent : mem (rd a 0) (namesOf more b) ≡ false → Walk shares n m ns ks (left - 1) more (rest 2 a) b
+    share-absent : mem (rd a 0) (namesBy 2 more b) ≡ false → Walk shares n m ns ks (left - 1) more (rest 2 a) b
     share-absent h =
         let u = first-name (i .first) p in
         record {
           first = u .more;
           second = i .second;
-          same = i .same ∙ ap (λ (z : List ℕ). shares z (namesOf more b)) (u .is) ∙ ap (λ (z : Bool). z || shares (namesOf (left - 1) (rest 2 a)) (namesOf more b)) h;
+          same =
+              i .same ∙ ap (λ (z : List ℕ). shares z (namesBy 2 more b)) (u .is) ∙
+              ap (λ (z : Bool). z || shares (namesBy 2 (left - 1) (rest 2 a)) (namesBy 2 more b)) h;
         }
 
     pub share-over : more ≤ 0 → Walk shares n m ns ks (left - 1) more (rest 2 a) b
-    share-over h = share-absent (ap (mem (rd a 0)) (names-none more b h))
+    share-over h = share-absent (ap (mem (rd a 0)) (names-none 2 more b h))
 
     pub share-past : 0 < more → (y : ℕ) → y ≡ rd b 0 → x < y → Walk shares n m ns ks (left - 1) more (rest 2 a) b
     share-past q y yq h =
         let v = first-name (i .second) q in
-        share-absent (ap (mem (rd a 0)) (v .is) ∙ mem-below (rd a 0) (rd b 0) (rd b 0 ∷ namesOf (more - 1) (rest 2 b)) (omega arith, v .above) (omega arith))
+        share-absent (ap (mem (rd a 0)) (v .is) ∙ mem-below (rd a 0) (rd b 0) (rd b 0 ∷ namesBy 2 (more - 1) (rest 2 b)) (omega arith, v .above) (omega arith))
 
 -- Each name of the first list is looked for in the second.
 module _ {n m left more : ℕ} {ns ks a b : List ℕ} (i : Walk subset n m ns ks left more a b) where
-  pub subset-end : left ≤ 0 → true ≡ subset (namesOf n ns) (namesOf m ks)
-  subset-end h = sym (i .same ∙ ap (λ (z : List ℕ). subset z (namesOf more b)) (names-none left a h))
+  pub subset-end : left ≤ 0 → true ≡ subset (namesBy 2 n ns) (namesBy 2 m ks)
+  subset-end h = sym (i .same ∙ ap (λ (z : List ℕ). subset z (namesBy 2 more b)) (names-none 2 left a h))
 
   module _ (p : 0 < left) where
-    subset-absent : mem (rd a 0) (namesOf more b) ≡ false → false ≡ subset (namesOf n ns) (namesOf m ks)
+    subset-absent : mem (rd a 0) (namesBy 2 more b) ≡ false → false ≡ subset (namesBy 2 n ns) (namesBy 2 m ks)
     subset-absent h =
-        sym (i .same ∙ ap (λ (z : List ℕ). subset z (namesOf more b)) (first-name (i .first) p .is) ∙ ap (λ (z : Bool). z && subset (namesOf (left - 1) (rest 2 a)) (namesOf more b)) h)
+        sym (i .same ∙ ap (λ (z : List ℕ). subset z (namesBy 2 more b)) (first-name (i .first) p .is) ∙
+        ap (λ (z : Bool). z && subset (namesBy 2 (left - 1) (rest 2 a)) (namesBy 2 more b)) h)
 
-    pub subset-over : more ≤ 0 → false ≡ subset (namesOf n ns) (namesOf m ks)
-    subset-over h = subset-absent (ap (mem (rd a 0)) (names-none more b h))
+    pub subset-over : more ≤ 0 → false ≡ subset (namesBy 2 n ns) (namesBy 2 m ks)
+    subset-over h = subset-absent (ap (mem (rd a 0)) (names-none 2 more b h))
 
     module _ (q : 0 < more) (x y : ℕ) (xq : x ≡ rd a 0) (yq : y ≡ rd b 0) where
-      pub subset-past : x < y → false ≡ subset (namesOf n ns) (namesOf m ks)
+      pub subset-past : x < y → false ≡ subset (namesBy 2 n ns) (namesBy 2 m ks)
       subset-past h =
           let v = first-name (i .second) q in
-          subset-absent (ap (mem (rd a 0)) (v .is) ∙ mem-below (rd a 0) (rd b 0) (rd b 0 ∷ namesOf (more - 1) (rest 2 b)) (omega arith, v .above) (omega arith))
+          subset-absent (ap (mem (rd a 0)) (v .is) ∙
+          mem-below (rd a 0) (rd b 0) (rd b 0 ∷ namesBy 2 (more - 1) (rest 2 b)) (omega arith, v .above) (omega arith))
 
       pub subset-both : x ≡ y → Walk subset n m ns ks (left - 1) (more - 1) (rest 2 a) (rest 2 b)
       subset-both h =
@@ -157,5 +166,5 @@ module _ {n m left more : ℕ} {ns ks a b : List ℕ} (i : Walk subset n m ns ks
             second = first-name (i .second) q .more;
             same =
                 i .same ∙ both i p q ∙ rw (eq-eqb (rd a 0) (rd b 0) (omega arith)) refl
-                ∙ subset-skip (rd b 0) (suc (rd a 0)) (namesOf (left - 1) (rest 2 a)) (namesOf (more - 1) (rest 2 b)) (u .above) (omega arith);
+                ∙ subset-skip (rd b 0) (suc (rd a 0)) (namesBy 2 (left - 1) (rest 2 a)) (namesBy 2 (more - 1) (rest 2 b)) (u .above) (omega arith);
           }

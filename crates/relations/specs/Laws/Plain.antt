@@ -9,11 +9,11 @@ use borrow.Author.Tests.{not-true, not-false}
 use Rattle.cedar.specs.Types.{Attrs}
 use Rattle.cedar.specs.Consistency.{plain, plainAttrs}
 use Rattle.forms.specs.Parts.{part, rest, rd, kind}
-use Rattle.forms.specs.TypeBytes.{namesOf, whole, dec, decA, Sound}
+use Rattle.forms.specs.TypeBytes.{namesBy, whole, dec, decA, Sound}
 use Rattle.forms.specs.Laws.Views.{is-set, is-record, is-entity, is-extension}
 use Rattle.forms.specs.Laws.Attributes.{Entry, entry, entry-more, attrs-none}
 use Rattle.relations.specs.Meets.{plainKind}
-use Rattle.relations.specs.Laws.Kinds.{code-dec}
+use Rattle.forms.specs.Laws.Codes.{code-dec}
 use Rattle.relations.specs.Laws.Meets.{plain-code}
 
 -- A walk that has come so far: what is left answers for the whole.
@@ -45,8 +45,8 @@ module _ {l : ℕ} {xs : Attrs} {left : ℕ} {e b : List ℕ} (i : PlainLeft l x
       pub plain-again : not x ≡ false → PlainLeft l xs (left - 1) (rest 5 e) (rest k b)
       plain-again h = record { low = rd e 0 + 1; sound = entry-more (i .sound) p k q; same = step ∙ rw (not-false x h) refl }
 
-length-names : (n : ℕ) (b : List ℕ) → length (namesOf n b) ≡ n
-unfolding namesOf
+length-names : (n : ℕ) (b : List ℕ) → length (namesBy 2 n b) ≡ n
+unfolding namesBy
 length-names zero b = refl
 length-names (suc n) b = ap suc (length-names n (rest 2 b))
 

@@ -17,7 +17,7 @@ use Rattle.cedar.specs.Laws.Equality.{eqNames→eq, eqNames-refl, same→eq, sa
 use Rattle.cedar.specs.Laws.Bytes.{Bytes-drop, parseNames-some}
 use Rattle.cedar.specs.Laws.TypeForm.{parse-reads}
 use Rattle.forms.specs.Parts.{rest, rd}
-use Rattle.forms.specs.TypeBytes.{namesOf, whole, dec}
+use Rattle.forms.specs.TypeBytes.{namesBy, whole, dec}
 use Rattle.forms.specs.Laws.Parts.{rest-is, length-rest}
 use Rattle.forms.specs.Laws.Sure.{sure-yes}
 use Rattle.forms.specs.Laws.TypeTwin.{names-twin, type-twin}
@@ -42,7 +42,7 @@ module _ {a b : List ℕ} (x : Bytes a) (y : Bytes b) (f : EntityForm a) (g : En
   same-names =
       bytes-test encNames (entityNames a) (entityNames b) (rest 3 a) (rest 3 b) (written a x f) (written b y g) (eqNames (entityNames a) (entityNames b))
       (λ t. eqNames→eq (entityNames a) (entityNames b) t) (λ e. rw e (eqNames-refl (entityNames b)))
-      (λ e. let n : rd a 1 ≡ rd b 1 = omega (arith, ap length e, length-rest 3 a, length-rest 3 b, f .sized, g .sized) in ap₂ namesOf n e)
+      (λ e. let n : rd a 1 ≡ rd b 1 = omega (arith, ap length e, length-rest 3 a, length-rest 3 b, f .sized, g .sized) in ap₂ (namesBy 2) n e)
 
 -- Two types.
 pub same-types : (l : ℕ) (a b : List ℕ) → Bytes a → Bytes b → whole l a ≡ true → whole l b ≡ true → eqNames a b ≡ same (dec l a) (dec l b)
@@ -55,8 +55,10 @@ same-types l a b x y h g =
 
 -- Entities, as `entity_under` compares their names.
 module _ (m : Mode) (a b : List ℕ) (r : Bool) where
-  pub names-permissive : (n k : ℕ) → n ≡ rd a 1 → k ≡ rd b 1 → isPermissive m ≡ true → r ≡ subset (namesOf n (rest 3 a)) (namesOf k (rest 3 b)) → r ≡ subNames m (entityNames a) (entityNames b)
+  pub names-permissive : (n k : ℕ) → n ≡ rd a 1 → k ≡ rd b 1 → isPermissive m ≡ true → r ≡ subset (namesBy 2 n (rest 3 a)) (namesBy 2 k (rest 3 b)) →
+      r ≡ subNames m (entityNames a) (entityNames b)
   names-permissive n k p q e h = h ∙ rw (p, q, e) refl
 
-  pub names-strict : Bytes a → Bytes b → EntityForm a → EntityForm b → isPermissive m ≡ false → r ≡ eqNames (rest 3 a) (rest 3 b) → r ≡ subNames m (entityNames a) (entityNames b)
+  pub names-strict : Bytes a → Bytes b → EntityForm a → EntityForm b → isPermissive m ≡ false → r ≡ eqNames (rest 3 a) (rest 3 b) →
+      r ≡ subNames m (entityNames a) (entityNames b)
   names-strict x y f g e h = h ∙ same-names x y f g ∙ rw e refl

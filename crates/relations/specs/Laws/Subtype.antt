@@ -13,12 +13,12 @@ use Rattle.cedar.specs.TypeForm.{kindOf}
 use Rattle.cedar.specs.Laws.Tests.{T→true, or-inl, or-inr}
 use Rattle.cedar.specs.Laws.Equality.{is-refl}
 use Rattle.forms.specs.Parts.{part, rest, rd, kind}
-use Rattle.forms.specs.TypeBytes.{whole, dec, decA}
+use Rattle.forms.specs.TypeBytes.{whole, dec, decA, namesBy}
 use Rattle.forms.specs.Laws.Views.{is-set, is-record, is-entity, is-action, is-extension, is-atom}
-use Rattle.relations.specs.Names.{entryNames, entityNames}
+use Rattle.relations.specs.Names.{entityNames}
 use Rattle.relations.specs.Under.{kindUnder, recordUnder}
-use Rattle.relations.specs.Laws.Kinds.{code-dec}
-use Rattle.relations.specs.Laws.Equality.{names-of-entries}
+use Rattle.forms.specs.Laws.Codes.{code-dec}
+use Rattle.forms.specs.Laws.Names.{names-of-entries}
 use Rattle.relations.specs.Laws.SameForm.{same-types}
 use Rattle.relations.specs.Laws.Under.{one-injective, sub-kinds}
 
@@ -65,7 +65,7 @@ module _ (m : Mode) (l : ℕ) (a b : List ℕ) (h : whole l a ≡ true) (g : who
 
     module _ (k : kind b ≡ 8) (n i : ℕ) (nq : n ≡ rd a 2) (iq : i ≡ rd b 2) where
       records : sub m (dec l a) (dec l b) ≡
-          (recordUnder m (eqb (getD a 1 0) 1) (entryNames n (part 4 (4 + 5 * n) a)) (eqb (getD b 1 0) 1) (entryNames i (part 4 (4 + 5 * i) b))
+          (recordUnder m (eqb (getD a 1 0) 1) (namesBy 5 n (part 4 (4 + 5 * n) a)) (eqb (getD b 1 0) 1) (namesBy 5 i (part 4 (4 + 5 * i) b))
           && subAttrs m (decA (dec (l - 1)) n (part 4 (4 + 5 * n) a) (rest (4 + 5 * n) a)) (decA (dec (l - 1)) i (part 4 (4 + 5 * i) b) (rest (4 + 5 * i) b)))
       unfolding sub recordUnder
       records =
@@ -77,11 +77,13 @@ module _ (m : Mode) (l : ℕ) (a b : List ℕ) (h : whole l a ≡ true) (g : who
           (names-of-entries (dec (l - 1)) (rd a 2) (part 4 (4 + 5 * rd a 2) a) (rest (4 + 5 * rd a 2) a))
           (names-of-entries (dec (l - 1)) (rd b 2) (part 4 (4 + 5 * rd b 2) b) (rest (4 + 5 * rd b 2) b)))
 
-      module _ (x : Bool) (xq : x ≡ recordUnder m (eqb (getD a 1 0) 1) (entryNames n (part 4 (4 + 5 * n) a)) (eqb (getD b 1 0) 1) (entryNames i (part 4 (4 + 5 * i) b))) where
+      module _ (x : Bool)
+          (xq : x ≡ recordUnder m (eqb (getD a 1 0) 1) (namesBy 5 n (part 4 (4 + 5 * n) a)) (eqb (getD b 1 0) 1) (namesBy 5 i (part 4 (4 + 5 * i) b))) where
         pub record-not : not x ≡ true → false ≡ sub m (dec l a) (dec l b)
         record-not z = sym (records ∙ rw (sym xq ∙ not-true x z) refl)
 
         pub record-under : not x ≡ false → (y : Bool) →
-            y ≡ subAttrs m (decA (dec (l - 1)) n (part 4 (4 + 5 * n) a) (rest (4 + 5 * n) a)) (decA (dec (l - 1)) i (part 4 (4 + 5 * i) b) (rest (4 + 5 * i) b)) →
+            y ≡ subAttrs m (decA (dec (l - 1)) n (part 4 (4 + 5 * n) a) (rest (4 + 5 * n) a)) (decA (dec (l - 1)) i (part 4 (4 + 5 * i) b) (rest (4 + 5 * i) b))
+            →
             y ≡ sub m (dec l a) (dec l b)
         record-under z y yq = yq ∙ sym (records ∙ rw (sym xq ∙ not-false x z) refl)

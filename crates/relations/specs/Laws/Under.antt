@@ -7,7 +7,8 @@ use native.Mathlib.Omega.{arith}
 use lib.Dec.{T, eqb, leb, eqb→eq}
 use borrow.Author.Tests.{eq-eqb, ne-eqb, eqb-false, lt-leb}
 use mathlib.Core.Option.{none, some}
-use Rattle.cedar.specs.Types.{present, isNever, asSet, asRec, asEnt, same, Mode, strict, permissive, isPermissive, Atom, never, true′, false′, bool, long, string, anyset, anyent, Ty, atom, set, rec, act, ent, ext, is, eqFlag, eqNames}
+use Rattle.cedar.specs.Types.{present, isNever, asSet, asRec, asEnt, same, Mode, strict, permissive, isPermissive, Atom, never, true′, false′, bool, long}
+use Rattle.cedar.specs.Types.{string, anyset, anyent, Ty, atom, set, rec, act, ent, ext, is, eqFlag, eqNames}
 use Rattle.cedar.specs.Calls.{modeOf}
 use Rattle.cedar.specs.Subtype.{subAtom, subFlag, sub}
 use Rattle.cedar.specs.TypeForm.{one, kindOf, atomCode}
@@ -15,27 +16,7 @@ use Rattle.cedar.specs.Laws.Tests.{T-ext, not-T→false, eqb-equal}
 use Rattle.cedar.specs.Laws.Equality.{is→eq, is-refl, same→eq}
 use Rattle.forms.specs.Modes.{asMode}
 use Rattle.relations.specs.Under.{kindUnder, recordUnder}
-use Rattle.relations.specs.Laws.Kinds.{code}
-
--- The mode's number.
-pub mode-test : (n : ℕ) → eqb n 1 ≡ isPermissive (asMode n)
-unfolding asMode
-mode-test n = go (eqb n 1)
-  where
-    go : (b : Bool) → b ≡ isPermissive (cond b permissive strict)
-    go true = refl
-    go false = refl
-
-pub mode-known : (n : ℕ) → leb n 1 ≡ present (modeOf n)
-mode-known zero = refl
-mode-known (suc zero) = refl
-mode-known (suc (suc n)) = lt-leb (suc (suc n)) 1 (omega arith)
-
-pub mode-is : (n : ℕ) → present (modeOf n) ≡ true → modeOf n ≡ some (asMode n)
-unfolding asMode
-mode-is zero h = refl
-mode-is (suc zero) h = refl
-mode-is (suc (suc n)) h = absurd (let z : _≡_ {A = ℕ} 0 1 = cc in omega arith)
+use Rattle.forms.specs.Codes.{code}
 
 -- Kinds, as `kind_under` tests them.
 module _ (m : Mode) (j k : ℕ) where
@@ -102,7 +83,13 @@ NotParts k = (eqb k 7 ≡ false) × (eqb k 8 ≡ false) × (eqb k 10 ≡ false) 
 
 pub not-parts : (a : Atom) → NotParts (atomCode a)
 not-parts a =
-    by-atom (λ a. NotParts (atomCode a)) (refl, refl, refl, refl, refl) (refl, refl, refl, refl, refl) (refl, refl, refl, refl, refl) (refl, refl, refl, refl, refl)
+    by-atom (λ a. NotParts (atomCode a)) (refl, refl, refl, refl, refl) (refl, refl, refl, refl, refl) (refl, refl, refl, refl, refl) (
+      refl,
+      refl,
+      refl,
+      refl,
+      refl,
+    )
     (refl, refl, refl, refl, refl) (refl, refl, refl, refl, refl) (refl, refl, refl, refl, refl) (refl, refl, refl, refl, refl) a
 
 pub not-code : (a : Atom) (c : ℕ) → eqb (atomCode a) c ≡ false → c ≡ atomCode a → ⊥
@@ -116,11 +103,13 @@ atom-kinds m (atom j) k n =
     (ap (λ (z : Bool). eqb (atomCode j) 0 || z) (go j k))
   where
     go : (j k : Atom) → eqb (atomCode k) 3 && (eqb (atomCode j) 1 || eqb (atomCode j) 2)
-        ≡ cond (eqb (atomCode k) 3) (eqb (atomCode j) 1 || eqb (atomCode j) 2) (cond (eqb (atomCode k) 6) (eqb (atomCode j) 7) (eqb (atomCode k) 9 && ((eqb (atomCode j) 10 || eqb (atomCode j) 11) && isPermissive m)))
+        ≡ cond (eqb (atomCode k) 3) (eqb (atomCode j) 1 || eqb (atomCode j) 2)
+        (cond (eqb (atomCode k) 6) (eqb (atomCode j) 7) (eqb (atomCode k) 9 && ((eqb (atomCode j) 10 || eqb (atomCode j) 11) && isPermissive m)))
     go j k =
         let p = not-parts j in
         rw (p .0, p .2, p .3)
-        (by-atom (λ k. eqb (atomCode k) 3 && (eqb (atomCode j) 1 || eqb (atomCode j) 2) ≡ cond (eqb (atomCode k) 3) (eqb (atomCode j) 1 || eqb (atomCode j) 2) (cond (eqb (atomCode k) 6) false (eqb (atomCode k) 9 && (false && isPermissive m))))
+        (by-atom (λ k. eqb (atomCode k) 3 && (eqb (atomCode j) 1 || eqb (atomCode j) 2) ≡ cond (eqb (atomCode k) 3) (eqb (atomCode j) 1 || eqb (atomCode j) 2)
+        (cond (eqb (atomCode k) 6) false (eqb (atomCode k) 9 && (false && isPermissive m))))
         refl refl refl refl refl refl refl refl k)
 atom-kinds m (set t) k n = by-atom (λ k. is k anyset ≡ kindUnder m 7 (atomCode k)) refl refl refl refl refl refl refl refl k
 atom-kinds m (rec o xs) k n = by-atom (λ k. false ≡ kindUnder m 8 (atomCode k)) refl refl refl refl refl refl refl refl k

@@ -31,7 +31,8 @@ sound-ascends {l} {n} {low} {es} {bs} s = go n low es bs s
         rw (t .is, sub-one (suc n)) (t .up, rw (add-one (rd es 0)) at h)
 
 -- Two lists that have the same from a name on are the same to a list of names from there on.
-pub sub-later : (m : Mode) (xs zs ys : Attrs) (low : ℕ) → Ascend low (names ys) → ((k : ℕ) → low ≤ k → find k xs ≡ find k zs) → subAttrs m xs ys ≡ subAttrs m zs ys
+pub sub-later : (m : Mode) (xs zs ys : Attrs) (low : ℕ) → Ascend low (names ys) → ((k : ℕ) → low ≤ k → find k xs ≡ find k zs) →
+    subAttrs m xs ys ≡ subAttrs m zs ys
 unfolding sub
 sub-later m xs zs nil low a h = refl
 sub-later m xs zs (attr n s u ys) low a h =
@@ -62,11 +63,14 @@ module _ {m : Mode} {l : ℕ} {xs ys : Attrs} {most left more : ℕ} {e b f c : 
     upperRest = decA (dec l) (more - 1) (rest 5 f) (rest (rd f 3) c)
 
     step : (o : Option (Bool × Ty)) → find name (decA (dec l) left e b) ≡ o →
-        subAttrs m xs ys ≡ (maybe false (λ x. subFlag m (x .0) (eqb (getD f 2 0) 1) && sub m (x .1) (dec l (part 0 (rd f 3) c))) o && subAttrs m (decA (dec l) left e b) upperRest)
+        subAttrs m xs ys ≡ (maybe false (λ x. subFlag m (x .0) (eqb (getD f 2 0) 1) && sub m (x .1) (dec l (part 0 (rd f 3) c))) o && subAttrs m
+        (decA (dec l) left e b) upperRest)
     unfolding sub
     step o h =
         i .same ∙ ap (λ (z : Attrs). subAttrs m (decA (dec l) left e b) z) (entry (i .upper) p .is)
-        ∙ ap (λ (z : Option (Bool × Ty)). maybe false (λ x. subFlag m (x .0) (eqb (getD f 2 0) 1) && sub m (x .1) (dec l (part 0 (rd f 3) c))) z && subAttrs m (decA (dec l) left e b) upperRest)
+        ∙
+        ap (λ (z : Option (Bool × Ty)). maybe false (λ x. subFlag m (x .0) (eqb (getD f 2 0) 1) && sub m (x .1) (dec l (part 0 (rd f 3) c))) z && subAttrs m
+        (decA (dec l) left e b) upperRest)
         (ap (λ (n : ℕ). find n (decA (dec l) left e b)) (sym q) ∙ h)
 
     pub under-missing : r ≡ Nothing → false ≡ subAttrs m xs ys
@@ -83,7 +87,8 @@ module _ {m : Mode} {l : ℕ} {xs ys : Attrs} {most left more : ℕ} {e b f c : 
       under-upper = entry (i .upper) p
 
       both : subAttrs m xs ys ≡
-          ((subFlag m (eqb (getD (rest (5 * k) e) 2 0) 1) (eqb (getD f 2 0) 1) && sub m (dec l (part 0 (rd (rest (5 * k) e) 3) (rest off b))) (dec l (part 0 (rd f 3) c)))
+          ((subFlag m (eqb (getD (rest (5 * k) e) 2 0) 1) (eqb (getD f 2 0) 1) && sub m (dec l (part 0 (rd (rest (5 * k) e) 3) (rest off b)))
+          (dec l (part 0 (rd f 3) c)))
           && subAttrs m (decA (dec l) left e b) upperRest)
       both = step (some (eqb (getD (rest (5 * k) e) 2 0) 1, dec l (part 0 (rd (rest (5 * k) e) 3) (rest off b)))) (under-here .is)
 
@@ -91,7 +96,8 @@ module _ {m : Mode} {l : ℕ} {xs ys : Attrs} {most left more : ℕ} {e b f c : 
         pub under-flag : not x ≡ true → false ≡ subAttrs m xs ys
         under-flag h = sym (both ∙ rw (sym xq ∙ not-true x h) refl)
 
-        module _ (xh : not x ≡ false) (s u : ℕ) (sq : s ≡ rd (rest (5 * k) e) 3) (uq : u ≡ rd f 3) (y : Bool) (yq : y ≡ sub m (dec l (part 0 s (rest off b))) (dec l (part 0 u c))) where
+        module _ (xh : not x ≡ false) (s u : ℕ) (sq : s ≡ rd (rest (5 * k) e) 3) (uq : u ≡ rd f 3) (y : Bool)
+            (yq : y ≡ sub m (dec l (part 0 s (rest off b))) (dec l (part 0 u c))) where
           types : y ≡ sub m (dec l (part 0 (rd (rest (5 * k) e) 3) (rest off b))) (dec l (part 0 (rd f 3) c))
           types = yq ∙ rw (sq, uq) refl
 
@@ -111,6 +117,8 @@ module _ {m : Mode} {l : ℕ} {xs ys : Attrs} {most left more : ℕ} {e b f c : 
                 same =
                     both ∙ rw (sym xq ∙ not-false x xh, sym types ∙ not-false y h)
                     (ap (λ (j : ℕ). subAttrs m (decA (dec l) left e b) (decA (dec l) (more - 1) (rest 5 f) (rest j c))) (sym uq)
-                    ∙ sub-later m (decA (dec l) left e b) (decA (dec l) (left - k) (rest (5 * k) e) (rest off b)) (decA (dec l) (more - 1) (rest 5 f) (rest u c)) (rd f 0 + 1)
+                    ∙
+                    sub-later m (decA (dec l) left e b) (decA (dec l) (left - k) (rest (5 * k) e) (rest off b))
+                    (decA (dec l) (more - 1) (rest 5 f) (rest u c)) (rd f 0 + 1)
                     (sound-ascends more-sound) (λ j w. past .later j (omega arith)));
               }

@@ -1,3 +1,4 @@
+-- `bounds::bound_writes::write_unlike` meets its contract. Assumes nothing.
 use Rattle.forms.specs.Modes.{asMode}
 use Rattle.bounds.specs.Laws.BoundWrites.{unlike-refused, unlike-room, unlike-written}
 use borrow.Author.Needs.{needs}
@@ -15,24 +16,34 @@ enum-told c = search needs
 
 returns : tie.Need-returns
 returns c =
-    let start = (c .before .before .before .before) in
-    let kinds = (c .before .before) .unlike-kinds in
-    absurd (unlike-refused (asMode (start .args .mode)) (start .args .j) (start .args .k) (start .pre) (kinds .result) (kinds .ensures) _ (c .enum-told .given .1))
+    let after-unlike-kinds = c .before .before in
+    let start = after-unlike-kinds .before .before in
+    let kinds = after-unlike-kinds .unlike-kinds in
+    let args = start .args in
+    absurd (unlike-refused (asMode (args .mode)) (args .j) (args .k) (start .pre) (kinds .result) (kinds .ensures) _ (c .enum-told .given .1))
 
 put-one-requires : tie.Need-put-one-requires
 put-one-requires c κs =
-    let start = (c .before .before .before .before .before .before) in
-    let kinds = (c .before .before .before .before) .unlike-kinds in
-    unlike-room (asMode (start .args .mode)) (start .args .j) (start .args .k) (start .pre) (kinds .result) (kinds .ensures) _ ((c .before .before) .c .given .1)
+    let after-c = c .before .before in
+    let after-unlike-kinds = after-c .before .before in
+    let start = after-unlike-kinds .before .before in
+    let kinds = after-unlike-kinds .unlike-kinds in
+    let args = start .args in
+    unlike-room (asMode (args .mode)) (args .j) (args .k) (start .pre) (kinds .result) (kinds .ensures) _ (after-c .c .given .1)
 
 same-length : tie.Need-same-length
 same-length c = search needs
 
 returns-2 : tie.Need-returns-2
 returns-2 c =
-    let start = (c .before .before .before .before .before .before .before .before .before) in
-    let kinds = (c .before .before .before .before .before .before .before) .unlike-kinds in
-    unlike-written (asMode (start .args .mode)) (start .args .j) (start .args .k) (start .pre) (kinds .result) (kinds .ensures) _ ((c .before .before .before .before .before) .c .given .1) _ ((c .before .before) .put-one .ensures)
+    let after-put-one = c .before .before in
+    let after-c = after-put-one .before .before .before in
+    let after-unlike-kinds = after-c .before .before in
+    let start = after-unlike-kinds .before .before in
+    let kinds = after-unlike-kinds .unlike-kinds in
+    let args = start .args in
+    unlike-written (asMode (args .mode)) (args .j) (args .k) (start .pre) (kinds .result) (kinds .ensures) _ (after-c .c .given .1)
+    _ (after-put-one .put-one .ensures)
 
 pub write-unlike-spec : {M : Type 1} → statement M
 write-unlike-spec =

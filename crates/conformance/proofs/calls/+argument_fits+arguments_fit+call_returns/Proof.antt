@@ -1,15 +1,15 @@
 use Rattle.forms.specs.Parts.{rd}
 use Rattle.schemas.specs.Laws.Finders.{function-at, function-not}
-use Rattle.conformance.specs.Laws.Calls.{call-unknown, call-none, call-other, call-arguments}
-use Rattle.conformance.proofs.Told.{no-yes}
+use Rattle.conformance.specs.Laws.Calls.{call-unknown, call-none, call-other, call-arguments, fit-bool, fit-long, fit-string, fit-not, fit-call}
+use Rattle.conformance.proofs.OtherVerdicts.{no-yes}
 use Rattle.schemas.specs.SchemaBytes.{decS, argsOf}
 use Rattle.cedar.specs.Conformance.{shorter, ofArguments}
 use Rattle.cedar.specs.Limits.{standard}
 use Rattle.conformance.specs.Walks.{argumentsOf}
 use Rattle.forms.specs.ValueBytes.{memberRow, wholeV}
-use Rattle.conformance.specs.Laws.Arguments.{ArgumentsAhead, arguments-start, arguments-end, arguments-over, arguments-first, arguments-stop, arguments-again}
+use Rattle.conformance.specs.Laws.Arguments.{ArgumentsAhead, arguments-start, arguments-end, arguments-over, arguments-first, arguments-stop}
+use Rattle.conformance.specs.Laws.Arguments.{arguments-again}
 use Rattle.conformance.specs.Laws.Ahead.{table-count, table-entries, ahead-room, ahead-inside, ahead-body}
-use Rattle.conformance.specs.Laws.Calls.{fit-bool, fit-long, fit-string, fit-not, fit-call}
 use Rattle.conformance.specs.Laws.Values.{value-level, value-first, value-as}
 use mathlib.Core.Path.{_∙_}
 use borrow.Author.Needs.{needs}
@@ -90,7 +90,9 @@ argument-fits-shared-slice-read-k : (t : ℕ) → argument-fits-lts.Need-shared-
   inside-reads.Asked,
   inside-reads.Learnt,
 ) (argument-fits-at t) argument-fits.Post
-argument-fits-shared-slice-read-k t c = omega (arith, (c .before .before .before .before) .pre .1 .1 .0 .0)
+argument-fits-shared-slice-read-k t c =
+    let pre = c .before .before .before .before .pre in
+    omega (arith, pre .1 .1 .0 .0)
 
 -- src/calls.rt:85:13
 argument-fits-shared-slice-read-j : (t : ℕ) → argument-fits-lts.Need-shared-slice-read-j (
@@ -103,7 +105,9 @@ argument-fits-shared-slice-read-j : (t : ℕ) → argument-fits-lts.Need-shared-
   inside-reads.Asked,
   inside-reads.Learnt,
 ) (argument-fits-at t) argument-fits.Post
-argument-fits-shared-slice-read-j t c = value-first ((c .before .before .before .before .before) .args .levels) ((c .before .before .before .before .before) .args .v .now) ((c .before .before .before .before .before) .pre .1 .1 .1)
+argument-fits-shared-slice-read-j t c =
+    let start = c .before .before .before .before .before in
+    value-first (start .args .levels) (start .args .v .now) (start .pre .1 .1 .1)
 
 -- src/calls.rt:87:31
 argument-fits-tested-requires : (t : ℕ) → argument-fits-lts.Need-tested-requires (
@@ -155,7 +159,11 @@ argument-fits-returns : (t : ℕ) → argument-fits-lts.Need-returns (
   inside-reads.Asked,
   inside-reads.Learnt,
 ) (argument-fits-at t) argument-fits.Post
-argument-fits-returns t c = let s = (c .before .before .before .before .before .before .before) in let m = (c .before) .match .rest in fit-not _ (s .args .asked .now) (s .args .levels) (s .args .v .now) (s .pre .1 .1 .0 .1) (s .pre .1 .1 .1) (m .0 .0 .1) (m .0 .1) (m .1) (c .if1 .taken)
+argument-fits-returns t c =
+    let s = c .before .before .before .before .before .before .before in
+    let m = c .before .match .rest in
+    let args = s .args in
+    fit-not _ (args .asked .now) (args .levels) (args .v .now) (s .pre .1 .1 .0 .1) (s .pre .1 .1 .1) (m .0 .0 .1) (m .0 .1) (m .1) (c .if1 .taken)
 
 -- src/calls.rt:94:54
 argument-fits-u16-at-requires : (t : ℕ) → argument-fits-lts.Need-u16-at-requires (
@@ -168,7 +176,9 @@ argument-fits-u16-at-requires : (t : ℕ) → argument-fits-lts.Need-u16-at-requ
   inside-reads.Asked,
   inside-reads.Learnt,
 ) (argument-fits-at t) argument-fits.Post
-argument-fits-u16-at-requires t c κs = omega (arith, (c .before .before .before .before .before .before .before) .pre .1 .1 .0 .0)
+argument-fits-u16-at-requires t c κs =
+    let pre = c .before .before .before .before .before .before .before .pre in
+    omega (arith, pre .1 .1 .0 .0)
 
 -- src/calls.rt:94:72
 argument-fits-sub-call-returns : (t : ℕ) → argument-fits-lts.Need-sub-call-returns (
@@ -181,7 +191,9 @@ argument-fits-sub-call-returns : (t : ℕ) → argument-fits-lts.Need-sub-call-r
   inside-reads.Asked,
   inside-reads.Learnt,
 ) (argument-fits-at t) argument-fits.Post
-argument-fits-sub-call-returns t c = let s = (c .before .before .before .before .before .before .before .before) in omega (arith, value-level (s .args .levels) (s .args .v .now) (s .pre .1 .1 .1))
+argument-fits-sub-call-returns t c =
+    let s = (c .before .before .before .before .before .before .before .before) in
+    omega (arith, value-level (s .args .levels) (s .args .v .now) (s .pre .1 .1 .1))
 
 -- src/calls.rt:94:20
 argument-fits-call-returns-requires : (t : ℕ) → argument-fits-lts.Need-call-returns-requires (
@@ -194,7 +206,13 @@ argument-fits-call-returns-requires : (t : ℕ) → argument-fits-lts.Need-call-
   inside-reads.Asked,
   inside-reads.Learnt,
 ) (argument-fits-at t) argument-fits.Post
-argument-fits-call-returns-requires t c κs = let s = (c .before .before .before .before .before .before .before .before) in (omega (arith, s .pre .0, value-level (s .args .levels) (s .args .v .now) (s .pre .1 .1 .1)), (s .pre .1 .0, value-as (s .args .levels) (s .args .v .now) (s .pre .1 .1 .1) 7 ((c .before) .if1 .left)))
+argument-fits-call-returns-requires t c κs =
+    let s = c .before .before .before .before .before .before .before .before in
+    let pre = s .pre in
+    let args = s .args in (
+      omega (arith, pre .0, value-level (args .levels) (args .v .now) (pre .1 .1 .1)),
+      (pre .1 .0, value-as (args .levels) (args .v .now) (pre .1 .1 .1) 7 (c .before .if1 .left)),
+    )
 
 -- src/calls.rt:94:13
 argument-fits-inside-requires : (t : ℕ) → argument-fits-lts.Need-inside-requires (
@@ -220,7 +238,10 @@ argument-fits-returns-2 : (t : ℕ) → argument-fits-lts.Need-returns-2 (
   inside-reads.Asked,
   inside-reads.Learnt,
 ) (argument-fits-at t) argument-fits.Post
-argument-fits-returns-2 t c = let s = (c .before .before .before .before .before .before .before) in c .tested .ensures ∙ fit-bool _ (s .args .asked .now) (s .args .levels) (s .args .v .now) (s .pre .1 .1 .0 .1) (s .pre .1 .1 .1) ((c .before) .match .keys1)
+argument-fits-returns-2 t c =
+    let s = c .before .before .before .before .before .before .before in
+    let args = s .args in
+    c .tested .ensures ∙ fit-bool _ (args .asked .now) (args .levels) (args .v .now) (s .pre .1 .1 .0 .1) (s .pre .1 .1 .1) (c .before .match .keys1)
 
 -- src/calls.rt:78:1
 argument-fits-returns-3 : (t : ℕ) → argument-fits-lts.Need-returns-3 (
@@ -233,7 +254,10 @@ argument-fits-returns-3 : (t : ℕ) → argument-fits-lts.Need-returns-3 (
   inside-reads.Asked,
   inside-reads.Learnt,
 ) (argument-fits-at t) argument-fits.Post
-argument-fits-returns-3 t c = let s = (c .before .before .before .before .before .before .before) in c .tested2 .ensures ∙ fit-long _ (s .args .asked .now) (s .args .levels) (s .args .v .now) (s .pre .1 .1 .0 .1) (s .pre .1 .1 .1) ((c .before) .match .keys2)
+argument-fits-returns-3 t c =
+    let s = c .before .before .before .before .before .before .before in
+    let args = s .args in
+    c .tested2 .ensures ∙ fit-long _ (args .asked .now) (args .levels) (args .v .now) (s .pre .1 .1 .0 .1) (s .pre .1 .1 .1) (c .before .match .keys2)
 
 -- src/calls.rt:78:1
 argument-fits-returns-4 : (t : ℕ) → argument-fits-lts.Need-returns-4 (
@@ -246,7 +270,10 @@ argument-fits-returns-4 : (t : ℕ) → argument-fits-lts.Need-returns-4 (
   inside-reads.Asked,
   inside-reads.Learnt,
 ) (argument-fits-at t) argument-fits.Post
-argument-fits-returns-4 t c = let s = (c .before .before .before .before .before .before .before) in c .tested3 .ensures ∙ fit-string _ (s .args .asked .now) (s .args .levels) (s .args .v .now) (s .pre .1 .1 .0 .1) (s .pre .1 .1 .1) ((c .before) .match .keys3)
+argument-fits-returns-4 t c =
+    let s = c .before .before .before .before .before .before .before in
+    let args = s .args in
+    c .tested3 .ensures ∙ fit-string _ (args .asked .now) (args .levels) (args .v .now) (s .pre .1 .1 .0 .1) (s .pre .1 .1 .1) (c .before .match .keys3)
 
 -- src/calls.rt:78:1
 argument-fits-returns-5 : (t : ℕ) → argument-fits-lts.Need-returns-5 (
@@ -259,10 +286,20 @@ argument-fits-returns-5 : (t : ℕ) → argument-fits-lts.Need-returns-5 (
   inside-reads.Asked,
   inside-reads.Learnt,
 ) (argument-fits-at t) argument-fits.Post
-argument-fits-returns-5 t c = let s = (c .before .before .before .before .before .before .before .before .before .before) in let m = (c .before .before .before .before) .match .rest in c .inside .ensures ∙ fit-call _ (s .args .asked .now) (s .args .levels) (s .args .v .now) (s .pre .1 .1 .0 .1) (s .pre .1 .1 .1) (m .0 .0 .1) (m .0 .1) (m .1) ((c .before .before .before) .if1 .left) ((c .before .before) .u16-at .result) ((c .before .before) .u16-at .ensures .0) ((c .before) .call-returns .result) ((c .before) .call-returns .ensures)
+argument-fits-returns-5 t c =
+    let call-returns-step = c .before .call-returns in
+    let u16-at = c .before .before .u16-at in
+    let if1 = c .before .before .before .if1 in
+    let match-rest = c .before .before .before .before .match in
+    let s = c .before .before .before .before .before .before .before .before .before .before in
+    let m = match-rest .rest in
+    let args = s .args in
+    c .inside .ensures ∙ fit-call _ (args .asked .now) (args .levels) (args .v .now) (s .pre .1 .1 .0 .1) (s .pre .1 .1 .1) (m .0 .0 .1) (m .0 .1) (m .1)
+    (if1 .left) (u16-at .result) (u16-at .ensures .0) (call-returns-step .result) (call-returns-step .ensures)
 
 abbrev arguments-fit-Inv-loop : arguments-fit-lts.InvT-loop
-arguments-fit-Inv-loop schema sections asked v levels n end e₀ b₀ left₀ k₀ e b left k = ArgumentsAhead levels (decS standard schema) (ofArguments shorter (decS standard schema) (argumentsOf levels v) (argsOf asked)) left e b k
+arguments-fit-Inv-loop schema sections asked v levels n end e₀ b₀ left₀ k₀ e b left k =
+    ArgumentsAhead levels (decS standard schema) (ofArguments shorter (decS standard schema) (argumentsOf levels v) (argsOf asked)) left e b k
 
 abbrev arguments-fit-μ-loop : arguments-fit-lts.MeasureT-loop
 arguments-fit-μ-loop schema sections asked v levels n end e₀ b₀ left₀ k₀ e b left k = left
@@ -274,7 +311,8 @@ arguments-fit-u16-at-requires : (t : ℕ) → arguments-fit-lts.Need-u16-at-requ
   argument-fits-below t,
   argument-fits.Post,
 ) (arguments-fit-at t) arguments-fit.Post arguments-fit-Inv-loop arguments-fit-μ-loop
-arguments-fit-u16-at-requires t c κs = let s = (c .before .before .before) in omega (arith, table-count memberRow (λ _. wholeV (s .args .levels)) tt 3 (s .args .v .now) (s .pre .1 .1 .1))
+arguments-fit-u16-at-requires t c κs =
+    let s = (c .before .before .before) in omega (arith, table-count memberRow (λ _. wholeV (s .args .levels)) tt 3 (s .args .v .now) (s .pre .1 .1 .1))
 
 -- src/calls.rt:55:19
 arguments-fit-mul-end : (t : ℕ) → arguments-fit-lts.Need-mul-end (
@@ -301,7 +339,13 @@ arguments-fit-sub-e : (t : ℕ) → arguments-fit-lts.Need-sub-e (
   argument-fits-below t,
   argument-fits.Post,
 ) (arguments-fit-at t) arguments-fit.Post arguments-fit-Inv-loop arguments-fit-μ-loop
-arguments-fit-sub-e t c = let s = (c .before .before .before .before) in omega (arith, table-entries memberRow (λ _. wholeV (s .args .levels)) tt 3 (s .args .v .now) (s .pre .1 .1 .1) (c .u16-at .result) (c .u16-at .ensures .0))
+arguments-fit-sub-e t c =
+    let s = (c .before .before .before .before) in
+    omega (
+      arith,
+      table-entries memberRow (λ _. wholeV (s .args .levels)) tt 3 (s .args .v .now) (s .pre .1 .1 .1) (c .u16-at .result)
+          (c .u16-at .ensures .0),
+    )
 
 -- src/calls.rt:56:17
 arguments-fit-part-e-start : (t : ℕ) → arguments-fit-lts.Need-part-e-start (
@@ -319,7 +363,13 @@ arguments-fit-part-e-end : (t : ℕ) → arguments-fit-lts.Need-part-e-end (
   argument-fits-below t,
   argument-fits.Post,
 ) (arguments-fit-at t) arguments-fit.Post arguments-fit-Inv-loop arguments-fit-μ-loop
-arguments-fit-part-e-end t c = let s = (c .before .before .before .before) in omega (arith, table-entries memberRow (λ _. wholeV (s .args .levels)) tt 3 (s .args .v .now) (s .pre .1 .1 .1) (c .u16-at .result) (c .u16-at .ensures .0))
+arguments-fit-part-e-end t c =
+    let s = (c .before .before .before .before) in
+    omega (
+      arith,
+      table-entries memberRow (λ _. wholeV (s .args .levels)) tt 3 (s .args .v .now) (s .pre .1 .1 .1) (c .u16-at .result)
+          (c .u16-at .ensures .0),
+    )
 
 -- src/calls.rt:57:17
 arguments-fit-sub-b : (t : ℕ) → arguments-fit-lts.Need-sub-b (
@@ -328,7 +378,10 @@ arguments-fit-sub-b : (t : ℕ) → arguments-fit-lts.Need-sub-b (
   argument-fits-below t,
   argument-fits.Post,
 ) (arguments-fit-at t) arguments-fit.Post arguments-fit-Inv-loop arguments-fit-μ-loop
-arguments-fit-sub-b t c = let s = (c .before .before .before .before .before) in omega (arith, table-entries memberRow (λ _. wholeV (s .args .levels)) tt 3 (s .args .v .now) (s .pre .1 .1 .1) ((c .before) .u16-at .result) ((c .before) .u16-at .ensures .0))
+arguments-fit-sub-b t c =
+    let u16-at = c .before .u16-at in
+    let s = c .before .before .before .before .before in
+    omega (arith, table-entries memberRow (λ _. wholeV (s .args .levels)) tt 3 (s .args .v .now) (s .pre .1 .1 .1) (u16-at .result) (u16-at .ensures .0))
 
 -- src/calls.rt:57:17
 arguments-fit-part-b-start : (t : ℕ) → arguments-fit-lts.Need-part-b-start (
@@ -337,7 +390,7 @@ arguments-fit-part-b-start : (t : ℕ) → arguments-fit-lts.Need-part-b-start (
   argument-fits-below t,
   argument-fits.Post,
 ) (arguments-fit-at t) arguments-fit.Post arguments-fit-Inv-loop arguments-fit-μ-loop
-arguments-fit-part-b-start t c = let s = (c .before .before .before .before .before) in omega (arith, table-entries memberRow (λ _. wholeV (s .args .levels)) tt 3 (s .args .v .now) (s .pre .1 .1 .1) ((c .before) .u16-at .result) ((c .before) .u16-at .ensures .0))
+arguments-fit-part-b-start t c = arguments-fit-sub-b t c
 
 -- src/calls.rt:57:17
 arguments-fit-part-b-end : (t : ℕ) → arguments-fit-lts.Need-part-b-end (
@@ -355,7 +408,11 @@ arguments-fit-loop-holds : (t : ℕ) → arguments-fit-lts.Need-loop-holds (
   argument-fits-below t,
   argument-fits.Post,
 ) (arguments-fit-at t) arguments-fit.Post arguments-fit-Inv-loop arguments-fit-μ-loop
-arguments-fit-loop-holds t c = let s = (c .before .before .before .before .before .before) in arguments-start (s .args .levels) _ (s .args .v .now) (s .args .asked .now) (s .pre .1 .1 .1) (s .pre .1 .1 .0) ((c .before .before) .u16-at .result) ((c .before .before) .u16-at .ensures .0)
+arguments-fit-loop-holds t c =
+    let u16-at = c .before .before .u16-at in
+    let s = c .before .before .before .before .before .before in
+    let args = s .args in
+    arguments-start (args .levels) _ (args .v .now) (args .asked .now) (s .pre .1 .1 .1) (s .pre .1 .1 .0) (u16-at .result) (u16-at .ensures .0)
 
 -- src/calls.rt:62:13
 arguments-fit-returns : (t : ℕ) → arguments-fit-lts.Need-returns (
@@ -364,7 +421,9 @@ arguments-fit-returns : (t : ℕ) → arguments-fit-lts.Need-returns (
   argument-fits-below t,
   argument-fits.Post,
 ) (arguments-fit-at t) arguments-fit.Post arguments-fit-Inv-loop arguments-fit-μ-loop
-arguments-fit-returns t c = arguments-over ((c .before .before) .loop .inv) (c .if1 .taken)
+arguments-fit-returns t c =
+    let loop = c .before .before .loop in
+    arguments-over (loop .inv) (c .if1 .taken)
 
 -- src/calls.rt:64:13
 arguments-fit-u16-at-requires-2 : (t : ℕ) → arguments-fit-lts.Need-u16-at-requires-2 (
@@ -373,7 +432,9 @@ arguments-fit-u16-at-requires-2 : (t : ℕ) → arguments-fit-lts.Need-u16-at-re
   argument-fits-below t,
   argument-fits.Post,
 ) (arguments-fit-at t) arguments-fit.Post arguments-fit-Inv-loop arguments-fit-μ-loop
-arguments-fit-u16-at-requires-2 t c κs = omega (arith, ahead-room ((c .before .before) .loop .inv .rows) ((c .before) .loop-test .taken))
+arguments-fit-u16-at-requires-2 t c κs =
+    let loop = c .before .before .loop in
+    omega (arith, ahead-room (loop .inv .rows) (c .before .loop-test .taken))
 
 -- src/calls.rt:65:55
 arguments-fit-sub-argument-fits : (t : ℕ) → arguments-fit-lts.Need-sub-argument-fits (
@@ -400,7 +461,10 @@ arguments-fit-part-argument-fits-end : (t : ℕ) → arguments-fit-lts.Need-part
   argument-fits-below t,
   argument-fits.Post,
 ) (arguments-fit-at t) arguments-fit.Post arguments-fit-Inv-loop arguments-fit-μ-loop
-arguments-fit-part-argument-fits-end t c = omega (arith, ahead-inside ((c .before .before .before) .loop .inv .rows) ((c .before .before) .loop-test .taken) (c .u16-at2 .result) (c .u16-at2 .ensures .0))
+arguments-fit-part-argument-fits-end t c =
+    let loop-test = c .before .before .loop-test in
+    let loop = c .before .before .before .loop in
+    omega (arith, ahead-inside (loop .inv .rows) (loop-test .taken) (c .u16-at2 .result) (c .u16-at2 .ensures .0))
 
 -- src/calls.rt:65:13
 arguments-fit-argument-fits-requires : (t : ℕ) → arguments-fit-lts.Need-argument-fits-requires (
@@ -409,7 +473,14 @@ arguments-fit-argument-fits-requires : (t : ℕ) → arguments-fit-lts.Need-argu
   argument-fits-below t,
   argument-fits.Post,
 ) (arguments-fit-at t) arguments-fit.Post arguments-fit-Inv-loop arguments-fit-μ-loop
-arguments-fit-argument-fits-requires t c κs = let s = (c .before .before .before .before .before .before .before .before .before .before .before) in let a = arguments-first ((c .before .before .before .before) .loop .inv) ((c .before .before .before) .loop-test .taken) ((c .before .before) .if1 .left) ((c .before) .u16-at2 .result) ((c .before) .u16-at2 .ensures .0) in (omega (arith, s .pre .0), (s .pre .1 .0, ((a .room, a .fits), ahead-body ((c .before .before .before .before) .loop .inv .rows) ((c .before .before .before) .loop-test .taken) ((c .before) .u16-at2 .result) ((c .before) .u16-at2 .ensures .0))))
+arguments-fit-argument-fits-requires t c κs =
+    let u16-at2 = c .before .u16-at2 in
+    let if1 = c .before .before .if1 in
+    let loop-test = c .before .before .before .loop-test in
+    let loop = c .before .before .before .before .loop in
+    let s = c .before .before .before .before .before .before .before .before .before .before .before in
+    let a = arguments-first (loop .inv) (loop-test .taken) (if1 .left) (u16-at2 .result) (u16-at2 .ensures .0) in
+    (omega (arith, s .pre .0), (s .pre .1 .0, ((a .room, a .fits), ahead-body (loop .inv .rows) (loop-test .taken) (u16-at2 .result) (u16-at2 .ensures .0))))
 
 arguments-fit-enum-told : (t : ℕ) → arguments-fit-lts.Need-enum-told (
   u16-at-reads.Asked,
@@ -426,7 +497,14 @@ arguments-fit-returns-2 : (t : ℕ) → arguments-fit-lts.Need-returns-2 (
   argument-fits-below t,
   argument-fits.Post,
 ) (arguments-fit-at t) arguments-fit.Post arguments-fit-Inv-loop arguments-fit-μ-loop
-arguments-fit-returns-2 t c = let f = (c .before) .argument-fits in arguments-stop ((c .before .before .before .before .before .before) .loop .inv) ((c .before .before .before .before .before) .loop-test .taken) ((c .before .before .before .before) .if1 .left) ((c .before .before .before) .u16-at2 .result) ((c .before .before .before) .u16-at2 .ensures .0) (f .result) (f .ensures) (no-yes (f .result) (c .match .keys2))
+arguments-fit-returns-2 t c =
+    let f = c .before .argument-fits in
+    let u16-at2 = c .before .before .before .u16-at2 in
+    let if1 = c .before .before .before .before .if1 in
+    let loop-test = c .before .before .before .before .before .loop-test in
+    let loop = c .before .before .before .before .before .before .loop in
+    arguments-stop (loop .inv) (loop-test .taken) (if1 .left) (u16-at2 .result) (u16-at2 .ensures .0) (f .result) (f .ensures)
+    (no-yes (f .result) (c .match .keys2))
 
 -- src/calls.rt:69:13
 arguments-fit-sub-e-2 : (t : ℕ) → arguments-fit-lts.Need-sub-e-2 (
@@ -435,7 +513,10 @@ arguments-fit-sub-e-2 : (t : ℕ) → arguments-fit-lts.Need-sub-e-2 (
   argument-fits-below t,
   argument-fits.Post,
 ) (arguments-fit-at t) arguments-fit.Post arguments-fit-Inv-loop arguments-fit-μ-loop
-arguments-fit-sub-e-2 t c = omega (arith, ahead-room ((c .before .before .before .before .before .before .before) .loop .inv .rows) ((c .before .before .before .before .before .before) .loop-test .taken))
+arguments-fit-sub-e-2 t c =
+    let loop-test = c .before .before .before .before .before .before .loop-test in
+    let loop = c .before .before .before .before .before .before .before .loop in
+    omega (arith, ahead-room (loop .inv .rows) (loop-test .taken))
 
 -- src/calls.rt:69:13
 arguments-fit-part-e-start-2 : (t : ℕ) → arguments-fit-lts.Need-part-e-start-2 (
@@ -444,7 +525,7 @@ arguments-fit-part-e-start-2 : (t : ℕ) → arguments-fit-lts.Need-part-e-start
   argument-fits-below t,
   argument-fits.Post,
 ) (arguments-fit-at t) arguments-fit.Post arguments-fit-Inv-loop arguments-fit-μ-loop
-arguments-fit-part-e-start-2 t c = omega (arith, ahead-room ((c .before .before .before .before .before .before .before) .loop .inv .rows) ((c .before .before .before .before .before .before) .loop-test .taken))
+arguments-fit-part-e-start-2 t c = arguments-fit-sub-e-2 t c
 
 -- src/calls.rt:69:13
 arguments-fit-part-e-end-2 : (t : ℕ) → arguments-fit-lts.Need-part-e-end-2 (
@@ -462,7 +543,11 @@ arguments-fit-sub-b-2 : (t : ℕ) → arguments-fit-lts.Need-sub-b-2 (
   argument-fits-below t,
   argument-fits.Post,
 ) (arguments-fit-at t) arguments-fit.Post arguments-fit-Inv-loop arguments-fit-μ-loop
-arguments-fit-sub-b-2 t c = omega (arith, ahead-inside ((c .before .before .before .before .before .before .before .before) .loop .inv .rows) ((c .before .before .before .before .before .before .before) .loop-test .taken) ((c .before .before .before .before .before) .u16-at2 .result) ((c .before .before .before .before .before) .u16-at2 .ensures .0))
+arguments-fit-sub-b-2 t c =
+    let u16-at2 = c .before .before .before .before .before .u16-at2 in
+    let loop-test = c .before .before .before .before .before .before .before .loop-test in
+    let loop = c .before .before .before .before .before .before .before .before .loop in
+    omega (arith, ahead-inside (loop .inv .rows) (loop-test .taken) (u16-at2 .result) (u16-at2 .ensures .0))
 
 -- src/calls.rt:70:13
 arguments-fit-part-b-start-2 : (t : ℕ) → arguments-fit-lts.Need-part-b-start-2 (
@@ -471,7 +556,7 @@ arguments-fit-part-b-start-2 : (t : ℕ) → arguments-fit-lts.Need-part-b-start
   argument-fits-below t,
   argument-fits.Post,
 ) (arguments-fit-at t) arguments-fit.Post arguments-fit-Inv-loop arguments-fit-μ-loop
-arguments-fit-part-b-start-2 t c = omega (arith, ahead-inside ((c .before .before .before .before .before .before .before .before) .loop .inv .rows) ((c .before .before .before .before .before .before .before) .loop-test .taken) ((c .before .before .before .before .before) .u16-at2 .result) ((c .before .before .before .before .before) .u16-at2 .ensures .0))
+arguments-fit-part-b-start-2 t c = arguments-fit-sub-b-2 t c
 
 -- src/calls.rt:70:13
 arguments-fit-part-b-end-2 : (t : ℕ) → arguments-fit-lts.Need-part-b-end-2 (
@@ -489,7 +574,13 @@ arguments-fit-sub-k : (t : ℕ) → arguments-fit-lts.Need-sub-k (
   argument-fits-below t,
   argument-fits.Post,
 ) (arguments-fit-at t) arguments-fit.Post arguments-fit-Inv-loop arguments-fit-μ-loop
-arguments-fit-sub-k t c = let a = arguments-first ((c .before .before .before .before .before .before .before .before .before) .loop .inv) ((c .before .before .before .before .before .before .before .before) .loop-test .taken) ((c .before .before .before .before .before .before .before) .if1 .left) ((c .before .before .before .before .before .before) .u16-at2 .result) ((c .before .before .before .before .before .before) .u16-at2 .ensures .0) in omega (arith, a .room)
+arguments-fit-sub-k t c =
+    let u16-at2 = c .before .before .before .before .before .before .u16-at2 in
+    let if1 = c .before .before .before .before .before .before .before .if1 in
+    let loop-test = c .before .before .before .before .before .before .before .before .loop-test in
+    let loop = c .before .before .before .before .before .before .before .before .before .loop in
+    let a = arguments-first (loop .inv) (loop-test .taken) (if1 .left) (u16-at2 .result) (u16-at2 .ensures .0) in
+    omega (arith, a .room)
 
 -- src/calls.rt:71:13
 arguments-fit-part-k-start : (t : ℕ) → arguments-fit-lts.Need-part-k-start (
@@ -498,7 +589,7 @@ arguments-fit-part-k-start : (t : ℕ) → arguments-fit-lts.Need-part-k-start (
   argument-fits-below t,
   argument-fits.Post,
 ) (arguments-fit-at t) arguments-fit.Post arguments-fit-Inv-loop arguments-fit-μ-loop
-arguments-fit-part-k-start t c = let a = arguments-first ((c .before .before .before .before .before .before .before .before .before) .loop .inv) ((c .before .before .before .before .before .before .before .before) .loop-test .taken) ((c .before .before .before .before .before .before .before) .if1 .left) ((c .before .before .before .before .before .before) .u16-at2 .result) ((c .before .before .before .before .before .before) .u16-at2 .ensures .0) in omega (arith, a .room)
+arguments-fit-part-k-start t c = arguments-fit-sub-k t c
 
 -- src/calls.rt:71:13
 arguments-fit-part-k-end : (t : ℕ) → arguments-fit-lts.Need-part-k-end (
@@ -534,7 +625,14 @@ arguments-fit-loop-again : (t : ℕ) → arguments-fit-lts.Need-loop-again (
   argument-fits-below t,
   argument-fits.Post,
 ) (arguments-fit-at t) arguments-fit.Post arguments-fit-Inv-loop arguments-fit-μ-loop
-arguments-fit-loop-again t c = let f = (c .before .before .before .before .before) .argument-fits in arguments-again ((c .before .before .before .before .before .before .before .before .before .before) .loop .inv) ((c .before .before .before .before .before .before .before .before .before) .loop-test .taken) ((c .before .before .before .before .before .before .before .before) .if1 .left) ((c .before .before .before .before .before .before .before) .u16-at2 .result) ((c .before .before .before .before .before .before .before) .u16-at2 .ensures .0) (f .result) (f .ensures) ((c .before .before .before) .enum-told .given .1)
+arguments-fit-loop-again t c =
+    let enum-told = c .before .before .before .enum-told in
+    let f = c .before .before .before .before .before .argument-fits in
+    let u16-at2 = c .before .before .before .before .before .before .before .u16-at2 in
+    let if1 = c .before .before .before .before .before .before .before .before .if1 in
+    let loop-test = c .before .before .before .before .before .before .before .before .before .loop-test in
+    let loop = c .before .before .before .before .before .before .before .before .before .before .loop in
+    arguments-again (loop .inv) (loop-test .taken) (if1 .left) (u16-at2 .result) (u16-at2 .ensures .0) (f .result) (f .ensures) (enum-told .given .1)
 
 -- src/calls.rt:48:1
 arguments-fit-returns-3 : (t : ℕ) → arguments-fit-lts.Need-returns-3 (
@@ -554,7 +652,8 @@ call-returns-u16-at-requires : (t : ℕ) → call-returns-lts.Need-u16-at-requir
   arguments-fit-below t,
   arguments-fit.Post,
 ) (call-returns-at t) call-returns.Post
-call-returns-u16-at-requires t c κs = let s = (c .before .before) in omega (arith, table-count memberRow (λ _. wholeV (s .args .levels)) tt 3 (s .args .v .now) (s .pre .1 .1))
+call-returns-u16-at-requires t c κs =
+    let s = (c .before .before) in omega (arith, table-count memberRow (λ _. wholeV (s .args .levels)) tt 3 (s .args .v .now) (s .pre .1 .1))
 
 -- src/calls.rt:33:32
 call-returns-find-function-requires : (t : ℕ) → call-returns-lts.Need-find-function-requires (
@@ -565,7 +664,9 @@ call-returns-find-function-requires : (t : ℕ) → call-returns-lts.Need-find-f
   arguments-fit-below t,
   arguments-fit.Post,
 ) (call-returns-at t) call-returns.Post
-call-returns-find-function-requires t c κs = (c .before .before .before) .pre .1 .0
+call-returns-find-function-requires t c κs =
+    let pre = c .before .before .before .pre in
+    pre .1 .0
 
 -- src/calls.rt:33:27
 call-returns-enum-known-f : (t : ℕ) → call-returns-lts.Need-enum-known-f (
@@ -598,7 +699,14 @@ call-returns-returns : (t : ℕ) → call-returns-lts.Need-returns (
   arguments-fit-below t,
   arguments-fit.Post,
 ) (call-returns-at t) call-returns.Post
-call-returns-returns t c = let s = (c .before .before .before .before .before .before) in let y = (c .before .before) .find-function in call-unknown (decS standard (s .args .schema .now)) ((c .before .before .before) .u16-at .result) (rd (s .args .v .now) 1) (s .args .extension) ((c .before .before .before) .u16-at .ensures .0) (argumentsOf (s .args .levels) (s .args .v .now)) (function-not (s .pre .1 .0) ((c .before .before .before) .u16-at .result) (y .result) (y .ensures) (c .enum-told .given .1))
+call-returns-returns t c =
+    let y = c .before .before .find-function in
+    let u16-at = c .before .before .before .u16-at in
+    let s = c .before .before .before .before .before .before in
+    let args = s .args in
+    let by-function-not = function-not (s .pre .1 .0) (u16-at .result) (y .result) (y .ensures) (c .enum-told .given .1) in
+    call-unknown (decS standard (args .schema .now)) (u16-at .result) (rd (args .v .now) 1) (args .extension) (u16-at .ensures .0)
+    (argumentsOf (args .levels) (args .v .now)) by-function-not
 
 -- src/calls.rt:37:9
 call-returns-returns-2 : (t : ℕ) → call-returns-lts.Need-returns-2 (
@@ -609,7 +717,16 @@ call-returns-returns-2 : (t : ℕ) → call-returns-lts.Need-returns-2 (
   arguments-fit-below t,
   arguments-fit.Post,
 ) (call-returns-at t) call-returns.Post
-call-returns-returns-2 t c = let s = (c .before .before .before .before .before .before .before .before .before) in let y = (c .before .before .before .before .before) .find-function in let f = (c .before .before .before) .f .given .0 .0 in let g = function-at (s .pre .1 .0) ((c .before .before .before .before .before .before) .u16-at .result) (y .result) (y .ensures) f ((c .before .before .before) .f .given .1) in call-none (decS standard (s .args .schema .now)) ((c .before .before .before .before .before .before) .u16-at .result) (rd (s .args .v .now) 1) (s .args .extension) ((c .before .before .before .before .before .before) .u16-at .ensures .0) (argumentsOf (s .args .levels) (s .args .v .now)) (f .returns) (f .extension) _ (g .is) (c .if1 .taken)
+call-returns-returns-2 t c =
+    let f-step = c .before .before .before .f in
+    let y = c .before .before .before .before .before .find-function in
+    let u16-at = c .before .before .before .before .before .before .u16-at in
+    let s = c .before .before .before .before .before .before .before .before .before in
+    let f = f-step .given .0 .0 in
+    let g = function-at (s .pre .1 .0) (u16-at .result) (y .result) (y .ensures) f (f-step .given .1) in
+    let args = s .args in
+    call-none (decS standard (args .schema .now)) (u16-at .result) (rd (args .v .now) 1) (args .extension) (u16-at .ensures .0)
+    (argumentsOf (args .levels) (args .v .now)) (f .returns) (f .extension) _ (g .is) (c .if1 .taken)
 
 -- src/calls.rt:40:9
 call-returns-returns-3 : (t : ℕ) → call-returns-lts.Need-returns-3 (
@@ -620,7 +737,17 @@ call-returns-returns-3 : (t : ℕ) → call-returns-lts.Need-returns-3 (
   arguments-fit-below t,
   arguments-fit.Post,
 ) (call-returns-at t) call-returns.Post
-call-returns-returns-3 t c = let s = (c .before .before .before .before .before .before .before .before .before .before .before) in let y = (c .before .before .before .before .before .before .before) .find-function in let f = (c .before .before .before .before .before) .f .given .0 .0 in let g = function-at (s .pre .1 .0) ((c .before .before .before .before .before .before .before .before) .u16-at .result) (y .result) (y .ensures) f ((c .before .before .before .before .before) .f .given .1) in call-other (decS standard (s .args .schema .now)) ((c .before .before .before .before .before .before .before .before) .u16-at .result) (rd (s .args .v .now) 1) (s .args .extension) ((c .before .before .before .before .before .before .before .before) .u16-at .ensures .0) (argumentsOf (s .args .levels) (s .args .v .now)) (f .returns) (f .extension) _ (g .is) ((c .before .before) .if1 .left) (c .if2 .taken)
+call-returns-returns-3 t c =
+    let if1 = c .before .before .if1 in
+    let f-step = c .before .before .before .before .before .f in
+    let y = c .before .before .before .before .before .before .before .find-function in
+    let u16-at = c .before .before .before .before .before .before .before .before .u16-at in
+    let s = c .before .before .before .before .before .before .before .before .before .before .before in
+    let f = f-step .given .0 .0 in
+    let g = function-at (s .pre .1 .0) (u16-at .result) (y .result) (y .ensures) f (f-step .given .1) in
+    let args = s .args in
+    call-other (decS standard (args .schema .now)) (u16-at .result) (rd (args .v .now) 1) (args .extension) (u16-at .ensures .0)
+    (argumentsOf (args .levels) (args .v .now)) (f .returns) (f .extension) _ (g .is) (if1 .left) (c .if2 .taken)
 
 -- src/calls.rt:44:37
 call-returns-sub-arguments-fit : (t : ℕ) → call-returns-lts.Need-sub-arguments-fit (
@@ -631,7 +758,14 @@ call-returns-sub-arguments-fit : (t : ℕ) → call-returns-lts.Need-sub-argumen
   arguments-fit-below t,
   arguments-fit.Post,
 ) (call-returns-at t) call-returns.Post
-call-returns-sub-arguments-fit t c = let s = (c .before .before .before .before .before .before .before .before .before .before .before) in let y = (c .before .before .before .before .before .before .before) .find-function in let f = (c .before .before .before .before .before) .f .given .0 .0 in let g = function-at (s .pre .1 .0) ((c .before .before .before .before .before .before .before .before) .u16-at .result) (y .result) (y .ensures) f ((c .before .before .before .before .before) .f .given .1) in omega (arith, g .order, g .inside)
+call-returns-sub-arguments-fit t c =
+    let f-step = c .before .before .before .before .before .f in
+    let y = c .before .before .before .before .before .before .before .find-function in
+    let u16-at = c .before .before .before .before .before .before .before .before .u16-at in
+    let s = c .before .before .before .before .before .before .before .before .before .before .before in
+    let f = f-step .given .0 .0 in
+    let g = function-at (s .pre .1 .0) (u16-at .result) (y .result) (y .ensures) f (f-step .given .1) in
+    omega (arith, g .order, g .inside)
 
 -- src/calls.rt:44:37
 call-returns-part-arguments-fit-start : (t : ℕ) → call-returns-lts.Need-part-arguments-fit-start (
@@ -642,7 +776,7 @@ call-returns-part-arguments-fit-start : (t : ℕ) → call-returns-lts.Need-part
   arguments-fit-below t,
   arguments-fit.Post,
 ) (call-returns-at t) call-returns.Post
-call-returns-part-arguments-fit-start t c = let s = (c .before .before .before .before .before .before .before .before .before .before .before) in let y = (c .before .before .before .before .before .before .before) .find-function in let f = (c .before .before .before .before .before) .f .given .0 .0 in let g = function-at (s .pre .1 .0) ((c .before .before .before .before .before .before .before .before) .u16-at .result) (y .result) (y .ensures) f ((c .before .before .before .before .before) .f .given .1) in omega (arith, g .order, g .inside)
+call-returns-part-arguments-fit-start t c = call-returns-sub-arguments-fit t c
 
 -- src/calls.rt:44:37
 call-returns-part-arguments-fit-end : (t : ℕ) → call-returns-lts.Need-part-arguments-fit-end (
@@ -653,7 +787,14 @@ call-returns-part-arguments-fit-end : (t : ℕ) → call-returns-lts.Need-part-a
   arguments-fit-below t,
   arguments-fit.Post,
 ) (call-returns-at t) call-returns.Post
-call-returns-part-arguments-fit-end t c = let s = (c .before .before .before .before .before .before .before .before .before .before .before) in let y = (c .before .before .before .before .before .before .before) .find-function in let f = (c .before .before .before .before .before) .f .given .0 .0 in let g = function-at (s .pre .1 .0) ((c .before .before .before .before .before .before .before .before) .u16-at .result) (y .result) (y .ensures) f ((c .before .before .before .before .before) .f .given .1) in omega (arith, g .order, g .inside)
+call-returns-part-arguments-fit-end t c =
+    let f-step = c .before .before .before .before .before .f in
+    let y = c .before .before .before .before .before .before .before .find-function in
+    let u16-at = c .before .before .before .before .before .before .before .before .u16-at in
+    let s = c .before .before .before .before .before .before .before .before .before .before .before in
+    let f = f-step .given .0 .0 in
+    let g = function-at (s .pre .1 .0) (u16-at .result) (y .result) (y .ensures) f (f-step .given .1) in
+    omega (arith, g .order, g .inside)
 
 -- src/calls.rt:44:5
 call-returns-arguments-fit-requires : (t : ℕ) → call-returns-lts.Need-arguments-fit-requires (
@@ -664,7 +805,15 @@ call-returns-arguments-fit-requires : (t : ℕ) → call-returns-lts.Need-argume
   arguments-fit-below t,
   arguments-fit.Post,
 ) (call-returns-at t) call-returns.Post
-call-returns-arguments-fit-requires t c κs = let s = (c .before .before .before .before .before .before .before .before .before .before .before .before) in let y = (c .before .before .before .before .before .before .before .before) .find-function in let f = (c .before .before .before .before .before .before) .f .given .0 .0 in let g = function-at (s .pre .1 .0) ((c .before .before .before .before .before .before .before .before .before) .u16-at .result) (y .result) (y .ensures) f ((c .before .before .before .before .before .before) .f .given .1) in (omega (arith, s .pre .0), (s .pre .1 .0, (g .args, s .pre .1 .1)))
+call-returns-arguments-fit-requires t c κs =
+    let f-step = c .before .before .before .before .before .before .f in
+    let y = c .before .before .before .before .before .before .before .before .find-function in
+    let u16-at = c .before .before .before .before .before .before .before .before .before .u16-at in
+    let s = c .before .before .before .before .before .before .before .before .before .before .before .before in
+    let f = f-step .given .0 .0 in
+    let pre = s .pre in
+    let g = function-at (pre .1 .0) (u16-at .result) (y .result) (y .ensures) f (f-step .given .1) in
+    (omega (arith, pre .0), (pre .1 .0, (g .args, pre .1 .1)))
 
 -- src/calls.rt:27:1
 call-returns-returns-4 : (t : ℕ) → call-returns-lts.Need-returns-4 (
@@ -675,7 +824,19 @@ call-returns-returns-4 : (t : ℕ) → call-returns-lts.Need-returns-4 (
   arguments-fit-below t,
   arguments-fit.Post,
 ) (call-returns-at t) call-returns.Post
-call-returns-returns-4 t c = let s = (c .before .before .before .before .before .before .before .before .before .before .before .before .before) in let y = (c .before .before .before .before .before .before .before .before .before) .find-function in let f = (c .before .before .before .before .before .before .before) .f .given .0 .0 in let g = function-at (s .pre .1 .0) ((c .before .before .before .before .before .before .before .before .before .before) .u16-at .result) (y .result) (y .ensures) f ((c .before .before .before .before .before .before .before) .f .given .1) in c .arguments-fit .ensures ∙ call-arguments (decS standard (s .args .schema .now)) ((c .before .before .before .before .before .before .before .before .before .before) .u16-at .result) (rd (s .args .v .now) 1) (s .args .extension) ((c .before .before .before .before .before .before .before .before .before .before) .u16-at .ensures .0) (argumentsOf (s .args .levels) (s .args .v .now)) (f .returns) (f .extension) _ (g .is) ((c .before .before .before .before) .if1 .left) ((c .before .before) .if2 .left)
+call-returns-returns-4 t c =
+    let if2 = c .before .before .if2 in
+    let if1 = c .before .before .before .before .if1 in
+    let f-step = c .before .before .before .before .before .before .before .f in
+    let after-find-function = c .before .before .before .before .before .before .before .before .before in
+    let y = after-find-function .find-function in
+    let u16-at = after-find-function .before .u16-at in
+    let s = after-find-function .before .before .before .before in
+    let f = f-step .given .0 .0 in
+    let g = function-at (s .pre .1 .0) (u16-at .result) (y .result) (y .ensures) f (f-step .given .1) in
+    let args = s .args in
+    c .arguments-fit .ensures ∙ call-arguments (decS standard (args .schema .now)) (u16-at .result) (rd (args .v .now) 1) (args .extension) (u16-at .ensures .0)
+    (argumentsOf (args .levels) (args .v .now)) (f .returns) (f .extension) _ (g .is) (if1 .left) (if2 .left)
 
 pub +argument-fits+arguments-fit+call-returns-spec : {M : Type 1} → statement M
 +argument-fits+arguments-fit+call-returns-spec =

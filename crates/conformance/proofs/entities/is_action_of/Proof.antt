@@ -15,11 +15,17 @@ is-action-requires c κs = search needs
 
 -- src/entities.rt:18:9
 returns : tie.Need-returns
-returns c = let f = (c .before) .is-action in and-not-l (isAction ((c .before .before) .args .name)) _ (sym (f .ensures) ∙ not-true (f .result) (c .if1 .taken))
+returns c =
+    let f = c .before .is-action in
+    let args = c .before .before .args in
+    and-not-l (isAction (args .name)) _ (sym (f .ensures) ∙ not-true (f .result) (c .if1 .taken))
 
 -- src/entities.rt:14:1
 returns-2 : tie.Need-returns-2
-returns-2 c = let f = (c .before) .is-action in sym (and-yes (isAction ((c .before .before) .args .name)) _ (sym (f .ensures) ∙ not-false (f .result) (c .if1 .left)))
+returns-2 c =
+    let f = c .before .is-action in
+    let args = c .before .before .args in
+    sym (and-yes (isAction (args .name)) _ (sym (f .ensures) ∙ not-false (f .result) (c .if1 .left)))
 
 pub is-action-of-spec : {M : Type 1} → statement M
 is-action-of-spec = tie.close (tie.spec is-action-requires returns returns-2)

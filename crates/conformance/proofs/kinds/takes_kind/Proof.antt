@@ -57,7 +57,12 @@ returns-12 c = sym (ap (λ (n : ℕ). takes n ((c .before) .args .j)) (c .match 
 
 -- src/kinds.rt:8:1
 returns-13 : tie.Need-returns-13
-returns-13 c = let m = c .match .rest in takes-rest ((c .before) .args .k) ((c .before) .args .j) (m .0 .0 .0 .0 .0 .0 .0 .0 .0 .0 .0 .1) (m .0 .0 .0 .0 .0 .0 .0 .0 .0 .0 .1) (m .0 .0 .0 .0 .0 .0 .0 .0 .0 .1) (m .0 .0 .0 .0 .0 .0 .0 .0 .1) (m .0 .0 .0 .0 .0 .0 .0 .1) (m .0 .0 .0 .0 .0 .0 .1) (m .0 .0 .0 .0 .0 .1) (m .0 .0 .0 .0 .1) (m .0 .0 .0 .1) (m .0 .0 .1) (m .0 .1) (m .1)
+returns-13 c =
+    let args = c .before .args in
+    let m = c .match .rest in
+    takes-rest (args .k) (args .j) (m .0 .0 .0 .0 .0 .0 .0 .0 .0 .0 .0 .1) (m .0 .0 .0 .0 .0 .0 .0 .0 .0 .0 .1) (m .0 .0 .0 .0 .0 .0 .0 .0 .0 .1)
+    (m .0 .0 .0 .0 .0 .0 .0 .0 .1) (m .0 .0 .0 .0 .0 .0 .0 .1) (m .0 .0 .0 .0 .0 .0 .1) (m .0 .0 .0 .0 .0 .1) (m .0 .0 .0 .0 .1) (m .0 .0 .0 .1)
+    (m .0 .0 .1) (m .0 .1) (m .1)
 
 pub takes-kind-spec : {M : Type 1} → statement M
 takes-kind-spec =

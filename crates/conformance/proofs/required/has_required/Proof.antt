@@ -1,4 +1,5 @@
-use Rattle.conformance.specs.Laws.Required.{RequiredAhead, records-type, records-value, records-attrs, records-pairs, required-start, required-end, required-skip, required-not, required-again}
+use Rattle.conformance.specs.Laws.Required.{RequiredAhead, records-type, records-value, records-attrs, records-pairs, required-start, required-end}
+use Rattle.conformance.specs.Laws.Required.{required-skip, required-not, required-again}
 use Rattle.conformance.specs.Laws.Pairs.{pairs-laid, passed}
 use Rattle.conformance.specs.Laws.Ahead.{ahead-room}
 use Rattle.forms.specs.Parts.{rd, rest}
@@ -45,7 +46,12 @@ add-q c = search needs
 
 -- src/required.rt:37:17
 sub-f : tie.Need-sub-f Inv-loop μ-loop
-sub-f c = let s = (c .before .before .before .before) in omega (arith, records-attrs (s .args .t .now) (s .args .v .now) (s .pre) ((c .before) .u16-at .result) (c .u16-at2 .result) ((c .before) .u16-at .ensures .0) (c .u16-at2 .ensures .0))
+sub-f c =
+    let u16-at = c .before .u16-at in
+    let s = c .before .before .before .before in
+    let by-records-attrs = records-attrs (s .args .t .now) (s .args .v .now) (s .pre) (u16-at .result) (c .u16-at2 .result) (u16-at .ensures .0)
+    (c .u16-at2 .ensures .0) in
+    omega (arith, by-records-attrs)
 
 -- src/required.rt:37:17
 part-f-start : tie.Need-part-f-start Inv-loop μ-loop
@@ -53,11 +59,20 @@ part-f-start c = search needs
 
 -- src/required.rt:37:17
 part-f-end : tie.Need-part-f-end Inv-loop μ-loop
-part-f-end c = let s = (c .before .before .before .before) in omega (arith, records-attrs (s .args .t .now) (s .args .v .now) (s .pre) ((c .before) .u16-at .result) (c .u16-at2 .result) ((c .before) .u16-at .ensures .0) (c .u16-at2 .ensures .0))
+part-f-end c =
+    let u16-at = c .before .u16-at in
+    let s = c .before .before .before .before in
+    let by-records-attrs = records-attrs (s .args .t .now) (s .args .v .now) (s .pre) (u16-at .result) (c .u16-at2 .result) (u16-at .ensures .0)
+    (c .u16-at2 .ensures .0) in
+    omega (arith, by-records-attrs)
 
 -- src/required.rt:38:17
 sub-e : tie.Need-sub-e Inv-loop μ-loop
-sub-e c = let s = (c .before .before .before .before .before) in omega (arith, records-pairs (s .args .t .now) (s .args .v .now) (s .pre) ((c .before .before) .u16-at .result) ((c .before) .u16-at2 .result) ((c .before .before) .u16-at .ensures .0) ((c .before) .u16-at2 .ensures .0))
+sub-e c =
+    let u16-at2 = c .before .u16-at2 in
+    let u16-at = c .before .before .u16-at in
+    let s = c .before .before .before .before .before in
+    omega (arith, records-pairs (s .args .t .now) (s .args .v .now) (s .pre) (u16-at .result) (u16-at2 .result) (u16-at .ensures .0) (u16-at2 .ensures .0))
 
 -- src/required.rt:38:17
 part-e-start : tie.Need-part-e-start Inv-loop μ-loop
@@ -65,15 +80,23 @@ part-e-start c = search needs
 
 -- src/required.rt:38:17
 part-e-end : tie.Need-part-e-end Inv-loop μ-loop
-part-e-end c = let s = (c .before .before .before .before .before) in omega (arith, records-pairs (s .args .t .now) (s .args .v .now) (s .pre) ((c .before .before) .u16-at .result) ((c .before) .u16-at2 .result) ((c .before .before) .u16-at .ensures .0) ((c .before) .u16-at2 .ensures .0))
+part-e-end c =
+    let u16-at2 = c .before .u16-at2 in
+    let u16-at = c .before .before .u16-at in
+    let s = c .before .before .before .before .before in
+    omega (arith, records-pairs (s .args .t .now) (s .args .v .now) (s .pre) (u16-at .result) (u16-at2 .result) (u16-at .ensures .0) (u16-at2 .ensures .0))
 
 -- src/required.rt:39:17
 sub-b : tie.Need-sub-b Inv-loop μ-loop
-sub-b c = let s = (c .before .before .before .before .before .before) in omega (arith, records-pairs (s .args .t .now) (s .args .v .now) (s .pre) ((c .before .before .before) .u16-at .result) ((c .before .before) .u16-at2 .result) ((c .before .before .before) .u16-at .ensures .0) ((c .before .before) .u16-at2 .ensures .0))
+sub-b c =
+    let u16-at2 = c .before .before .u16-at2 in
+    let u16-at = c .before .before .before .u16-at in
+    let s = c .before .before .before .before .before .before in
+    omega (arith, records-pairs (s .args .t .now) (s .args .v .now) (s .pre) (u16-at .result) (u16-at2 .result) (u16-at .ensures .0) (u16-at2 .ensures .0))
 
 -- src/required.rt:39:17
 part-b-start : tie.Need-part-b-start Inv-loop μ-loop
-part-b-start c = let s = (c .before .before .before .before .before .before) in omega (arith, records-pairs (s .args .t .now) (s .args .v .now) (s .pre) ((c .before .before .before) .u16-at .result) ((c .before .before) .u16-at2 .result) ((c .before .before .before) .u16-at .ensures .0) ((c .before .before) .u16-at2 .ensures .0))
+part-b-start c = sub-b c
 
 -- src/required.rt:39:17
 part-b-end : tie.Need-part-b-end Inv-loop μ-loop
@@ -81,7 +104,12 @@ part-b-end c = search needs
 
 -- src/required.rt:42:5
 loop-holds : tie.Need-loop-holds Inv-loop μ-loop
-loop-holds c = let s = (c .before .before .before .before .before .before .before) in required-start (s .args .t .now) (s .args .v .now) (s .pre) ((c .before .before .before .before) .u16-at .result) ((c .before .before .before) .u16-at2 .result) ((c .before .before .before .before) .u16-at .ensures .0) ((c .before .before .before) .u16-at2 .ensures .0) ((c .before .before .before) .u16-at2 .ensures .1)
+loop-holds c =
+    let u16-at2 = c .before .before .before .u16-at2 in
+    let u16-at = c .before .before .before .before .u16-at in
+    let s = c .before .before .before .before .before .before .before in
+    required-start (s .args .t .now) (s .args .v .now) (s .pre) (u16-at .result) (u16-at2 .result) (u16-at .ensures .0) (u16-at2 .ensures .0)
+    (u16-at2 .ensures .1)
 
 -- src/required.rt:43:53
 u16-at-requires-3 : tie.Need-u16-at-requires-3 Inv-loop μ-loop
@@ -89,19 +117,29 @@ u16-at-requires-3 c κs = omega (arith, ahead-room ((c .before) .loop .inv .attr
 
 -- src/required.rt:43:13
 skip-below-requires : tie.Need-skip-below-requires Inv-loop μ-loop
-skip-below-requires c κs = pairs-laid ((c .before .before) .loop .inv .rows)
+skip-below-requires c κs =
+    let loop = c .before .before .loop in
+    pairs-laid (loop .inv .rows)
 
 -- src/required.rt:46:18
 mul-at : tie.Need-mul-at Inv-loop μ-loop
-mul-at c = let k = c .skip-below in let g = passed ((c .before .before .before) .loop .inv .rows) ((c .before) .u16-at3 .result) (k .result .entries) (k .result .bytes) (k .ensures .0) (k .ensures .1) in omega (arith, g .most, (c .before .before .before) .loop .inv .few)
+mul-at c =
+    let loop = c .before .before .before .loop in
+    let k = c .skip-below in
+    let g = passed (loop .inv .rows) (c .before .u16-at3 .result) (k .result .entries) (k .result .bytes) (k .ensures .0) (k .ensures .1) in
+    omega (arith, g .most, loop .inv .few)
 
 -- src/required.rt:47:13
 sub-e-2 : tie.Need-sub-e-2 Inv-loop μ-loop
-sub-e-2 c = let k = c .skip-below in let g = passed ((c .before .before .before) .loop .inv .rows) ((c .before) .u16-at3 .result) (k .result .entries) (k .result .bytes) (k .ensures .0) (k .ensures .1) in omega (arith, g .room)
+sub-e-2 c =
+    let loop = c .before .before .before .loop in
+    let k = c .skip-below in
+    let g = passed (loop .inv .rows) (c .before .u16-at3 .result) (k .result .entries) (k .result .bytes) (k .ensures .0) (k .ensures .1) in
+    omega (arith, g .room)
 
 -- src/required.rt:47:13
 part-e-start-2 : tie.Need-part-e-start-2 Inv-loop μ-loop
-part-e-start-2 c = let k = c .skip-below in let g = passed ((c .before .before .before) .loop .inv .rows) ((c .before) .u16-at3 .result) (k .result .entries) (k .result .bytes) (k .ensures .0) (k .ensures .1) in omega (arith, g .room)
+part-e-start-2 c = sub-e-2 c
 
 -- src/required.rt:47:13
 part-e-end-2 : tie.Need-part-e-end-2 Inv-loop μ-loop
@@ -109,11 +147,16 @@ part-e-end-2 c = search needs
 
 -- src/required.rt:48:13
 sub-b-2 : tie.Need-sub-b-2 Inv-loop μ-loop
-sub-b-2 c = let k = (c .before) .skip-below in let g = passed ((c .before .before .before .before) .loop .inv .rows) ((c .before .before) .u16-at3 .result) (k .result .entries) (k .result .bytes) (k .ensures .0) (k .ensures .1) in omega (arith, g .inside)
+sub-b-2 c =
+    let k = c .before .skip-below in
+    let u16-at3 = c .before .before .u16-at3 in
+    let loop = c .before .before .before .before .loop in
+    let g = passed (loop .inv .rows) (u16-at3 .result) (k .result .entries) (k .result .bytes) (k .ensures .0) (k .ensures .1) in
+    omega (arith, g .inside)
 
 -- src/required.rt:48:13
 part-b-start-2 : tie.Need-part-b-start-2 Inv-loop μ-loop
-part-b-start-2 c = let k = (c .before) .skip-below in let g = passed ((c .before .before .before .before) .loop .inv .rows) ((c .before .before) .u16-at3 .result) (k .result .entries) (k .result .bytes) (k .ensures .0) (k .ensures .1) in omega (arith, g .inside)
+part-b-start-2 c = sub-b-2 c
 
 -- src/required.rt:48:13
 part-b-end-2 : tie.Need-part-b-end-2 Inv-loop μ-loop
@@ -121,23 +164,48 @@ part-b-end-2 c = search needs
 
 -- src/required.rt:49:9
 sub-left : tie.Need-sub-left Inv-loop μ-loop
-sub-left c = let k = (c .before .before) .skip-below in let g = passed ((c .before .before .before .before .before) .loop .inv .rows) ((c .before .before .before) .u16-at3 .result) (k .result .entries) (k .result .bytes) (k .ensures .0) (k .ensures .1) in omega (arith, g .most)
+sub-left c =
+    let k = c .before .before .skip-below in
+    let u16-at3 = c .before .before .before .u16-at3 in
+    let loop = c .before .before .before .before .before .loop in
+    let g = passed (loop .inv .rows) (u16-at3 .result) (k .result .entries) (k .result .bytes) (k .ensures .0) (k .ensures .1) in
+    omega (arith, g .most)
 
 -- src/required.rt:50:13
 is-met-requires : tie.Need-is-met-requires Inv-loop μ-loop
-is-met-requires c κs = let k = (c .before .before) .skip-below in let g = passed ((c .before .before .before .before .before) .loop .inv .rows) ((c .before .before .before) .u16-at3 .result) (k .result .entries) (k .result .bytes) (k .ensures .0) (k .ensures .1) in (ahead-room ((c .before .before .before .before .before) .loop .inv .attrs) ((c .before .before .before .before) .loop-test .taken), g .rows .sized)
+is-met-requires c κs =
+    let k = c .before .before .skip-below in
+    let u16-at3 = c .before .before .before .u16-at3 in
+    let loop-test = c .before .before .before .before .loop-test in
+    let loop = c .before .before .before .before .before .loop in
+    let g = passed (loop .inv .rows) (u16-at3 .result) (k .result .entries) (k .result .bytes) (k .ensures .0) (k .ensures .1) in
+    (ahead-room (loop .inv .attrs) (loop-test .taken), g .rows .sized)
 
 -- src/required.rt:51:13
 returns : tie.Need-returns Inv-loop μ-loop
-returns c = let k = (c .before .before .before .before) .skip-below in let g = passed ((c .before .before .before .before .before .before .before) .loop .inv .rows) ((c .before .before .before .before .before) .u16-at3 .result) (k .result .entries) (k .result .bytes) (k .ensures .0) (k .ensures .1) in let i = required-skip ((c .before .before .before .before .before .before .before) .loop .inv) ((c .before .before .before .before .before .before) .loop-test .taken) ((c .before .before .before .before .before) .u16-at3 .result) (k .result .entries) (k .result .bytes) ((c .before .before .before .before .before) .u16-at3 .ensures .0) (k .ensures .0) (k .ensures .1) in let a : 0 < (c .before .before .before .before .before .before .before) .loop .left - k .result .entries → rd ((c .before .before .before .before .before .before .before) .loop .f .now) 0 ≤ rd (rest (4 * k .result .entries) ((c .before .before .before .before .before .before .before) .loop .e .now)) 0 = (λ h. omega (arith, g .above h, (c .before .before .before .before .before) .u16-at3 .ensures .0)) in required-not i ((c .before .before .before .before .before .before) .loop-test .taken) a ((c .before) .is-met .result) ((c .before) .is-met .ensures) (c .if1 .taken)
+returns c =
+    let is-met = c .before .is-met in
+    let k = c .before .before .before .before .skip-below in
+    let u16-at3 = c .before .before .before .before .before .u16-at3 in
+    let loop-test = c .before .before .before .before .before .before .loop-test in
+    let loop = c .before .before .before .before .before .before .before .loop in
+    let g = passed (loop .inv .rows) (u16-at3 .result) (k .result .entries) (k .result .bytes) (k .ensures .0) (k .ensures .1) in
+    let i = required-skip (loop .inv) (loop-test .taken) (u16-at3 .result) (k .result .entries) (k .result .bytes) (u16-at3 .ensures .0) (k .ensures .0)
+    (k .ensures .1) in
+    let a : 0 < loop .left - k .result .entries →
+    rd (loop .f .now) 0 ≤ rd (rest (4 * k .result .entries) (loop .e .now)) 0 = (λ h. omega (arith, g .above h, u16-at3 .ensures .0)) in
+    required-not i (loop-test .taken) a (is-met .result) (is-met .ensures) (c .if1 .taken)
 
 -- src/required.rt:53:13
 sub-f-2 : tie.Need-sub-f-2 Inv-loop μ-loop
-sub-f-2 c = omega (arith, ahead-room ((c .before .before .before .before .before .before .before) .loop .inv .attrs) ((c .before .before .before .before .before .before) .loop-test .taken))
+sub-f-2 c =
+    let loop-test = c .before .before .before .before .before .before .loop-test in
+    let loop = c .before .before .before .before .before .before .before .loop in
+    omega (arith, ahead-room (loop .inv .attrs) (loop-test .taken))
 
 -- src/required.rt:53:13
 part-f-start-2 : tie.Need-part-f-start-2 Inv-loop μ-loop
-part-f-start-2 c = omega (arith, ahead-room ((c .before .before .before .before .before .before .before) .loop .inv .attrs) ((c .before .before .before .before .before .before) .loop-test .taken))
+part-f-start-2 c = sub-f-2 c
 
 -- src/required.rt:53:13
 part-f-end-2 : tie.Need-part-f-end-2 Inv-loop μ-loop
@@ -153,7 +221,18 @@ loop-less c = search needs
 
 -- src/required.rt:42:5
 loop-again : tie.Need-loop-again Inv-loop μ-loop
-loop-again c = let k = (c .before .before .before .before .before) .skip-below in let g = passed ((c .before .before .before .before .before .before .before .before) .loop .inv .rows) ((c .before .before .before .before .before .before) .u16-at3 .result) (k .result .entries) (k .result .bytes) (k .ensures .0) (k .ensures .1) in let i = required-skip ((c .before .before .before .before .before .before .before .before) .loop .inv) ((c .before .before .before .before .before .before .before) .loop-test .taken) ((c .before .before .before .before .before .before) .u16-at3 .result) (k .result .entries) (k .result .bytes) ((c .before .before .before .before .before .before) .u16-at3 .ensures .0) (k .ensures .0) (k .ensures .1) in let a : 0 < (c .before .before .before .before .before .before .before .before) .loop .left - k .result .entries → rd ((c .before .before .before .before .before .before .before .before) .loop .f .now) 0 ≤ rd (rest (4 * k .result .entries) ((c .before .before .before .before .before .before .before .before) .loop .e .now)) 0 = (λ h. omega (arith, g .above h, (c .before .before .before .before .before .before) .u16-at3 .ensures .0)) in required-again i ((c .before .before .before .before .before .before .before) .loop-test .taken) a ((c .before .before) .is-met .result) ((c .before .before) .is-met .ensures) ((c .before) .if1 .left)
+loop-again c =
+    let is-met = c .before .before .is-met in
+    let k = c .before .before .before .before .before .skip-below in
+    let u16-at3 = c .before .before .before .before .before .before .u16-at3 in
+    let loop-test = c .before .before .before .before .before .before .before .loop-test in
+    let loop = c .before .before .before .before .before .before .before .before .loop in
+    let g = passed (loop .inv .rows) (u16-at3 .result) (k .result .entries) (k .result .bytes) (k .ensures .0) (k .ensures .1) in
+    let i = required-skip (loop .inv) (loop-test .taken) (u16-at3 .result) (k .result .entries) (k .result .bytes) (u16-at3 .ensures .0) (k .ensures .0)
+    (k .ensures .1) in
+    let a : 0 < loop .left - k .result .entries →
+    rd (loop .f .now) 0 ≤ rd (rest (4 * k .result .entries) (loop .e .now)) 0 = (λ h. omega (arith, g .above h, u16-at3 .ensures .0)) in
+    required-again i (loop-test .taken) a (is-met .result) (is-met .ensures) (c .before .if1 .left)
 
 -- src/required.rt:29:1
 returns-2 : tie.Need-returns-2 Inv-loop μ-loop

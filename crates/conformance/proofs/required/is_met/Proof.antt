@@ -18,11 +18,15 @@ shared-slice-read-if1 c = search needs
 
 -- src/required.rt:20:9
 returns : tie.Need-returns
-returns c = sym (rw (ne-eqb (getD ((c .before .before .before .before) .args .attribute .now) 2 0) 1 (c .if1 .taken)) refl)
+returns c =
+    let args = c .before .before .before .before .args in
+    sym (rw (ne-eqb (getD (args .attribute .now) 2 0) 1 (c .if1 .taken)) refl)
 
 -- src/required.rt:23:9
 returns-2 : tie.Need-returns-2
-returns-2 c = sym (rw (eq-eqb (getD ((c .before .before .before .before .before) .args .attribute .now) 2 0) 1 ((c .before) .if1 .left), le-ltb 0 ((c .before .before .before .before .before) .args .n) (omega arith)) refl)
+returns-2 c =
+    let args = c .before .before .before .before .before .args in
+    sym (rw (eq-eqb (getD (args .attribute .now) 2 0) 1 (c .before .if1 .left), le-ltb 0 (args .n) (omega arith)) refl)
 
 -- src/required.rt:25:5
 u16-at-requires : tie.Need-u16-at-requires
@@ -34,7 +38,12 @@ u16-at-requires-2 c κs = search needs
 
 -- src/required.rt:15:1
 returns-3 : tie.Need-returns-3
-returns-3 c = ap₂ (λ (x y : ℕ). eqb x y) ((c .before) .u16-at .ensures .0) (c .u16-at2 .ensures .0) ∙ sym (rw (eq-eqb (getD ((c .before .before .before .before .before .before .before) .args .attribute .now) 2 0) 1 ((c .before .before .before) .if1 .left), lt-ltb 0 ((c .before .before .before .before .before .before .before) .args .n) (pos ((c .before .before .before .before .before .before .before) .args .n) ((c .before .before) .if2 .left))) refl)
+returns-3 c =
+    let if2 = c .before .before .if2 in
+    let if1 = c .before .before .before .if1 in
+    let args = c .before .before .before .before .before .before .before .args in
+    let ap₂-u16-at-ensures = ap₂ (λ (x y : ℕ). eqb x y) (c .before .u16-at .ensures .0) (c .u16-at2 .ensures .0) in
+    ap₂-u16-at-ensures ∙ sym (rw (eq-eqb (getD (args .attribute .now) 2 0) 1 (if1 .left), lt-ltb 0 (args .n) (pos (args .n) (if2 .left))) refl)
 
 pub is-met-spec : {M : Type 1} → statement M
 is-met-spec =

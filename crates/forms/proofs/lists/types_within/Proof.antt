@@ -21,7 +21,9 @@ abbrev μ-loop : tie.MeasureT-loop
 
 -- src/lists.rt:22:5
 loop-holds : tie.Need-loop-holds Inv-loop μ-loop
-loop-holds c = rows-start ((c .before .before) .pre)
+loop-holds c =
+    let pre = c .before .before .pre in
+    rows-start pre
 
 -- src/lists.rt:23:13
 u16-at-requires : tie.Need-u16-at-requires Inv-loop μ-loop
@@ -29,7 +31,11 @@ u16-at-requires c κs = omega arith
 
 -- src/lists.rt:25:13
 returns : tie.Need-returns Inv-loop μ-loop
-returns c = rows-short ((c .before .before .before) .loop .inv) ((c .before .before) .loop-test .taken) ((c .before) .u16-at .result) ((c .before) .u16-at .ensures .0) (c .if1 .taken)
+returns c =
+    let u16-at = c .before .u16-at in
+    let loop-test = c .before .before .loop-test in
+    let loop = c .before .before .before .loop in
+    rows-short (loop .inv) (loop-test .taken) (u16-at .result) (u16-at .ensures .0) (c .if1 .taken)
 
 -- src/lists.rt:27:24
 sub-whole-type : tie.Need-sub-whole-type Inv-loop μ-loop
@@ -49,7 +55,12 @@ whole-type-requires c κs = omega arith
 
 -- src/lists.rt:28:13
 returns-2 : tie.Need-returns-2 Inv-loop μ-loop
-returns-2 c = rows-body ((c .before .before .before .before .before .before) .loop .inv) ((c .before .before .before .before .before) .loop-test .taken) ((c .before .before .before .before) .u16-at .result) ((c .before .before .before .before) .u16-at .ensures .0) ((c .before) .whole-type .result) ((c .before) .whole-type .ensures) (c .if2 .taken)
+returns-2 c =
+    let whole-type = c .before .whole-type in
+    let u16-at = c .before .before .before .before .u16-at in
+    let loop-test = c .before .before .before .before .before .loop-test in
+    let loop = c .before .before .before .before .before .before .loop in
+    rows-body (loop .inv) (loop-test .taken) (u16-at .result) (u16-at .ensures .0) (whole-type .result) (whole-type .ensures) (c .if2 .taken)
 
 -- src/lists.rt:30:13
 sub-e : tie.Need-sub-e Inv-loop μ-loop
@@ -85,7 +96,15 @@ loop-less c = omega arith
 
 -- src/lists.rt:22:5
 loop-again : tie.Need-loop-again Inv-loop μ-loop
-loop-again c = rows-again ((c .before .before .before .before .before .before .before .before) .loop .inv) ((c .before .before .before .before .before .before .before) .loop-test .taken) ((c .before .before .before .before .before .before) .u16-at .result) ((c .before .before .before .before .before .before) .u16-at .ensures .0) true refl refl ((c .before .before .before .before .before) .if1 .left) ((c .before .before .before) .whole-type .result) ((c .before .before .before) .whole-type .ensures) ((c .before .before) .if2 .left) tt refl
+loop-again c =
+    let if2 = c .before .before .if2 in
+    let whole-type = c .before .before .before .whole-type in
+    let if1 = c .before .before .before .before .before .if1 in
+    let u16-at = c .before .before .before .before .before .before .u16-at in
+    let loop-test = c .before .before .before .before .before .before .before .loop-test in
+    let loop = c .before .before .before .before .before .before .before .before .loop in
+    rows-again (loop .inv) (loop-test .taken) (u16-at .result) (u16-at .ensures .0) true refl refl (if1 .left) (whole-type .result) (whole-type .ensures)
+    (if2 .left) tt refl
 
 -- src/lists.rt:15:1
 returns-3 : tie.Need-returns-3 Inv-loop μ-loop

@@ -17,11 +17,16 @@ use Rattle.forms.proofs.numbers.u16_at.Reads as u16-at-reads
 
 -- src/lists.rt:42:9
 returns : tie.Need-returns
-returns c = within-over 32768 (parseList (λ c. wholeType standard c)) ((c .before .before) .args .l .now) (list-twin standard ((c .before .before) .args .l .now)) (c .if1 .taken)
+returns c =
+    let args = c .before .before .args in
+    within-over 32768 (parseList (λ c. wholeType standard c)) (args .l .now) (list-twin standard (args .l .now)) (c .if1 .taken)
 
 -- src/lists.rt:45:9
 returns-2 : tie.Need-returns-2
-returns-2 c = within-yes 32768 (parseList (λ c. wholeType standard c)) ((c .before .before .before) .args .l .now) (list-twin standard ((c .before .before .before) .args .l .now)) ((c .before) .if1 .left) false (list-short standard ((c .before .before .before) .args .l .now) (c .if2 .taken))
+returns-2 c =
+    let args = c .before .before .before .args in
+    within-yes 32768 (parseList (λ c. wholeType standard c)) (args .l .now) (list-twin standard (args .l .now)) (c .before .if1 .left)
+    false (list-short standard (args .l .now) (c .if2 .taken))
 
 -- src/lists.rt:47:9
 u16-at-requires : tie.Need-u16-at-requires
@@ -29,7 +34,12 @@ u16-at-requires c κs = omega arith
 
 -- src/lists.rt:49:9
 returns-3 : tie.Need-returns-3
-returns-3 c = within-yes 32768 (parseList (λ c. wholeType standard c)) ((c .before .before .before .before .before) .args .l .now) (list-twin standard ((c .before .before .before .before .before) .args .l .now)) ((c .before .before .before) .if1 .left) false (list-many standard ((c .before .before .before .before .before) .args .l .now) ((c .before) .u16-at .result) ((c .before) .u16-at .ensures .0) (c .if3 .taken))
+returns-3 c =
+    let u16-at = c .before .u16-at in
+    let if1 = c .before .before .before .if1 in
+    let args = c .before .before .before .before .before .args in
+    within-yes 32768 (parseList (λ c. wholeType standard c)) (args .l .now) (list-twin standard (args .l .now)) (if1 .left)
+    false (list-many standard (args .l .now) (u16-at .result) (u16-at .ensures .0) (c .if3 .taken))
 
 -- src/lists.rt:51:19
 mul-end : tie.Need-mul-end
@@ -41,7 +51,12 @@ add-end c = omega arith
 
 -- src/lists.rt:53:9
 returns-4 : tie.Need-returns-4
-returns-4 c = within-yes 32768 (parseList (λ c. wholeType standard c)) ((c .before .before .before .before .before .before) .args .l .now) (list-twin standard ((c .before .before .before .before .before .before) .args .l .now)) ((c .before .before .before .before) .if1 .left) false (list-over standard ((c .before .before .before .before .before .before) .args .l .now) ((c .before .before) .u16-at .result) ((c .before .before) .u16-at .ensures .0) (c .if4 .taken))
+returns-4 c =
+    let u16-at = c .before .before .u16-at in
+    let if1 = c .before .before .before .before .if1 in
+    let args = c .before .before .before .before .before .before .args in
+    within-yes 32768 (parseList (λ c. wholeType standard c)) (args .l .now) (list-twin standard (args .l .now)) (if1 .left)
+    false (list-over standard (args .l .now) (u16-at .result) (u16-at .ensures .0) (c .if4 .taken))
 
 -- src/lists.rt:55:18
 sub-types-within : tie.Need-sub-types-within
@@ -73,7 +88,16 @@ types-within-requires c κs = omega arith
 
 -- src/lists.rt:38:1
 returns-5 : tie.Need-returns-5
-returns-5 c = within-yes 32768 (parseList (λ c. wholeType standard c)) ((c .before .before .before .before .before .before .before .before .before) .args .l .now) (list-twin standard ((c .before .before .before .before .before .before .before .before .before) .args .l .now)) ((c .before .before .before .before .before .before .before) .if1 .left) (c .types-within .result) (c .types-within .ensures ∙ sym (list-open standard ((c .before .before .before .before .before .before .before .before .before) .args .l .now) ((c .before .before .before .before .before) .u16-at .result) ((c .before .before .before .before .before) .u16-at .ensures .0) ((c .before .before .before .before .before .before) .if2 .left) ((c .before .before .before .before) .if3 .left) ((c .before .before .before) .if4 .left)))
+returns-5 c =
+    let if4 = c .before .before .before .if4 in
+    let if3 = c .before .before .before .before .if3 in
+    let u16-at = c .before .before .before .before .before .u16-at in
+    let if2 = c .before .before .before .before .before .before .if2 in
+    let if1 = c .before .before .before .before .before .before .before .if1 in
+    let args = c .before .before .before .before .before .before .before .before .before .args in
+    let by-list-open = list-open standard (args .l .now) (u16-at .result) (u16-at .ensures .0) (if2 .left) (if3 .left) (if4 .left) in
+    within-yes 32768 (parseList (λ c. wholeType standard c)) (args .l .now) (list-twin standard (args .l .now)) (if1 .left) (c .types-within .result)
+    (c .types-within .ensures ∙ sym by-list-open)
 
 pub whole-list-spec : {M : Type 1} → statement M
 whole-list-spec =

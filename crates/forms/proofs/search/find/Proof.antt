@@ -13,23 +13,54 @@ skip-below-requires c κs = omega arith
 
 -- src/search.rt:52:18
 mul-at : tie.Need-mul-at
-mul-at c = omega (arith, at-room ((c .before .before .before .before) .args .width) ((c .before .before .before .before) .args .n) ((c .before .before .before .before) .args .name) ((c .before .before .before .before) .args .es .now) ((c .before .before .before .before) .args .bs .now) ((c .before .before .before .before) .pre) ((c .before) .skip-below .result .entries) ((c .before) .skip-below .ensures .0) (c .if1 .taken))
+mul-at c =
+    let skip-below = c .before .skip-below in
+    let start = c .before .before .before .before in
+    let args = start .args in
+    let by-at-room = at-room (args .width) (args .n) (args .name) (args .es .now) (args .bs .now) (start .pre) (skip-below .result .entries)
+    (skip-below .ensures .0) (c .if1 .taken) in
+    omega (arith, by-at-room)
 
 -- src/search.rt:53:12
 u16-at-requires : tie.Need-u16-at-requires
-u16-at-requires c κs = omega (arith, at-room ((c .before .before .before .before) .args .width) ((c .before .before .before .before) .args .n) ((c .before .before .before .before) .args .name) ((c .before .before .before .before) .args .es .now) ((c .before .before .before .before) .args .bs .now) ((c .before .before .before .before) .pre) ((c .before) .skip-below .result .entries) ((c .before) .skip-below .ensures .0) (c .if1 .taken), (c .before .before .before .before) .pre .wide)
+u16-at-requires c κs =
+    let skip-below = c .before .skip-below in
+    let start = c .before .before .before .before in
+    let args = start .args in
+    let by-at-room = at-room (args .width) (args .n) (args .name) (args .es .now) (args .bs .now) (start .pre) (skip-below .result .entries)
+    (skip-below .ensures .0) (c .if1 .taken) in
+    omega (arith, by-at-room, start .pre .wide)
 
 -- src/search.rt:54:13
 returns : tie.Need-returns
-returns c = find-yes ((c .before .before .before .before .before .before) .args .width) ((c .before .before .before .before .before .before) .args .n) ((c .before .before .before .before .before .before) .args .name) ((c .before .before .before .before .before .before) .args .es .now) ((c .before .before .before .before .before .before) .args .bs .now) ((c .before .before .before .before .before .before) .pre) ((c .before .before .before) .skip-below .result .entries) ((c .before .before .before) .skip-below .ensures .0) ((c .before) .u16-at .result) ((c .before) .u16-at .ensures .0) ((c .before .before) .if1 .taken) (c .if2 .taken) ((c .before .before .before) .skip-below .result .bytes) ((c .before .before .before) .skip-below .ensures .1)
+returns c =
+    let u16-at = c .before .u16-at in
+    let if1 = c .before .before .if1 in
+    let skip-below = c .before .before .before .skip-below in
+    let start = c .before .before .before .before .before .before in
+    let args = start .args in
+    find-yes (args .width) (args .n) (args .name) (args .es .now) (args .bs .now) (start .pre) (skip-below .result .entries) (skip-below .ensures .0)
+    (u16-at .result) (u16-at .ensures .0) (if1 .taken) (c .if2 .taken) (skip-below .result .bytes) (skip-below .ensures .1)
 
 -- src/search.rt:56:9
 returns-2 : tie.Need-returns-2
-returns-2 c = find-other ((c .before .before .before .before .before .before) .args .width) ((c .before .before .before .before .before .before) .args .n) ((c .before .before .before .before .before .before) .args .name) ((c .before .before .before .before .before .before) .args .es .now) ((c .before .before .before .before .before .before) .args .bs .now) ((c .before .before .before .before .before .before) .pre) ((c .before .before .before) .skip-below .result .entries) ((c .before .before .before) .skip-below .ensures .0) ((c .before) .u16-at .result) ((c .before) .u16-at .ensures .0) ((c .before .before) .if1 .taken) (c .if2 .left)
+returns-2 c =
+    let u16-at = c .before .u16-at in
+    let if1 = c .before .before .if1 in
+    let skip-below = c .before .before .before .skip-below in
+    let start = c .before .before .before .before .before .before in
+    let args = start .args in
+    find-other (args .width) (args .n) (args .name) (args .es .now) (args .bs .now) (start .pre) (skip-below .result .entries) (skip-below .ensures .0)
+    (u16-at .result) (u16-at .ensures .0) (if1 .taken) (c .if2 .left)
 
 -- src/search.rt:45:1
 returns-3 : tie.Need-returns-3
-returns-3 c = find-past ((c .before .before .before .before) .args .width) ((c .before .before .before .before) .args .n) ((c .before .before .before .before) .args .name) ((c .before .before .before .before) .args .es .now) ((c .before .before .before .before) .args .bs .now) ((c .before .before .before .before) .pre) ((c .before) .skip-below .result .entries) ((c .before) .skip-below .ensures .0) (c .if1 .left)
+returns-3 c =
+    let skip-below = c .before .skip-below in
+    let start = c .before .before .before .before in
+    let args = start .args in
+    find-past (args .width) (args .n) (args .name) (args .es .now) (args .bs .now) (start .pre) (skip-below .result .entries) (skip-below .ensures .0)
+    (c .if1 .left)
 
 pub find-spec : {M : Type 1} → statement M
 find-spec =

@@ -14,7 +14,9 @@ abbrev μ-loop : tie.MeasureT-loop
 
 -- src/search.rt:26:5
 loop-holds : tie.Need-loop-holds Inv-loop μ-loop
-loop-holds c = skip-start ((c .before .before) .args .name) ((c .before .before) .pre)
+loop-holds c =
+    let start = c .before .before in
+    skip-start (start .args .name) (start .pre)
 
 -- src/search.rt:27:20
 u16-at-requires : tie.Need-u16-at-requires Inv-loop μ-loop
@@ -22,47 +24,74 @@ u16-at-requires c κs = omega (arith, skip-room ((c .before) .loop .inv) (c .loo
 
 -- src/search.rt:29:26
 sub-t12 : tie.Need-sub-t12 Inv-loop μ-loop
-sub-t12 c = omega (arith, (c .before .before .before) .loop .inv .most)
+sub-t12 c =
+    let loop = c .before .before .before .loop in
+    omega (arith, loop .inv .most)
 
 -- src/search.rt:30:24
 sub-t15 : tie.Need-sub-t15 Inv-loop μ-loop
-sub-t15 c = omega (arith, (c .before .before .before) .loop .inv .inside)
+sub-t15 c =
+    let loop = c .before .before .before .loop in
+    omega (arith, loop .inv .inside)
 
 -- src/search.rt:28:13
 returns : tie.Need-returns Inv-loop μ-loop
-returns c = skip-here ((c .before .before .before) .loop .inv) ((c .before .before) .loop-test .taken) ((c .before) .u16-at .result) ((c .before) .u16-at .ensures .0) (c .if1 .taken)
+returns c =
+    let u16-at = c .before .u16-at in
+    let loop-test = c .before .before .loop-test in
+    let loop = c .before .before .before .loop in
+    skip-here (loop .inv) (loop-test .taken) (u16-at .result) (u16-at .ensures .0) (c .if1 .taken)
 
 -- src/search.rt:33:29
 sub-u16-at : tie.Need-sub-u16-at Inv-loop μ-loop
-sub-u16-at c = omega (arith, (c .before .before .before) .loop .inv .laid .wide)
+sub-u16-at c =
+    let loop = c .before .before .before .loop in
+    omega (arith, loop .inv .laid .wide)
 
 -- src/search.rt:33:13
 u16-at-requires-2 : tie.Need-u16-at-requires-2 Inv-loop μ-loop
-u16-at-requires-2 c κs = omega (arith, skip-room ((c .before .before .before) .loop .inv) ((c .before .before) .loop-test .taken), (c .before .before .before) .loop .inv .laid .wide)
+u16-at-requires-2 c κs =
+    let loop-test = c .before .before .loop-test in
+    let loop = c .before .before .before .loop in
+    omega (arith, skip-room (loop .inv) (loop-test .taken), loop .inv .laid .wide)
 
 -- src/search.rt:34:13
 sub-e : tie.Need-sub-e Inv-loop μ-loop
-sub-e c = omega (arith, skip-room ((c .before .before .before .before) .loop .inv) ((c .before .before .before) .loop-test .taken))
+sub-e c =
+    let loop-test = c .before .before .before .loop-test in
+    let loop = c .before .before .before .before .loop in
+    omega (arith, skip-room (loop .inv) (loop-test .taken))
 
 -- src/search.rt:34:13
 part-e-start : tie.Need-part-e-start Inv-loop μ-loop
-part-e-start c = omega (arith, skip-room ((c .before .before .before .before) .loop .inv) ((c .before .before .before) .loop-test .taken))
+part-e-start c = sub-e c
 
 -- src/search.rt:34:13
 part-e-end : tie.Need-part-e-end Inv-loop μ-loop
-part-e-end c = omega (arith, skip-room ((c .before .before .before .before) .loop .inv) ((c .before .before .before) .loop-test .taken))
+part-e-end c =
+    let loop-test = c .before .before .before .loop-test in
+    let loop = c .before .before .before .before .loop in
+    omega (arith, skip-room (loop .inv) (loop-test .taken))
 
 -- src/search.rt:35:13
 sub-b : tie.Need-sub-b Inv-loop μ-loop
-sub-b c = omega (arith, skip-fit ((c .before .before .before .before .before) .loop .inv) ((c .before .before .before .before) .loop-test .taken) ((c .before) .u16-at2 .result) ((c .before) .u16-at2 .ensures .0))
+sub-b c =
+    let u16-at2 = c .before .u16-at2 in
+    let loop-test = c .before .before .before .before .loop-test in
+    let loop = c .before .before .before .before .before .loop in
+    omega (arith, skip-fit (loop .inv) (loop-test .taken) (u16-at2 .result) (u16-at2 .ensures .0))
 
 -- src/search.rt:35:13
 part-b-start : tie.Need-part-b-start Inv-loop μ-loop
-part-b-start c = omega (arith, skip-fit ((c .before .before .before .before .before) .loop .inv) ((c .before .before .before .before) .loop-test .taken) ((c .before) .u16-at2 .result) ((c .before) .u16-at2 .ensures .0))
+part-b-start c = sub-b c
 
 -- src/search.rt:35:13
 part-b-end : tie.Need-part-b-end Inv-loop μ-loop
-part-b-end c = omega (arith, skip-fit ((c .before .before .before .before .before) .loop .inv) ((c .before .before .before .before) .loop-test .taken) ((c .before) .u16-at2 .result) ((c .before) .u16-at2 .ensures .0))
+part-b-end c =
+    let u16-at2 = c .before .u16-at2 in
+    let loop-test = c .before .before .before .before .loop-test in
+    let loop = c .before .before .before .before .before .loop in
+    omega (arith, skip-fit (loop .inv) (loop-test .taken) (u16-at2 .result) (u16-at2 .ensures .0))
 
 -- src/search.rt:36:9
 sub-left : tie.Need-sub-left Inv-loop μ-loop
@@ -74,7 +103,13 @@ loop-less c = omega arith
 
 -- src/search.rt:26:5
 loop-again : tie.Need-loop-again Inv-loop μ-loop
-loop-again c = skip-again ((c .before .before .before .before .before .before) .loop .inv) ((c .before .before .before .before .before) .loop-test .taken) ((c .before .before) .u16-at2 .result) ((c .before .before) .u16-at2 .ensures .0) ((c .before .before .before .before) .u16-at .result) ((c .before .before .before .before) .u16-at .ensures .0) ((c .before .before .before) .if1 .left)
+loop-again c =
+    let u16-at2 = c .before .before .u16-at2 in
+    let if1 = c .before .before .before .if1 in
+    let u16-at = c .before .before .before .before .u16-at in
+    let loop-test = c .before .before .before .before .before .loop-test in
+    let loop = c .before .before .before .before .before .before .loop in
+    skip-again (loop .inv) (loop-test .taken) (u16-at2 .result) (u16-at2 .ensures .0) (u16-at .result) (u16-at .ensures .0) (if1 .left)
 
 -- src/search.rt:40:16
 sub-t22 : tie.Need-sub-t22 Inv-loop μ-loop

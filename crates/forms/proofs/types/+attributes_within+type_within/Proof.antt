@@ -5,7 +5,8 @@ use Rattle.forms.specs.Rows.{noneLeft}
 use Rattle.forms.specs.TypeBytes.{attrRow, whole}
 use Rattle.forms.specs.Laws.Parts.{length-part}
 use Rattle.forms.specs.Laws.Rows.{RowsLeft, rows-start, rows-end, rows-unfit, rows-short, rows-body, rows-again, table-short, table-over, table-open}
-use Rattle.forms.specs.Laws.Types.{SetsLeft, sets-start, sets-again, whole-none, whole-empty, whole-by, record-short, record-flag, record-open, unknown-not, atom-open}
+use Rattle.forms.specs.Laws.Types.{SetsLeft, sets-start, sets-again, whole-none, whole-empty, whole-by, record-short, record-flag, record-open}
+use Rattle.forms.specs.Laws.Types.{unknown-not, atom-open}
 use Prim.Native.Nat.{ℕ, _<_}
 use borrow.Fn.Kinds.{In}
 use borrow.Fn.PlainCycle.{Measures, is, falls, and}
@@ -85,7 +86,9 @@ attributes-within-returns : (t : ℕ) → attributes-within-lts.Need-returns (
     attributes-within.Post
     attributes-within-Inv-loop
     attributes-within-μ-loop
-attributes-within-returns t c = table-short attrRow (λ _. whole ((c .before .before) .args .levels)) 0 ((c .before .before) .args .at) ((c .before .before) .args .t .now) (c .if1 .taken)
+attributes-within-returns t c =
+    let args = c .before .before .args in
+    table-short attrRow (λ _. whole (args .levels)) 0 (args .at) (args .t .now) (c .if1 .taken)
 
 -- src/types.rt:75:9
 attributes-within-u16-at-requires : (t : ℕ) → attributes-within-lts.Need-u16-at-requires (
@@ -145,7 +148,10 @@ attributes-within-returns-2 : (t : ℕ) → attributes-within-lts.Need-returns-2
     attributes-within.Post
     attributes-within-Inv-loop
     attributes-within-μ-loop
-attributes-within-returns-2 t c = table-over attrRow (λ _. whole ((c .before .before .before .before) .args .levels)) 0 ((c .before .before .before .before) .args .at) ((c .before .before .before .before) .args .t .now) ((c .before) .u16-at .result) ((c .before) .u16-at .ensures .0) (c .if2 .taken)
+attributes-within-returns-2 t c =
+    let u16-at = c .before .u16-at in
+    let args = c .before .before .before .before .args in
+    table-over attrRow (λ _. whole (args .levels)) 0 (args .at) (args .t .now) (u16-at .result) (u16-at .ensures .0) (c .if2 .taken)
 
 -- src/types.rt:80:17
 attributes-within-sub-e : (t : ℕ) → attributes-within-lts.Need-sub-e (
@@ -250,7 +256,11 @@ attributes-within-loop-holds : (t : ℕ) → attributes-within-lts.Need-loop-hol
     attributes-within.Post
     attributes-within-Inv-loop
     attributes-within-μ-loop
-attributes-within-loop-holds t c = rows-start (omega (arith, length-part ((c .before .before .before .before .before .before) .args .at + 2) ((c .before .before .before .before .before .before) .args .at + 2 + 5 * (c .before .before .before) .u16-at .result) ((c .before .before .before .before .before .before) .args .t .now) ((c .before .before) .if2 .left)))
+attributes-within-loop-holds t c =
+    let if2 = c .before .before .if2 in
+    let u16-at = c .before .before .before .u16-at in
+    let args = c .before .before .before .before .before .before .args in
+    rows-start (omega (arith, length-part (args .at + 2) (args .at + 2 + 5 * u16-at .result) (args .t .now) (if2 .left)))
 
 -- src/types.rt:85:13
 attributes-within-attribute-follows-requires :
@@ -281,7 +291,17 @@ attributes-within-returns-3 : (t : ℕ) → attributes-within-lts.Need-returns-3
     attributes-within.Post
     attributes-within-Inv-loop
     attributes-within-μ-loop
-attributes-within-returns-3 t c = rows-unfit ((c .before .before .before) .loop .inv) ((c .before .before) .loop-test .taken) ((c .before) .attribute-follows .result) ((c .before) .attribute-follows .ensures) (c .if3 .taken) ∙ sym (table-open attrRow (λ _. whole ((c .before .before .before .before .before .before .before .before .before .before) .args .levels)) 0 ((c .before .before .before .before .before .before .before .before .before .before) .args .at) ((c .before .before .before .before .before .before .before .before .before .before) .args .t .now) ((c .before .before .before .before .before .before .before) .u16-at .result) ((c .before .before .before .before .before .before .before) .u16-at .ensures .0) ((c .before .before .before .before .before .before .before .before) .if1 .left) ((c .before .before .before .before .before .before) .if2 .left))
+attributes-within-returns-3 t c =
+    let attribute-follows = c .before .attribute-follows in
+    let loop-test = c .before .before .loop-test in
+    let loop = c .before .before .before .loop in
+    let if2 = c .before .before .before .before .before .before .if2 in
+    let u16-at = c .before .before .before .before .before .before .before .u16-at in
+    let if1 = c .before .before .before .before .before .before .before .before .if1 in
+    let args = c .before .before .before .before .before .before .before .before .before .before .args in
+    let by-rows-unfit = rows-unfit (loop .inv) (loop-test .taken) (attribute-follows .result) (attribute-follows .ensures) (c .if3 .taken) in
+    by-rows-unfit ∙
+    sym (table-open attrRow (λ _. whole (args .levels)) 0 (args .at) (args .t .now) (u16-at .result) (u16-at .ensures .0) (if1 .left) (if2 .left))
 
 -- src/types.rt:88:13
 attributes-within-u16-at-requires-2 : (t : ℕ) → attributes-within-lts.Need-u16-at-requires-2 (
@@ -311,7 +331,17 @@ attributes-within-returns-4 : (t : ℕ) → attributes-within-lts.Need-returns-4
     attributes-within.Post
     attributes-within-Inv-loop
     attributes-within-μ-loop
-attributes-within-returns-4 t c = rows-short ((c .before .before .before .before .before) .loop .inv) ((c .before .before .before .before) .loop-test .taken) ((c .before) .u16-at2 .result) ((c .before) .u16-at2 .ensures .0) (c .if4 .taken) ∙ sym (table-open attrRow (λ _. whole ((c .before .before .before .before .before .before .before .before .before .before .before .before) .args .levels)) 0 ((c .before .before .before .before .before .before .before .before .before .before .before .before) .args .at) ((c .before .before .before .before .before .before .before .before .before .before .before .before) .args .t .now) ((c .before .before .before .before .before .before .before .before .before) .u16-at .result) ((c .before .before .before .before .before .before .before .before .before) .u16-at .ensures .0) ((c .before .before .before .before .before .before .before .before .before .before) .if1 .left) ((c .before .before .before .before .before .before .before .before) .if2 .left))
+attributes-within-returns-4 t c =
+    let u16-at2 = c .before .u16-at2 in
+    let loop-test = c .before .before .before .before .loop-test in
+    let loop = c .before .before .before .before .before .loop in
+    let if2 = c .before .before .before .before .before .before .before .before .if2 in
+    let u16-at = c .before .before .before .before .before .before .before .before .before .u16-at in
+    let if1 = c .before .before .before .before .before .before .before .before .before .before .if1 in
+    let args = c .before .before .before .before .before .before .before .before .before .before .before .before .args in
+    let by-rows-short = rows-short (loop .inv) (loop-test .taken) (u16-at2 .result) (u16-at2 .ensures .0) (c .if4 .taken) in
+    by-rows-short ∙
+    sym (table-open attrRow (λ _. whole (args .levels)) 0 (args .at) (args .t .now) (u16-at .result) (u16-at .ensures .0) (if1 .left) (if2 .left))
 
 -- src/types.rt:92:25
 attributes-within-sub-type-within : (t : ℕ) → attributes-within-lts.Need-sub-type-within (
@@ -387,7 +417,20 @@ attributes-within-returns-5 : (t : ℕ) → attributes-within-lts.Need-returns-5
     attributes-within.Post
     attributes-within-Inv-loop
     attributes-within-μ-loop
-attributes-within-returns-5 t c = rows-body ((c .before .before .before .before .before .before .before .before) .loop .inv) ((c .before .before .before .before .before .before .before) .loop-test .taken) ((c .before .before .before .before) .u16-at2 .result) ((c .before .before .before .before) .u16-at2 .ensures .0) ((c .before) .type-within .result) ((c .before) .type-within .ensures) (c .if5 .taken) ∙ sym (table-open attrRow (λ _. whole ((c .before .before .before .before .before .before .before .before .before .before .before .before .before .before .before) .args .levels)) 0 ((c .before .before .before .before .before .before .before .before .before .before .before .before .before .before .before) .args .at) ((c .before .before .before .before .before .before .before .before .before .before .before .before .before .before .before) .args .t .now) ((c .before .before .before .before .before .before .before .before .before .before .before .before) .u16-at .result) ((c .before .before .before .before .before .before .before .before .before .before .before .before) .u16-at .ensures .0) ((c .before .before .before .before .before .before .before .before .before .before .before .before .before) .if1 .left) ((c .before .before .before .before .before .before .before .before .before .before .before) .if2 .left))
+attributes-within-returns-5 t c =
+    let type-within-step = c .before .type-within in
+    let u16-at2 = c .before .before .before .before .u16-at2 in
+    let loop-test = c .before .before .before .before .before .before .before .loop-test in
+    let loop = c .before .before .before .before .before .before .before .before .loop in
+    let else2 = c .before .before .before .before .before .before .before .before .before .before .before in
+    let if2 = else2 .if2 in
+    let u16-at = else2 .before .u16-at in
+    let if1 = else2 .before .before .if1 in
+    let args = else2 .before .before .before .before .args in
+    let by-rows-body = rows-body (loop .inv) (loop-test .taken) (u16-at2 .result) (u16-at2 .ensures .0) (type-within-step .result) (type-within-step .ensures)
+    (c .if5 .taken) in
+    by-rows-body ∙
+    sym (table-open attrRow (λ _. whole (args .levels)) 0 (args .at) (args .t .now) (u16-at .result) (u16-at .ensures .0) (if1 .left) (if2 .left))
 
 -- src/types.rt:95:15
 attributes-within-u16-at-requires-3 : (t : ℕ) → attributes-within-lts.Need-u16-at-requires-3 (
@@ -552,7 +595,18 @@ attributes-within-loop-again : (t : ℕ) → attributes-within-lts.Need-loop-aga
     attributes-within.Post
     attributes-within-Inv-loop
     attributes-within-μ-loop
-attributes-within-loop-again t c = rows-again ((c .before .before .before .before .before .before .before .before .before .before .before) .loop .inv) ((c .before .before .before .before .before .before .before .before .before .before) .loop-test .taken) ((c .before .before .before .before .before .before .before) .u16-at2 .result) ((c .before .before .before .before .before .before .before) .u16-at2 .ensures .0) ((c .before .before .before .before .before .before .before .before .before) .attribute-follows .result) ((c .before .before .before .before .before .before .before .before .before) .attribute-follows .ensures) ((c .before .before .before .before .before .before .before .before) .if3 .left) ((c .before .before .before .before .before .before) .if4 .left) ((c .before .before .before .before) .type-within .result) ((c .before .before .before .before) .type-within .ensures) ((c .before .before .before) .if5 .left) _ (ap (λ (j : ℕ). j + 1) ((c .before .before) .u16-at3 .ensures .0))
+attributes-within-loop-again t c =
+    let u16-at3 = c .before .before .u16-at3 in
+    let if5 = c .before .before .before .if5 in
+    let type-within-step = c .before .before .before .before .type-within in
+    let if4 = c .before .before .before .before .before .before .if4 in
+    let u16-at2 = c .before .before .before .before .before .before .before .u16-at2 in
+    let if3 = c .before .before .before .before .before .before .before .before .if3 in
+    let attribute-follows = c .before .before .before .before .before .before .before .before .before .attribute-follows in
+    let loop-test = c .before .before .before .before .before .before .before .before .before .before .loop-test in
+    let loop = c .before .before .before .before .before .before .before .before .before .before .before .loop in
+    rows-again (loop .inv) (loop-test .taken) (u16-at2 .result) (u16-at2 .ensures .0) (attribute-follows .result) (attribute-follows .ensures) (if3 .left)
+    (if4 .left) (type-within-step .result) (type-within-step .ensures) (if5 .left) _ (ap (λ (j : ℕ). j + 1) (u16-at3 .ensures .0))
 
 -- src/types.rt:67:1
 attributes-within-returns-6 : (t : ℕ) → attributes-within-lts.Need-returns-6 (
@@ -567,7 +621,13 @@ attributes-within-returns-6 : (t : ℕ) → attributes-within-lts.Need-returns-6
     attributes-within.Post
     attributes-within-Inv-loop
     attributes-within-μ-loop
-attributes-within-returns-6 t c = rows-end ((c .before) .loop .inv) (c .loop-test .left) _ refl ∙ sym (table-open attrRow (λ _. whole ((c .before .before .before .before .before .before .before .before) .args .levels)) 0 ((c .before .before .before .before .before .before .before .before) .args .at) ((c .before .before .before .before .before .before .before .before) .args .t .now) ((c .before .before .before .before .before) .u16-at .result) ((c .before .before .before .before .before) .u16-at .ensures .0) ((c .before .before .before .before .before .before) .if1 .left) ((c .before .before .before .before) .if2 .left))
+attributes-within-returns-6 t c =
+    let if2 = c .before .before .before .before .if2 in
+    let u16-at = c .before .before .before .before .before .u16-at in
+    let if1 = c .before .before .before .before .before .before .if1 in
+    let args = c .before .before .before .before .before .before .before .before .args in
+    rows-end (c .before .loop .inv) (c .loop-test .left) _ refl ∙
+    sym (table-open attrRow (λ _. whole (args .levels)) 0 (args .at) (args .t .now) (u16-at .result) (u16-at .ensures .0) (if1 .left) (if2 .left))
 
 abbrev type-within-Inv-loop : type-within-lts.InvT-loop
 type-within-Inv-loop t levels b₀ left₀ b left = SetsLeft levels t left b
@@ -609,7 +669,9 @@ type-within-loop-holds : (t : ℕ) → type-within-lts.Need-loop-holds (
   entity-within-reads.Asked,
   entity-within-reads.Learnt,
 ) (type-within-at t) type-within.Post type-within-Inv-loop type-within-μ-loop
-type-within-loop-holds t c = sets-start ((c .before .before) .args .levels) ((c .before .before) .args .t .now)
+type-within-loop-holds t c =
+    let args = c .before .before .args in
+    sets-start (args .levels) (args .t .now)
 
 -- src/types.rt:112:13
 type-within-returns : (t : ℕ) → type-within-lts.Need-returns (
@@ -627,7 +689,9 @@ type-within-returns-2 : (t : ℕ) → type-within-lts.Need-returns-2 (
   entity-within-reads.Asked,
   entity-within-reads.Learnt,
 ) (type-within-at t) type-within.Post type-within-Inv-loop type-within-μ-loop
-type-within-returns-2 t c = whole-empty ((c .before .before) .loop .left) ((c .before .before) .loop .b .now) ((c .before) .if1 .left) (c .if2 .taken) ∙ sym ((c .before .before) .loop .inv .same)
+type-within-returns-2 t c =
+    let loop = c .before .before .loop in
+    whole-empty (loop .left) (loop .b .now) (c .before .if1 .left) (c .if2 .taken) ∙ sym (loop .inv .same)
 
 -- src/types.rt:117:12
 type-within-shared-slice-read-if3 : (t : ℕ) → type-within-lts.Need-shared-slice-read-if3 (
@@ -690,7 +754,11 @@ type-within-loop-again : (t : ℕ) → type-within-lts.Need-loop-again (
   entity-within-reads.Asked,
   entity-within-reads.Learnt,
 ) (type-within-at t) type-within.Post type-within-Inv-loop type-within-μ-loop
-type-within-loop-again t c = sets-again ((c .before .before .before .before .before) .loop .inv) ((c .before .before .before .before) .if1 .left) ((c .before .before .before) .if2 .left) ((c .before) .if3 .left)
+type-within-loop-again t c =
+    let if2 = c .before .before .before .if2 in
+    let if1 = c .before .before .before .before .if1 in
+    let loop = c .before .before .before .before .before .loop in
+    sets-again (loop .inv) (if1 .left) (if2 .left) (c .before .if3 .left)
 
 -- src/types.rt:123:13
 type-within-shared-slice-read-k : (t : ℕ) → type-within-lts.Need-shared-slice-read-k (
@@ -708,7 +776,11 @@ type-within-returns-3 : (t : ℕ) → type-within-lts.Need-returns-3 (
   entity-within-reads.Asked,
   entity-within-reads.Learnt,
 ) (type-within-at t) type-within.Post type-within-Inv-loop type-within-μ-loop
-type-within-returns-3 t c = record-short ((c .before .before .before .before .before .before .before) .loop .left) ((c .before .before .before .before .before .before .before) .loop .b .now) ((c .before .before .before .before .before .before) .if1 .left) ((c .before .before .before .before .before) .if2 .left) ((c .before) .match .keys1) (c .if4 .taken) ∙ sym ((c .before .before .before .before .before .before .before) .loop .inv .same)
+type-within-returns-3 t c =
+    let if2 = c .before .before .before .before .before .if2 in
+    let if1 = c .before .before .before .before .before .before .if1 in
+    let loop = c .before .before .before .before .before .before .before .loop in
+    record-short (loop .left) (loop .b .now) (if1 .left) (if2 .left) (c .before .match .keys1) (c .if4 .taken) ∙ sym (loop .inv .same)
 
 -- src/types.rt:129:33
 type-within-shared-slice-read-if5 : (t : ℕ) → type-within-lts.Need-shared-slice-read-if5 (
@@ -726,7 +798,12 @@ type-within-returns-4 : (t : ℕ) → type-within-lts.Need-returns-4 (
   entity-within-reads.Asked,
   entity-within-reads.Learnt,
 ) (type-within-at t) type-within.Post type-within-Inv-loop type-within-μ-loop
-type-within-returns-4 t c = record-flag ((c .before .before .before .before .before .before .before .before .before) .loop .left) ((c .before .before .before .before .before .before .before .before .before) .loop .b .now) ((c .before .before .before .before .before .before .before .before) .if1 .left) ((c .before .before .before .before .before .before .before) .if2 .left) ((c .before .before .before) .match .keys1) (c .if5 .taken) ∙ sym ((c .before .before .before .before .before .before .before .before .before) .loop .inv .same)
+type-within-returns-4 t c =
+    let match-keys1 = c .before .before .before .match in
+    let if2 = c .before .before .before .before .before .before .before .if2 in
+    let if1 = c .before .before .before .before .before .before .before .before .if1 in
+    let loop = c .before .before .before .before .before .before .before .before .before .loop in
+    record-flag (loop .left) (loop .b .now) (if1 .left) (if2 .left) (match-keys1 .keys1) (c .if5 .taken) ∙ sym (loop .inv .same)
 
 -- src/types.rt:132:56
 type-within-sub-attributes-within : (t : ℕ) → type-within-lts.Need-sub-attributes-within (
@@ -744,7 +821,9 @@ type-within-attributes-within-requires : (t : ℕ) → type-within-lts.Need-attr
   entity-within-reads.Asked,
   entity-within-reads.Learnt,
 ) (type-within-at t) type-within.Post type-within-Inv-loop type-within-μ-loop
-type-within-attributes-within-requires t c κs = omega (arith, (c .before .before .before .before .before .before .before .before .before) .loop .inv .few)
+type-within-attributes-within-requires t c κs =
+    let loop = c .before .before .before .before .before .before .before .before .before .loop in
+    omega (arith, loop .inv .few)
 
 -- src/types.rt:134:25
 type-within-entity-within-requires : (t : ℕ) → type-within-lts.Need-entity-within-requires (
@@ -772,7 +851,9 @@ type-within-attributes-within-requires-2 :
       entity-within-reads.Asked,
       entity-within-reads.Learnt,
     ) (type-within-at t) type-within.Post type-within-Inv-loop type-within-μ-loop
-type-within-attributes-within-requires-2 t c κs = omega (arith, (c .before .before .before .before .before .before) .loop .inv .few)
+type-within-attributes-within-requires-2 t c κs =
+    let loop = c .before .before .before .before .before .before .loop in
+    omega (arith, loop .inv .few)
 
 -- src/types.rt:139:17
 type-within-returns-5 : (t : ℕ) → type-within-lts.Need-returns-5 (
@@ -781,7 +862,11 @@ type-within-returns-5 : (t : ℕ) → type-within-lts.Need-returns-5 (
   entity-within-reads.Asked,
   entity-within-reads.Learnt,
 ) (type-within-at t) type-within.Post type-within-Inv-loop type-within-μ-loop
-type-within-returns-5 t c = unknown-not ((c .before .before .before .before .before .before .before) .loop .left) ((c .before .before .before .before .before .before .before) .loop .b .now) ((c .before .before .before .before .before .before) .if1 .left) ((c .before .before .before .before .before) .if2 .left) (c .if6 .taken) ∙ sym ((c .before .before .before .before .before .before .before) .loop .inv .same)
+type-within-returns-5 t c =
+    let if2 = c .before .before .before .before .before .if2 in
+    let if1 = c .before .before .before .before .before .before .if1 in
+    let loop = c .before .before .before .before .before .before .before .loop in
+    unknown-not (loop .left) (loop .b .now) (if1 .left) (if2 .left) (c .if6 .taken) ∙ sym (loop .inv .same)
 
 -- src/types.rt:104:1
 type-within-returns-6 : (t : ℕ) → type-within-lts.Need-returns-6 (
@@ -790,7 +875,14 @@ type-within-returns-6 : (t : ℕ) → type-within-lts.Need-returns-6 (
   entity-within-reads.Asked,
   entity-within-reads.Learnt,
 ) (type-within-at t) type-within.Post type-within-Inv-loop type-within-μ-loop
-type-within-returns-6 t c = c .attributes-within .ensures ∙ sym ((c .before .before .before .before .before .before .before .before .before .before) .loop .inv .same ∙ record-open ((c .before .before .before .before .before .before .before .before .before .before) .loop .left) ((c .before .before .before .before .before .before .before .before .before .before) .loop .b .now) ((c .before .before .before .before .before .before .before .before .before) .if1 .left) ((c .before .before .before .before .before .before .before .before) .if2 .left) ((c .before .before .before .before) .match .keys1) ((c .before .before .before) .if4 .left) ((c .before) .if5 .left))
+type-within-returns-6 t c =
+    let if4 = c .before .before .before .if4 in
+    let match-keys1 = c .before .before .before .before .match in
+    let if2 = c .before .before .before .before .before .before .before .before .if2 in
+    let if1 = c .before .before .before .before .before .before .before .before .before .if1 in
+    let loop = c .before .before .before .before .before .before .before .before .before .before .loop in
+    let by-record-open = record-open (loop .left) (loop .b .now) (if1 .left) (if2 .left) (match-keys1 .keys1) (if4 .left) (c .before .if5 .left) in
+    c .attributes-within .ensures ∙ sym (loop .inv .same ∙ by-record-open)
 
 -- src/types.rt:104:1
 type-within-returns-7 : (t : ℕ) → type-within-lts.Need-returns-7 (
@@ -799,7 +891,11 @@ type-within-returns-7 : (t : ℕ) → type-within-lts.Need-returns-7 (
   entity-within-reads.Asked,
   entity-within-reads.Learnt,
 ) (type-within-at t) type-within.Post type-within-Inv-loop type-within-μ-loop
-type-within-returns-7 t c = c .entity-within .ensures ∙ sym ((c .before .before .before .before .before .before .before) .loop .inv .same ∙ whole-by ((c .before .before .before .before .before .before .before) .loop .left) ((c .before .before .before .before .before .before .before) .loop .b .now) ((c .before .before .before .before .before .before) .if1 .left) ((c .before .before .before .before .before) .if2 .left) 10 ((c .before) .match .keys2))
+type-within-returns-7 t c =
+    let if2 = c .before .before .before .before .before .if2 in
+    let if1 = c .before .before .before .before .before .before .if1 in
+    let loop = c .before .before .before .before .before .before .before .loop in
+    c .entity-within .ensures ∙ sym (loop .inv .same ∙ whole-by (loop .left) (loop .b .now) (if1 .left) (if2 .left) 10 (c .before .match .keys2))
 
 -- src/types.rt:104:1
 type-within-returns-8 : (t : ℕ) → type-within-lts.Need-returns-8 (
@@ -808,7 +904,11 @@ type-within-returns-8 : (t : ℕ) → type-within-lts.Need-returns-8 (
   entity-within-reads.Asked,
   entity-within-reads.Learnt,
 ) (type-within-at t) type-within.Post type-within-Inv-loop type-within-μ-loop
-type-within-returns-8 t c = c .attributes-within2 .ensures ∙ sym ((c .before .before .before .before .before .before .before) .loop .inv .same ∙ whole-by ((c .before .before .before .before .before .before .before) .loop .left) ((c .before .before .before .before .before .before .before) .loop .b .now) ((c .before .before .before .before .before .before) .if1 .left) ((c .before .before .before .before .before) .if2 .left) 11 ((c .before) .match .keys3))
+type-within-returns-8 t c =
+    let if2 = c .before .before .before .before .before .if2 in
+    let if1 = c .before .before .before .before .before .before .if1 in
+    let loop = c .before .before .before .before .before .before .before .loop in
+    c .attributes-within2 .ensures ∙ sym (loop .inv .same ∙ whole-by (loop .left) (loop .b .now) (if1 .left) (if2 .left) 11 (c .before .match .keys3))
 
 -- src/types.rt:104:1
 type-within-returns-9 : (t : ℕ) → type-within-lts.Need-returns-9 (
@@ -817,7 +917,11 @@ type-within-returns-9 : (t : ℕ) → type-within-lts.Need-returns-9 (
   entity-within-reads.Asked,
   entity-within-reads.Learnt,
 ) (type-within-at t) type-within.Post type-within-Inv-loop type-within-μ-loop
-type-within-returns-9 t c = sym ((c .before .before .before .before .before .before) .loop .inv .same ∙ whole-by ((c .before .before .before .before .before .before) .loop .left) ((c .before .before .before .before .before .before) .loop .b .now) ((c .before .before .before .before .before) .if1 .left) ((c .before .before .before .before) .if2 .left) 12 (c .match .keys4))
+type-within-returns-9 t c =
+    let if2 = c .before .before .before .before .if2 in
+    let if1 = c .before .before .before .before .before .if1 in
+    let loop = c .before .before .before .before .before .before .loop in
+    sym (loop .inv .same ∙ whole-by (loop .left) (loop .b .now) (if1 .left) (if2 .left) 12 (c .match .keys4))
 
 -- src/types.rt:104:1
 type-within-returns-10 : (t : ℕ) → type-within-lts.Need-returns-10 (
@@ -826,7 +930,15 @@ type-within-returns-10 : (t : ℕ) → type-within-lts.Need-returns-10 (
   entity-within-reads.Asked,
   entity-within-reads.Learnt,
 ) (type-within-at t) type-within.Post type-within-Inv-loop type-within-μ-loop
-type-within-returns-10 t c = let m = (c .before) .match .rest in atom-open ((c .before .before .before .before .before .before .before) .loop .left) ((c .before .before .before .before .before .before .before) .loop .b .now) ((c .before .before .before .before .before .before) .if1 .left) ((c .before .before .before .before .before) .if2 .left) ((c .before .before .before) .if3 .taken) (m .0 .0 .0 .1) (m .0 .0 .1) (m .0 .1) (m .1) (c .if6 .left) ∙ sym ((c .before .before .before .before .before .before .before) .loop .inv .same)
+type-within-returns-10 t c =
+    let if3 = c .before .before .before .if3 in
+    let if2 = c .before .before .before .before .before .if2 in
+    let if1 = c .before .before .before .before .before .before .if1 in
+    let loop = c .before .before .before .before .before .before .before .loop in
+    let m = c .before .match .rest in
+    let by-atom-open = atom-open (loop .left) (loop .b .now) (if1 .left) (if2 .left) (if3 .taken) (m .0 .0 .0 .1) (m .0 .0 .1) (m .0 .1) (m .1)
+    (c .if6 .left) in
+    by-atom-open ∙ sym (loop .inv .same)
 
 pub +attributes-within+type-within-spec : {M : Type 1} → statement M
 +attributes-within+type-within-spec =

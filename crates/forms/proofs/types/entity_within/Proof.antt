@@ -10,7 +10,9 @@ use Rattle.forms.proofs.types.names_ascend.Reads as names-ascend-reads
 
 -- src/types.rt:39:9
 returns : tie.Need-returns
-returns c = entity-short ((c .before .before) .args .t .now) (c .if1 .taken)
+returns c =
+    let args = c .before .before .args in
+    entity-short (args .t .now) (c .if1 .taken)
 
 -- src/types.rt:41:9
 u16-at-requires : tie.Need-u16-at-requires
@@ -18,7 +20,10 @@ u16-at-requires c κs = omega arith
 
 -- src/types.rt:43:9
 returns-2 : tie.Need-returns-2
-returns-2 c = entity-none ((c .before .before .before .before) .args .t .now) ((c .before) .u16-at .result) ((c .before) .u16-at .ensures .0) (c .if2 .taken)
+returns-2 c =
+    let u16-at = c .before .u16-at in
+    let args = c .before .before .before .before .args in
+    entity-none (args .t .now) (u16-at .result) (u16-at .ensures .0) (c .if2 .taken)
 
 -- src/types.rt:45:23
 mul-if3 : tie.Need-mul-if3
@@ -30,7 +35,10 @@ add-if3 c = omega arith
 
 -- src/types.rt:46:9
 returns-3 : tie.Need-returns-3
-returns-3 c = entity-other ((c .before .before .before .before .before) .args .t .now) ((c .before .before) .u16-at .result) ((c .before .before) .u16-at .ensures .0) (c .if3 .taken)
+returns-3 c =
+    let u16-at = c .before .before .u16-at in
+    let args = c .before .before .before .before .before .args in
+    entity-other (args .t .now) (u16-at .result) (u16-at .ensures .0) (c .if3 .taken)
 
 -- src/types.rt:48:18
 sub-names-ascend : tie.Need-sub-names-ascend
@@ -50,7 +58,13 @@ names-ascend-requires c κs = omega arith
 
 -- src/types.rt:35:1
 returns-4 : tie.Need-returns-4
-returns-4 c = c .names-ascend .ensures ∙ sym (entity-open ((c .before .before .before .before .before .before .before) .args .t .now) ((c .before .before .before .before) .u16-at .result) ((c .before .before .before .before) .u16-at .ensures .0) ((c .before .before .before .before .before) .if1 .left) ((c .before .before .before) .if2 .left) ((c .before .before) .if3 .left))
+returns-4 c =
+    let if3 = c .before .before .if3 in
+    let if2 = c .before .before .before .if2 in
+    let u16-at = c .before .before .before .before .u16-at in
+    let if1 = c .before .before .before .before .before .if1 in
+    let args = c .before .before .before .before .before .before .before .args in
+    c .names-ascend .ensures ∙ sym (entity-open (args .t .now) (u16-at .result) (u16-at .ensures .0) (if1 .left) (if2 .left) (if3 .left))
 
 pub entity-within-spec : {M : Type 1} → statement M
 entity-within-spec =

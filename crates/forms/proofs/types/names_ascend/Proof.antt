@@ -26,7 +26,11 @@ u16-at-requires c κs = omega arith
 
 -- src/types.rt:22:13
 returns : tie.Need-returns Inv-loop μ-loop
-returns c = names-low ((c .before .before .before) .loop .inv) ((c .before .before) .loop-test .taken) ((c .before) .u16-at .result) ((c .before) .u16-at .ensures .0) (c .if1 .taken)
+returns c =
+    let u16-at = c .before .u16-at in
+    let loop-test = c .before .before .loop-test in
+    let loop = c .before .before .before .loop in
+    names-low (loop .inv) (loop-test .taken) (u16-at .result) (u16-at .ensures .0) (c .if1 .taken)
 
 -- src/types.rt:24:15
 add-low : tie.Need-add-low Inv-loop μ-loop
@@ -54,7 +58,11 @@ loop-less c = omega arith
 
 -- src/types.rt:19:5
 loop-again : tie.Need-loop-again Inv-loop μ-loop
-loop-again c = names-again ((c .before .before .before .before) .loop .inv) ((c .before .before .before) .loop-test .taken) ((c .before .before) .u16-at .result) ((c .before .before) .u16-at .ensures .0) ((c .before) .if1 .left)
+loop-again c =
+    let u16-at = c .before .before .u16-at in
+    let loop-test = c .before .before .before .loop-test in
+    let loop = c .before .before .before .before .loop in
+    names-again (loop .inv) (loop-test .taken) (u16-at .result) (u16-at .ensures .0) (c .before .if1 .left)
 
 -- src/types.rt:12:1
 returns-2 : tie.Need-returns-2 Inv-loop μ-loop

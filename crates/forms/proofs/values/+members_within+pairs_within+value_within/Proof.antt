@@ -97,7 +97,9 @@ members-within-returns : (t : ℕ) → members-within-lts.Need-returns (
   value-within-below t,
   value-within.Post,
 ) (members-within-at t) members-within.Post members-within-Inv-loop members-within-μ-loop
-members-within-returns t c = table-short memberRow (λ _. wholeV ((c .before .before) .args .levels)) tt ((c .before .before) .args .at) ((c .before .before) .args .v .now) (c .if1 .taken)
+members-within-returns t c =
+    let args = c .before .before .args in
+    table-short memberRow (λ _. wholeV (args .levels)) tt (args .at) (args .v .now) (c .if1 .taken)
 
 -- src/values.rt:23:9
 members-within-u16-at-requires : (t : ℕ) → members-within-lts.Need-u16-at-requires (
@@ -133,7 +135,10 @@ members-within-returns-2 : (t : ℕ) → members-within-lts.Need-returns-2 (
   value-within-below t,
   value-within.Post,
 ) (members-within-at t) members-within.Post members-within-Inv-loop members-within-μ-loop
-members-within-returns-2 t c = table-over memberRow (λ _. wholeV ((c .before .before .before .before) .args .levels)) tt ((c .before .before .before .before) .args .at) ((c .before .before .before .before) .args .v .now) ((c .before) .u16-at .result) ((c .before) .u16-at .ensures .0) (c .if2 .taken)
+members-within-returns-2 t c =
+    let u16-at = c .before .u16-at in
+    let args = c .before .before .before .before .args in
+    table-over memberRow (λ _. wholeV (args .levels)) tt (args .at) (args .v .now) (u16-at .result) (u16-at .ensures .0) (c .if2 .taken)
 
 -- src/values.rt:28:17
 members-within-sub-e : (t : ℕ) → members-within-lts.Need-sub-e (
@@ -196,7 +201,11 @@ members-within-loop-holds : (t : ℕ) → members-within-lts.Need-loop-holds (
   value-within-below t,
   value-within.Post,
 ) (members-within-at t) members-within.Post members-within-Inv-loop members-within-μ-loop
-members-within-loop-holds t c = rows-start (omega (arith, length-part ((c .before .before .before .before .before .before) .args .at + 2) ((c .before .before .before .before .before .before) .args .at + 2 + 2 * (c .before .before .before) .u16-at .result) ((c .before .before .before .before .before .before) .args .v .now) ((c .before .before) .if2 .left)))
+members-within-loop-holds t c =
+    let if2 = c .before .before .if2 in
+    let u16-at = c .before .before .before .u16-at in
+    let args = c .before .before .before .before .before .before .args in
+    rows-start (omega (arith, length-part (args .at + 2) (args .at + 2 + 2 * u16-at .result) (args .v .now) (if2 .left)))
 
 -- src/values.rt:32:13
 members-within-u16-at-requires-2 : (t : ℕ) → members-within-lts.Need-u16-at-requires-2 (
@@ -214,7 +223,17 @@ members-within-returns-3 : (t : ℕ) → members-within-lts.Need-returns-3 (
   value-within-below t,
   value-within.Post,
 ) (members-within-at t) members-within.Post members-within-Inv-loop members-within-μ-loop
-members-within-returns-3 t c = rows-short ((c .before .before .before) .loop .inv) ((c .before .before) .loop-test .taken) ((c .before) .u16-at2 .result) ((c .before) .u16-at2 .ensures .0) (c .if3 .taken) ∙ sym (table-open memberRow (λ _. wholeV ((c .before .before .before .before .before .before .before .before .before .before) .args .levels)) tt ((c .before .before .before .before .before .before .before .before .before .before) .args .at) ((c .before .before .before .before .before .before .before .before .before .before) .args .v .now) ((c .before .before .before .before .before .before .before) .u16-at .result) ((c .before .before .before .before .before .before .before) .u16-at .ensures .0) ((c .before .before .before .before .before .before .before .before) .if1 .left) ((c .before .before .before .before .before .before) .if2 .left))
+members-within-returns-3 t c =
+    let u16-at2 = c .before .u16-at2 in
+    let loop-test = c .before .before .loop-test in
+    let loop = c .before .before .before .loop in
+    let if2 = c .before .before .before .before .before .before .if2 in
+    let u16-at = c .before .before .before .before .before .before .before .u16-at in
+    let if1 = c .before .before .before .before .before .before .before .before .if1 in
+    let args = c .before .before .before .before .before .before .before .before .before .before .args in
+    let by-rows-short = rows-short (loop .inv) (loop-test .taken) (u16-at2 .result) (u16-at2 .ensures .0) (c .if3 .taken) in
+    by-rows-short ∙
+    sym (table-open memberRow (λ _. wholeV (args .levels)) tt (args .at) (args .v .now) (u16-at .result) (u16-at .ensures .0) (if1 .left) (if2 .left))
 
 -- src/values.rt:36:26
 members-within-sub-value-within : (t : ℕ) → members-within-lts.Need-sub-value-within (
@@ -259,7 +278,20 @@ members-within-returns-4 : (t : ℕ) → members-within-lts.Need-returns-4 (
   value-within-below t,
   value-within.Post,
 ) (members-within-at t) members-within.Post members-within-Inv-loop members-within-μ-loop
-members-within-returns-4 t c = rows-body ((c .before .before .before .before .before .before) .loop .inv) ((c .before .before .before .before .before) .loop-test .taken) ((c .before .before .before .before) .u16-at2 .result) ((c .before .before .before .before) .u16-at2 .ensures .0) ((c .before) .value-within .result) ((c .before) .value-within .ensures) (c .if4 .taken) ∙ sym (table-open memberRow (λ _. wholeV ((c .before .before .before .before .before .before .before .before .before .before .before .before .before) .args .levels)) tt ((c .before .before .before .before .before .before .before .before .before .before .before .before .before) .args .at) ((c .before .before .before .before .before .before .before .before .before .before .before .before .before) .args .v .now) ((c .before .before .before .before .before .before .before .before .before .before) .u16-at .result) ((c .before .before .before .before .before .before .before .before .before .before) .u16-at .ensures .0) ((c .before .before .before .before .before .before .before .before .before .before .before) .if1 .left) ((c .before .before .before .before .before .before .before .before .before) .if2 .left))
+members-within-returns-4 t c =
+    let value-within-step = c .before .value-within in
+    let u16-at2 = c .before .before .before .before .u16-at2 in
+    let loop-test = c .before .before .before .before .before .loop-test in
+    let loop = c .before .before .before .before .before .before .loop in
+    let else2 = c .before .before .before .before .before .before .before .before .before in
+    let if2 = else2 .if2 in
+    let u16-at = else2 .before .u16-at in
+    let if1 = else2 .before .before .if1 in
+    let args = else2 .before .before .before .before .args in
+    let by-rows-body = rows-body (loop .inv) (loop-test .taken) (u16-at2 .result) (u16-at2 .ensures .0) (value-within-step .result) (value-within-step .ensures)
+    (c .if4 .taken) in
+    by-rows-body ∙
+    sym (table-open memberRow (λ _. wholeV (args .levels)) tt (args .at) (args .v .now) (u16-at .result) (u16-at .ensures .0) (if1 .left) (if2 .left))
 
 -- src/values.rt:39:13
 members-within-sub-e-2 : (t : ℕ) → members-within-lts.Need-sub-e-2 (
@@ -340,7 +372,15 @@ members-within-loop-again : (t : ℕ) → members-within-lts.Need-loop-again (
   value-within-below t,
   value-within.Post,
 ) (members-within-at t) members-within.Post members-within-Inv-loop members-within-μ-loop
-members-within-loop-again t c = rows-again ((c .before .before .before .before .before .before .before .before) .loop .inv) ((c .before .before .before .before .before .before .before) .loop-test .taken) ((c .before .before .before .before .before .before) .u16-at2 .result) ((c .before .before .before .before .before .before) .u16-at2 .ensures .0) true refl refl ((c .before .before .before .before .before) .if3 .left) ((c .before .before .before) .value-within .result) ((c .before .before .before) .value-within .ensures) ((c .before .before) .if4 .left) tt refl
+members-within-loop-again t c =
+    let if4 = c .before .before .if4 in
+    let value-within-step = c .before .before .before .value-within in
+    let if3 = c .before .before .before .before .before .if3 in
+    let u16-at2 = c .before .before .before .before .before .before .u16-at2 in
+    let loop-test = c .before .before .before .before .before .before .before .loop-test in
+    let loop = c .before .before .before .before .before .before .before .before .loop in
+    rows-again (loop .inv) (loop-test .taken) (u16-at2 .result) (u16-at2 .ensures .0) true refl refl (if3 .left) (value-within-step .result)
+    (value-within-step .ensures) (if4 .left) tt refl
 
 -- src/values.rt:15:1
 members-within-returns-5 : (t : ℕ) → members-within-lts.Need-returns-5 (
@@ -349,7 +389,13 @@ members-within-returns-5 : (t : ℕ) → members-within-lts.Need-returns-5 (
   value-within-below t,
   value-within.Post,
 ) (members-within-at t) members-within.Post members-within-Inv-loop members-within-μ-loop
-members-within-returns-5 t c = rows-end ((c .before) .loop .inv) (c .loop-test .left) _ refl ∙ sym (table-open memberRow (λ _. wholeV ((c .before .before .before .before .before .before .before .before) .args .levels)) tt ((c .before .before .before .before .before .before .before .before) .args .at) ((c .before .before .before .before .before .before .before .before) .args .v .now) ((c .before .before .before .before .before) .u16-at .result) ((c .before .before .before .before .before) .u16-at .ensures .0) ((c .before .before .before .before .before .before) .if1 .left) ((c .before .before .before .before) .if2 .left))
+members-within-returns-5 t c =
+    let if2 = c .before .before .before .before .if2 in
+    let u16-at = c .before .before .before .before .before .u16-at in
+    let if1 = c .before .before .before .before .before .before .if1 in
+    let args = c .before .before .before .before .before .before .before .before .args in
+    rows-end (c .before .loop .inv) (c .loop-test .left) _ refl ∙
+    sym (table-open memberRow (λ _. wholeV (args .levels)) tt (args .at) (args .v .now) (u16-at .result) (u16-at .ensures .0) (if1 .left) (if2 .left))
 
 abbrev pairs-within-Inv-loop : pairs-within-lts.InvT-loop
 pairs-within-Inv-loop v levels n end e₀ b₀ left₀ low₀ e b left low = RowsLeft pairRow (λ _. wholeV levels) noneLeft n 0 e₀ b₀ left low e b
@@ -364,7 +410,9 @@ pairs-within-returns : (t : ℕ) → pairs-within-lts.Need-returns (
   value-within-below t,
   value-within.Post,
 ) (pairs-within-at t) pairs-within.Post pairs-within-Inv-loop pairs-within-μ-loop
-pairs-within-returns t c = table-short pairRow (λ _. wholeV ((c .before .before) .args .levels)) 0 1 ((c .before .before) .args .v .now) (c .if1 .taken)
+pairs-within-returns t c =
+    let args = c .before .before .args in
+    table-short pairRow (λ _. wholeV (args .levels)) 0 1 (args .v .now) (c .if1 .taken)
 
 -- src/values.rt:53:9
 pairs-within-u16-at-requires : (t : ℕ) → pairs-within-lts.Need-u16-at-requires (
@@ -400,7 +448,10 @@ pairs-within-returns-2 : (t : ℕ) → pairs-within-lts.Need-returns-2 (
   value-within-below t,
   value-within.Post,
 ) (pairs-within-at t) pairs-within.Post pairs-within-Inv-loop pairs-within-μ-loop
-pairs-within-returns-2 t c = table-over pairRow (λ _. wholeV ((c .before .before .before .before) .args .levels)) 0 1 ((c .before .before .before .before) .args .v .now) ((c .before) .u16-at .result) ((c .before) .u16-at .ensures .0) (c .if2 .taken)
+pairs-within-returns-2 t c =
+    let u16-at = c .before .u16-at in
+    let args = c .before .before .before .before .args in
+    table-over pairRow (λ _. wholeV (args .levels)) 0 1 (args .v .now) (u16-at .result) (u16-at .ensures .0) (c .if2 .taken)
 
 -- src/values.rt:58:17
 pairs-within-sub-e : (t : ℕ) → pairs-within-lts.Need-sub-e (
@@ -463,7 +514,11 @@ pairs-within-loop-holds : (t : ℕ) → pairs-within-lts.Need-loop-holds (
   value-within-below t,
   value-within.Post,
 ) (pairs-within-at t) pairs-within.Post pairs-within-Inv-loop pairs-within-μ-loop
-pairs-within-loop-holds t c = rows-start (omega (arith, length-part 3 (3 + 4 * (c .before .before .before) .u16-at .result) ((c .before .before .before .before .before .before) .args .v .now) ((c .before .before) .if2 .left)))
+pairs-within-loop-holds t c =
+    let if2 = c .before .before .if2 in
+    let u16-at = c .before .before .before .u16-at in
+    let args = c .before .before .before .before .before .before .args in
+    rows-start (omega (arith, length-part 3 (3 + 4 * u16-at .result) (args .v .now) (if2 .left)))
 
 -- src/values.rt:63:13
 pairs-within-u16-at-requires-2 : (t : ℕ) → pairs-within-lts.Need-u16-at-requires-2 (
@@ -481,7 +536,16 @@ pairs-within-returns-3 : (t : ℕ) → pairs-within-lts.Need-returns-3 (
   value-within-below t,
   value-within.Post,
 ) (pairs-within-at t) pairs-within.Post pairs-within-Inv-loop pairs-within-μ-loop
-pairs-within-returns-3 t c = rows-unfit ((c .before .before .before) .loop .inv) ((c .before .before) .loop-test .taken) (leb ((c .before .before .before) .loop .low) (rd ((c .before .before .before) .loop .e .now) 0)) refl (let q = (c .before) .u16-at2 .ensures .0 in rw (lt-leb ((c .before .before .before) .loop .low) (rd ((c .before .before .before) .loop .e .now) 0) (omega (arith, q, c .if3 .taken))) refl) ∙ sym (table-open pairRow (λ _. wholeV ((c .before .before .before .before .before .before .before .before .before .before) .args .levels)) 0 1 ((c .before .before .before .before .before .before .before .before .before .before) .args .v .now) ((c .before .before .before .before .before .before .before) .u16-at .result) ((c .before .before .before .before .before .before .before) .u16-at .ensures .0) ((c .before .before .before .before .before .before .before .before) .if1 .left) ((c .before .before .before .before .before .before) .if2 .left))
+pairs-within-returns-3 t c =
+    let loop-test = c .before .before .loop-test in
+    let loop = c .before .before .before .loop in
+    let if2 = c .before .before .before .before .before .before .if2 in
+    let u16-at = c .before .before .before .before .before .before .before .u16-at in
+    let if1 = c .before .before .before .before .before .before .before .before .if1 in
+    let args = c .before .before .before .before .before .before .before .before .before .before .args in
+    let by-rows-unfit = rows-unfit (loop .inv) (loop-test .taken) (leb (loop .low) (rd (loop .e .now) 0)) refl (let q = c .before .u16-at2 .ensures .0 in
+    rw (lt-leb (loop .low) (rd (loop .e .now) 0) (omega (arith, q, c .if3 .taken))) refl) in
+    by-rows-unfit ∙ sym (table-open pairRow (λ _. wholeV (args .levels)) 0 1 (args .v .now) (u16-at .result) (u16-at .ensures .0) (if1 .left) (if2 .left))
 
 -- src/values.rt:67:13
 pairs-within-u16-at-requires-3 : (t : ℕ) → pairs-within-lts.Need-u16-at-requires-3 (
@@ -499,7 +563,16 @@ pairs-within-returns-4 : (t : ℕ) → pairs-within-lts.Need-returns-4 (
   value-within-below t,
   value-within.Post,
 ) (pairs-within-at t) pairs-within.Post pairs-within-Inv-loop pairs-within-μ-loop
-pairs-within-returns-4 t c = rows-short ((c .before .before .before .before .before) .loop .inv) ((c .before .before .before .before) .loop-test .taken) ((c .before) .u16-at3 .result) ((c .before) .u16-at3 .ensures .0) (c .if4 .taken) ∙ sym (table-open pairRow (λ _. wholeV ((c .before .before .before .before .before .before .before .before .before .before .before .before) .args .levels)) 0 1 ((c .before .before .before .before .before .before .before .before .before .before .before .before) .args .v .now) ((c .before .before .before .before .before .before .before .before .before) .u16-at .result) ((c .before .before .before .before .before .before .before .before .before) .u16-at .ensures .0) ((c .before .before .before .before .before .before .before .before .before .before) .if1 .left) ((c .before .before .before .before .before .before .before .before) .if2 .left))
+pairs-within-returns-4 t c =
+    let u16-at3 = c .before .u16-at3 in
+    let loop-test = c .before .before .before .before .loop-test in
+    let loop = c .before .before .before .before .before .loop in
+    let if2 = c .before .before .before .before .before .before .before .before .if2 in
+    let u16-at = c .before .before .before .before .before .before .before .before .before .u16-at in
+    let if1 = c .before .before .before .before .before .before .before .before .before .before .if1 in
+    let args = c .before .before .before .before .before .before .before .before .before .before .before .before .args in
+    let by-rows-short = rows-short (loop .inv) (loop-test .taken) (u16-at3 .result) (u16-at3 .ensures .0) (c .if4 .taken) in
+    by-rows-short ∙ sym (table-open pairRow (λ _. wholeV (args .levels)) 0 1 (args .v .now) (u16-at .result) (u16-at .ensures .0) (if1 .left) (if2 .left))
 
 -- src/values.rt:71:26
 pairs-within-sub-value-within : (t : ℕ) → pairs-within-lts.Need-sub-value-within (
@@ -544,7 +617,19 @@ pairs-within-returns-5 : (t : ℕ) → pairs-within-lts.Need-returns-5 (
   value-within-below t,
   value-within.Post,
 ) (pairs-within-at t) pairs-within.Post pairs-within-Inv-loop pairs-within-μ-loop
-pairs-within-returns-5 t c = rows-body ((c .before .before .before .before .before .before .before .before) .loop .inv) ((c .before .before .before .before .before .before .before) .loop-test .taken) ((c .before .before .before .before) .u16-at3 .result) ((c .before .before .before .before) .u16-at3 .ensures .0) ((c .before) .value-within .result) ((c .before) .value-within .ensures) (c .if5 .taken) ∙ sym (table-open pairRow (λ _. wholeV ((c .before .before .before .before .before .before .before .before .before .before .before .before .before .before .before) .args .levels)) 0 1 ((c .before .before .before .before .before .before .before .before .before .before .before .before .before .before .before) .args .v .now) ((c .before .before .before .before .before .before .before .before .before .before .before .before) .u16-at .result) ((c .before .before .before .before .before .before .before .before .before .before .before .before) .u16-at .ensures .0) ((c .before .before .before .before .before .before .before .before .before .before .before .before .before) .if1 .left) ((c .before .before .before .before .before .before .before .before .before .before .before) .if2 .left))
+pairs-within-returns-5 t c =
+    let value-within-step = c .before .value-within in
+    let u16-at3 = c .before .before .before .before .u16-at3 in
+    let loop-test = c .before .before .before .before .before .before .before .loop-test in
+    let loop = c .before .before .before .before .before .before .before .before .loop in
+    let else2 = c .before .before .before .before .before .before .before .before .before .before .before in
+    let if2 = else2 .if2 in
+    let u16-at = else2 .before .u16-at in
+    let if1 = else2 .before .before .if1 in
+    let args = else2 .before .before .before .before .args in
+    let by-rows-body = rows-body (loop .inv) (loop-test .taken) (u16-at3 .result) (u16-at3 .ensures .0) (value-within-step .result) (value-within-step .ensures)
+    (c .if5 .taken) in
+    by-rows-body ∙ sym (table-open pairRow (λ _. wholeV (args .levels)) 0 1 (args .v .now) (u16-at .result) (u16-at .ensures .0) (if1 .left) (if2 .left))
 
 -- src/values.rt:74:15
 pairs-within-add-low : (t : ℕ) → pairs-within-lts.Need-add-low (
@@ -634,7 +719,19 @@ pairs-within-loop-again : (t : ℕ) → pairs-within-lts.Need-loop-again (
   value-within-below t,
   value-within.Post,
 ) (pairs-within-at t) pairs-within.Post pairs-within-Inv-loop pairs-within-μ-loop
-pairs-within-loop-again t c = rows-again ((c .before .before .before .before .before .before .before .before .before .before) .loop .inv) ((c .before .before .before .before .before .before .before .before .before) .loop-test .taken) ((c .before .before .before .before .before .before) .u16-at3 .result) ((c .before .before .before .before .before .before) .u16-at3 .ensures .0) (leb ((c .before .before .before .before .before .before .before .before .before .before) .loop .low) (rd ((c .before .before .before .before .before .before .before .before .before .before) .loop .e .now) 0)) refl (let q = (c .before .before .before .before .before .before .before .before) .u16-at2 .ensures .0 in rw (le-leb ((c .before .before .before .before .before .before .before .before .before .before) .loop .low) (rd ((c .before .before .before .before .before .before .before .before .before .before) .loop .e .now) 0) (omega (arith, q, (c .before .before .before .before .before .before .before) .if3 .left))) refl) ((c .before .before .before .before .before) .if4 .left) ((c .before .before .before) .value-within .result) ((c .before .before .before) .value-within .ensures) ((c .before .before) .if5 .left) _ (ap (λ (j : ℕ). j + 1) ((c .before .before .before .before .before .before .before .before) .u16-at2 .ensures .0))
+pairs-within-loop-again t c =
+    let if5 = c .before .before .if5 in
+    let value-within-step = c .before .before .before .value-within in
+    let if4 = c .before .before .before .before .before .if4 in
+    let u16-at3 = c .before .before .before .before .before .before .u16-at3 in
+    let if3 = c .before .before .before .before .before .before .before .if3 in
+    let u16-at2 = c .before .before .before .before .before .before .before .before .u16-at2 in
+    let loop-test = c .before .before .before .before .before .before .before .before .before .loop-test in
+    let loop = c .before .before .before .before .before .before .before .before .before .before .loop in
+    rows-again (loop .inv) (loop-test .taken) (u16-at3 .result) (u16-at3 .ensures .0) (leb (loop .low) (rd (loop .e .now) 0))
+    refl (let q = u16-at2 .ensures .0 in
+    rw (le-leb (loop .low) (rd (loop .e .now) 0) (omega (arith, q, if3 .left))) refl) (if4 .left) (value-within-step .result) (value-within-step .ensures)
+    (if5 .left) _ (ap (λ (j : ℕ). j + 1) (u16-at2 .ensures .0))
 
 -- src/values.rt:47:1
 pairs-within-returns-6 : (t : ℕ) → pairs-within-lts.Need-returns-6 (
@@ -643,7 +740,13 @@ pairs-within-returns-6 : (t : ℕ) → pairs-within-lts.Need-returns-6 (
   value-within-below t,
   value-within.Post,
 ) (pairs-within-at t) pairs-within.Post pairs-within-Inv-loop pairs-within-μ-loop
-pairs-within-returns-6 t c = rows-end ((c .before) .loop .inv) (c .loop-test .left) _ refl ∙ sym (table-open pairRow (λ _. wholeV ((c .before .before .before .before .before .before .before .before) .args .levels)) 0 1 ((c .before .before .before .before .before .before .before .before) .args .v .now) ((c .before .before .before .before .before) .u16-at .result) ((c .before .before .before .before .before) .u16-at .ensures .0) ((c .before .before .before .before .before .before) .if1 .left) ((c .before .before .before .before) .if2 .left))
+pairs-within-returns-6 t c =
+    let if2 = c .before .before .before .before .if2 in
+    let u16-at = c .before .before .before .before .before .u16-at in
+    let if1 = c .before .before .before .before .before .before .if1 in
+    let args = c .before .before .before .before .before .before .before .before .args in
+    rows-end (c .before .loop .inv) (c .loop-test .left) _ refl ∙
+    sym (table-open pairRow (λ _. wholeV (args .levels)) 0 1 (args .v .now) (u16-at .result) (u16-at .ensures .0) (if1 .left) (if2 .left))
 
 -- src/values.rt:87:9
 value-within-returns : (t : ℕ) → value-within-lts.Need-returns (
@@ -654,7 +757,9 @@ value-within-returns : (t : ℕ) → value-within-lts.Need-returns (
   pairs-within-below t,
   pairs-within.Post,
 ) (value-within-at t) value-within.Post
-value-within-returns t c = value-none ((c .before .before) .args .levels) ((c .before .before) .args .v .now) (c .if1 .taken)
+value-within-returns t c =
+    let args = c .before .before .args in
+    value-none (args .levels) (args .v .now) (c .if1 .taken)
 
 -- src/values.rt:90:9
 value-within-returns-2 : (t : ℕ) → value-within-lts.Need-returns-2 (
@@ -665,7 +770,9 @@ value-within-returns-2 : (t : ℕ) → value-within-lts.Need-returns-2 (
   pairs-within-below t,
   pairs-within.Post,
 ) (value-within-at t) value-within.Post
-value-within-returns-2 t c = value-empty ((c .before .before .before) .args .levels) ((c .before .before .before) .args .v .now) ((c .before) .if1 .left) (c .if2 .taken)
+value-within-returns-2 t c =
+    let args = c .before .before .before .args in
+    value-empty (args .levels) (args .v .now) (c .before .if1 .left) (c .if2 .taken)
 
 -- src/values.rt:92:13
 value-within-shared-slice-read-k : (t : ℕ) → value-within-lts.Need-shared-slice-read-k (
@@ -687,7 +794,11 @@ value-within-returns-3 : (t : ℕ) → value-within-lts.Need-returns-3 (
   pairs-within-below t,
   pairs-within.Post,
 ) (value-within-at t) value-within.Post
-value-within-returns-3 t c = string-short ((c .before .before .before .before .before .before) .args .levels) ((c .before .before .before .before .before .before) .args .v .now) ((c .before .before .before .before) .if1 .left) ((c .before .before .before) .if2 .left) ((c .before) .match .keys2) (c .if3 .taken)
+value-within-returns-3 t c =
+    let if2 = c .before .before .before .if2 in
+    let if1 = c .before .before .before .before .if1 in
+    let args = c .before .before .before .before .before .before .args in
+    string-short (args .levels) (args .v .now) (if1 .left) (if2 .left) (c .before .match .keys2) (c .if3 .taken)
 
 -- src/values.rt:99:28
 value-within-u16-at-requires : (t : ℕ) → value-within-lts.Need-u16-at-requires (
@@ -786,7 +897,11 @@ value-within-returns-4 : (t : ℕ) → value-within-lts.Need-returns-4 (
   pairs-within-below t,
   pairs-within.Post,
 ) (value-within-at t) value-within.Post
-value-within-returns-4 t c = unknown-no-value ((c .before .before .before .before .before .before) .args .levels) ((c .before .before .before .before .before .before) .args .v .now) ((c .before .before .before .before) .if1 .left) ((c .before .before .before) .if2 .left) (c .if4 .taken)
+value-within-returns-4 t c =
+    let if2 = c .before .before .before .if2 in
+    let if1 = c .before .before .before .before .if1 in
+    let args = c .before .before .before .before .before .before .args in
+    unknown-no-value (args .levels) (args .v .now) (if1 .left) (if2 .left) (c .if4 .taken)
 
 -- src/values.rt:83:1
 value-within-returns-5 : (t : ℕ) → value-within-lts.Need-returns-5 (
@@ -797,7 +912,11 @@ value-within-returns-5 : (t : ℕ) → value-within-lts.Need-returns-5 (
   pairs-within-below t,
   pairs-within.Post,
 ) (value-within-at t) value-within.Post
-value-within-returns-5 t c = sym (value-by ((c .before .before .before .before .before) .args .levels) ((c .before .before .before .before .before) .args .v .now) ((c .before .before .before) .if1 .left) ((c .before .before) .if2 .left) 2 (c .match .keys1))
+value-within-returns-5 t c =
+    let if2 = c .before .before .if2 in
+    let if1 = c .before .before .before .if1 in
+    let args = c .before .before .before .before .before .args in
+    sym (value-by (args .levels) (args .v .now) (if1 .left) (if2 .left) 2 (c .match .keys1))
 
 -- src/values.rt:83:1
 value-within-returns-6 : (t : ℕ) → value-within-lts.Need-returns-6 (
@@ -808,7 +927,12 @@ value-within-returns-6 : (t : ℕ) → value-within-lts.Need-returns-6 (
   pairs-within-below t,
   pairs-within.Post,
 ) (value-within-at t) value-within.Post
-value-within-returns-6 t c = string-open ((c .before .before .before .before .before .before .before) .args .levels) ((c .before .before .before .before .before .before .before) .args .v .now) ((c .before .before .before .before .before) .if1 .left) ((c .before .before .before .before) .if2 .left) ((c .before .before) .match .keys2) ((c .before) .if3 .left) (c .u16-at .result) (c .u16-at .ensures .0)
+value-within-returns-6 t c =
+    let match-keys2 = c .before .before .match in
+    let if2 = c .before .before .before .before .if2 in
+    let if1 = c .before .before .before .before .before .if1 in
+    let args = c .before .before .before .before .before .before .before .args in
+    string-open (args .levels) (args .v .now) (if1 .left) (if2 .left) (match-keys2 .keys2) (c .before .if3 .left) (c .u16-at .result) (c .u16-at .ensures .0)
 
 -- src/values.rt:83:1
 value-within-returns-7 : (t : ℕ) → value-within-lts.Need-returns-7 (
@@ -819,7 +943,11 @@ value-within-returns-7 : (t : ℕ) → value-within-lts.Need-returns-7 (
   pairs-within-below t,
   pairs-within.Post,
 ) (value-within-at t) value-within.Post
-value-within-returns-7 t c = sym (value-by ((c .before .before .before .before .before) .args .levels) ((c .before .before .before .before .before) .args .v .now) ((c .before .before .before) .if1 .left) ((c .before .before) .if2 .left) 4 (c .match .keys3))
+value-within-returns-7 t c =
+    let if2 = c .before .before .if2 in
+    let if1 = c .before .before .before .if1 in
+    let args = c .before .before .before .before .before .args in
+    sym (value-by (args .levels) (args .v .now) (if1 .left) (if2 .left) 4 (c .match .keys3))
 
 -- src/values.rt:83:1
 value-within-returns-8 : (t : ℕ) → value-within-lts.Need-returns-8 (
@@ -830,7 +958,11 @@ value-within-returns-8 : (t : ℕ) → value-within-lts.Need-returns-8 (
   pairs-within-below t,
   pairs-within.Post,
 ) (value-within-at t) value-within.Post
-value-within-returns-8 t c = c .members-within .ensures ∙ sym (value-by ((c .before .before .before .before .before .before) .args .levels) ((c .before .before .before .before .before .before) .args .v .now) ((c .before .before .before .before) .if1 .left) ((c .before .before .before) .if2 .left) 5 ((c .before) .match .keys4))
+value-within-returns-8 t c =
+    let if2 = c .before .before .before .if2 in
+    let if1 = c .before .before .before .before .if1 in
+    let args = c .before .before .before .before .before .before .args in
+    c .members-within .ensures ∙ sym (value-by (args .levels) (args .v .now) (if1 .left) (if2 .left) 5 (c .before .match .keys4))
 
 -- src/values.rt:83:1
 value-within-returns-9 : (t : ℕ) → value-within-lts.Need-returns-9 (
@@ -841,7 +973,11 @@ value-within-returns-9 : (t : ℕ) → value-within-lts.Need-returns-9 (
   pairs-within-below t,
   pairs-within.Post,
 ) (value-within-at t) value-within.Post
-value-within-returns-9 t c = c .pairs-within .ensures ∙ sym (value-by ((c .before .before .before .before .before .before) .args .levels) ((c .before .before .before .before .before .before) .args .v .now) ((c .before .before .before .before) .if1 .left) ((c .before .before .before) .if2 .left) 6 ((c .before) .match .keys5))
+value-within-returns-9 t c =
+    let if2 = c .before .before .before .if2 in
+    let if1 = c .before .before .before .before .if1 in
+    let args = c .before .before .before .before .before .before .args in
+    c .pairs-within .ensures ∙ sym (value-by (args .levels) (args .v .now) (if1 .left) (if2 .left) 6 (c .before .match .keys5))
 
 -- src/values.rt:83:1
 value-within-returns-10 : (t : ℕ) → value-within-lts.Need-returns-10 (
@@ -852,7 +988,11 @@ value-within-returns-10 : (t : ℕ) → value-within-lts.Need-returns-10 (
   pairs-within-below t,
   pairs-within.Post,
 ) (value-within-at t) value-within.Post
-value-within-returns-10 t c = c .members-within2 .ensures ∙ sym (value-by ((c .before .before .before .before .before .before) .args .levels) ((c .before .before .before .before .before .before) .args .v .now) ((c .before .before .before .before) .if1 .left) ((c .before .before .before) .if2 .left) 7 ((c .before) .match .keys6))
+value-within-returns-10 t c =
+    let if2 = c .before .before .before .if2 in
+    let if1 = c .before .before .before .before .if1 in
+    let args = c .before .before .before .before .before .before .args in
+    c .members-within2 .ensures ∙ sym (value-by (args .levels) (args .v .now) (if1 .left) (if2 .left) 7 (c .before .match .keys6))
 
 -- src/values.rt:83:1
 value-within-returns-11 : (t : ℕ) → value-within-lts.Need-returns-11 (
@@ -863,7 +1003,13 @@ value-within-returns-11 : (t : ℕ) → value-within-lts.Need-returns-11 (
   pairs-within-below t,
   pairs-within.Post,
 ) (value-within-at t) value-within.Post
-value-within-returns-11 t c = let m = (c .before) .match .rest in boolean-open ((c .before .before .before .before .before .before) .args .levels) ((c .before .before .before .before .before .before) .args .v .now) ((c .before .before .before .before) .if1 .left) ((c .before .before .before) .if2 .left) (m .0 .0 .0 .0 .0 .1) (m .0 .0 .0 .0 .1) (m .0 .0 .0 .1) (m .0 .0 .1) (m .0 .1) (m .1) (c .if4 .left)
+value-within-returns-11 t c =
+    let if2 = c .before .before .before .if2 in
+    let if1 = c .before .before .before .before .if1 in
+    let args = c .before .before .before .before .before .before .args in
+    let m = c .before .match .rest in
+    boolean-open (args .levels) (args .v .now) (if1 .left) (if2 .left) (m .0 .0 .0 .0 .0 .1) (m .0 .0 .0 .0 .1) (m .0 .0 .0 .1) (m .0 .0 .1) (m .0 .1) (m .1)
+    (c .if4 .left)
 
 pub +members-within+pairs-within+value-within-spec : {M : Type 1} → statement M
 +members-within+pairs-within+value-within-spec =

@@ -10,7 +10,9 @@ use Rattle.forms.proofs.values.value_within.Reads as value-within-reads
 
 -- src/values.rt:119:9
 returns : tie.Need-returns
-returns c = within-over 4096 (parseValue 16) ((c .before .before) .args .v .now) (value-twin 16 ((c .before .before) .args .v .now)) (c .if1 .taken)
+returns c =
+    let args = c .before .before .args in
+    within-over 4096 (parseValue 16) (args .v .now) (value-twin 16 (args .v .now)) (c .if1 .taken)
 
 -- src/values.rt:121:5
 value-within-requires : tie.Need-value-within-requires
@@ -18,7 +20,9 @@ value-within-requires c κs = omega arith
 
 -- src/values.rt:115:1
 returns-2 : tie.Need-returns-2
-returns-2 c = within-yes 4096 (parseValue 16) ((c .before .before .before) .args .v .now) (value-twin 16 ((c .before .before .before) .args .v .now)) ((c .before) .if1 .left) (c .value-within .result) (c .value-within .ensures)
+returns-2 c =
+    let args = c .before .before .before .args in
+    within-yes 4096 (parseValue 16) (args .v .now) (value-twin 16 (args .v .now)) (c .before .if1 .left) (c .value-within .result) (c .value-within .ensures)
 
 pub whole-value-spec : {M : Type 1} → statement M
 whole-value-spec = tie.close (tie.spec returns value-within-requires returns-2)

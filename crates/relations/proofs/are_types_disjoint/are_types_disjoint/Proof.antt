@@ -17,8 +17,9 @@ enum-told c = search needs
 
 returns : tie.Need-returns
 returns c =
+    let type-names = c .before .before .type-names in
     let start = c .before .before .before .before .before in
-    disjoint-first (dec 16 (start .args .t0 .now)) (dec 16 (start .args .t1 .now)) (found-nothing (c .before .before .type-names .ensures) (c .enum-told .given .1))
+    disjoint-first (dec 16 (start .args .t0 .now)) (dec 16 (start .args .t1 .now)) (found-nothing (type-names .ensures) (c .enum-told .given .1))
 
 type-names-requires-2 : tie.Need-type-names-requires-2
 type-names-requires-2 c κs = search needs
@@ -31,11 +32,14 @@ enum-told-2 c = search needs
 
 returns-2 : tie.Need-returns-2
 returns-2 c =
-    let start = c .before .before .before .before .before .before .before .before .before in
-    let after-type-names = c .before .before .before .before .before .before in
+    let type-names2 = c .before .before .type-names2 in
     let after-a = c .before .before .before .before in
+    let after-type-names = after-a .before .before in
+    let start = after-type-names .before .before .before in
     let a = after-a .a .given in
-    disjoint-second (dec 16 (start .args .t0 .now)) (dec 16 (start .args .t1 .now)) _ (found-from (after-type-names .type-names .ensures) (a .0 .0) (a .0 .1 .0) (a .1)) (found-nothing (c .before .before .type-names2 .ensures) (c .enum-told2 .given .1))
+    let by-found-from = found-from (after-type-names .type-names .ensures) (a .0 .0) (a .0 .1 .0) (a .1) in
+    disjoint-second (dec 16 (start .args .t0 .now)) (dec 16 (start .args .t1 .now)) _ by-found-from
+    (found-nothing (type-names2 .ensures) (c .enum-told2 .given .1))
 
 sub-names-share : tie.Need-sub-names-share
 sub-names-share c =
@@ -45,49 +49,48 @@ sub-names-share c =
     omega (arith, found-within (after-type-names .type-names .ensures) (a .0 .0) (a .0 .1 .0) (a .1) .0)
 
 part-names-share-start : tie.Need-part-names-share-start
-part-names-share-start c =
-    let after-type-names = c .before .before .before .before .before .before .before in
-    let after-a = c .before .before .before .before .before in
-    let a = after-a .a .given in
-    omega (arith, found-within (after-type-names .type-names .ensures) (a .0 .0) (a .0 .1 .0) (a .1) .0)
+part-names-share-start c = sub-names-share c
 
 part-names-share-end : tie.Need-part-names-share-end
 part-names-share-end c = search needs
 
 sub-names-share-2 : tie.Need-sub-names-share-2
 sub-names-share-2 c =
+    let b-step = c .before .before .b in
     let after-type-names2 = c .before .before .before .before in
-    let b = c .before .before .b .given in
+    let b = b-step .given in
     omega (arith, found-within (after-type-names2 .type-names2 .ensures) (b .0 .0) (b .0 .1 .0) (b .1) .0)
 
 part-names-share-start-2 : tie.Need-part-names-share-start-2
-part-names-share-start-2 c =
-    let after-type-names2 = c .before .before .before .before in
-    let b = c .before .before .b .given in
-    omega (arith, found-within (after-type-names2 .type-names2 .ensures) (b .0 .0) (b .0 .1 .0) (b .1) .0)
+part-names-share-start-2 c = sub-names-share-2 c
 
 part-names-share-end-2 : tie.Need-part-names-share-end-2
 part-names-share-end-2 c = search needs
 
 names-share-requires : tie.Need-names-share-requires
 names-share-requires c κs =
-    let after-type-names = c .before .before .before .before .before .before .before .before .before in
-    let after-a = c .before .before .before .before .before .before .before in
+    let b-step = c .before .before .before .b in
     let after-type-names2 = c .before .before .before .before .before in
+    let after-a = after-type-names2 .before .before in
+    let after-type-names = after-a .before .before in
     let a = after-a .a .given in
-    let b = c .before .before .before .b .given in
-    (found-within (after-type-names .type-names .ensures) (a .0 .0) (a .0 .1 .0) (a .1) .1, found-within (after-type-names2 .type-names2 .ensures) (b .0 .0) (b .0 .1 .0) (b .1) .1)
+    let b = b-step .given in
+    let by-found-within = found-within (after-type-names .type-names .ensures) (a .0 .0) (a .0 .1 .0) (a .1) in
+    (by-found-within .1, found-within (after-type-names2 .type-names2 .ensures) (b .0 .0) (b .0 .1 .0) (b .1) .1)
 
 returns-3 : tie.Need-returns-3
 returns-3 c =
-    let start = c .before .before .before .before .before .before .before .before .before .before .before .before .before in
-    let after-type-names = c .before .before .before .before .before .before .before .before .before .before in
-    let after-a = c .before .before .before .before .before .before .before .before in
-    let after-type-names2 = c .before .before .before .before .before .before in
     let after-b = c .before .before .before .before in
+    let after-type-names2 = after-b .before .before in
+    let after-a = after-type-names2 .before .before in
+    let after-type-names = after-a .before .before in
+    let start = after-type-names .before .before .before in
     let a = after-a .a .given in
     let b = after-b .b .given in
-    disjoint-both (dec 16 (start .args .t0 .now)) (dec 16 (start .args .t1 .now)) _ _ (c .names-share .result) (found-from (after-type-names .type-names .ensures) (a .0 .0) (a .0 .1 .0) (a .1)) (found-from (after-type-names2 .type-names2 .ensures) (b .0 .0) (b .0 .1 .0) (b .1)) (c .names-share .ensures)
+    let by-found-from = found-from (after-type-names .type-names .ensures) (a .0 .0) (a .0 .1 .0) (a .1) in
+    let by-found-from-2 = found-from (after-type-names2 .type-names2 .ensures) (b .0 .0) (b .0 .1 .0) (b .1) in
+    disjoint-both (dec 16 (start .args .t0 .now)) (dec 16 (start .args .t1 .now)) _ _ (c .names-share .result) by-found-from by-found-from-2
+    (c .names-share .ensures)
 
 pub are-types-disjoint-spec : {M : Type 1} → statement M
 are-types-disjoint-spec =

@@ -3,7 +3,7 @@ use mathlib.Core.Path.{refl}
 use lib.Dec.{eqb}
 use borrow.Author.Tests.{eq-eqb, ne-eqb}
 use Rattle.forms.specs.Laws.Attributes.{laid}
-use Rattle.relations.specs.Names.{entryNames}
+use Rattle.forms.specs.TypeBytes.{namesBy}
 use Rattle.relations.specs.Laws.Covered.{covered-open, covered-optional, covered-not, covered-found}
 use borrow.Author.Needs.{needs}
 use Rattle.relations.proofs.is_consistent_with.attribute_covered.Statement.{statement}
@@ -12,15 +12,18 @@ use Rattle.relations.proofs.is_consistent_with.attribute_covered.Tie as
 returns : tie.Need-returns
 returns c =
     let start = c .before .before .before .before in
-    covered-open (eqb (start .args .openness) 1) (entryNames (start .args .m) (start .args .fs .now)) (start .args .e .now) (eq-eqb (start .args .openness) 1 (c .if1 .taken))
+    let args = start .args in
+    covered-open (eqb (args .openness) 1) (namesBy 5 (args .m) (args .fs .now)) (args .e .now) (eq-eqb (args .openness) 1 (c .if1 .taken))
 
 shared-slice-read-if2 : tie.Need-shared-slice-read-if2
 shared-slice-read-if2 c = search needs
 
 returns-2 : tie.Need-returns-2
 returns-2 c =
+    let if1 = c .before .before .if1 in
     let start = c .before .before .before .before .before .before in
-    covered-optional (eqb (start .args .openness) 1) (entryNames (start .args .m) (start .args .fs .now)) (start .args .e .now) (ne-eqb (start .args .openness) 1 (c .before .before .if1 .left)) (c .if2 .taken)
+    let args = start .args in
+    covered-optional (eqb (args .openness) 1) (namesBy 5 (args .m) (args .fs .now)) (args .e .now) (ne-eqb (args .openness) 1 (if1 .left)) (c .if2 .taken)
 
 u16-at-requires : tie.Need-u16-at-requires
 u16-at-requires c κs = search needs
@@ -38,22 +41,28 @@ enum-told-2 c = search needs
 
 returns-3 : tie.Need-returns-3
 returns-3 c =
-    let start = c .before .before .before .before .before .before .before .before .before .before in
-    let else1 = c .before .before .before .before .before .before in
-    let else2 = c .before .before .before .before in
-    let after-u16-at = c .before .before .before in
     let after-find = c .before .before in
-    covered-not (eqb (start .args .openness) 1) (entryNames (start .args .m) (start .args .fs .now)) (start .args .e .now) (ne-eqb (start .args .openness) 1 (else1 .if1 .left)) (start .args .m) (start .args .fs .now) (start .args .cs .now) (start .pre .1) refl (after-u16-at .u16-at .result) (after-u16-at .u16-at .ensures .0) (after-find .find .result) (after-find .find .ensures) (else2 .if2 .left) (c .enum-told2 .given .1)
+    let after-u16-at = after-find .before in
+    let else2 = after-u16-at .before in
+    let else1 = else2 .before .before in
+    let start = else1 .before .before .before .before in
+    let args = start .args in
+    covered-not (eqb (args .openness) 1) (namesBy 5 (args .m) (args .fs .now)) (args .e .now) (ne-eqb (args .openness) 1 (else1 .if1 .left)) (args .m)
+    (args .fs .now) (args .cs .now) (start .pre .1) refl (after-u16-at .u16-at .result) (after-u16-at .u16-at .ensures .0) (after-find .find .result)
+    (after-find .find .ensures) (else2 .if2 .left) (c .enum-told2 .given .1)
 
 returns-4 : tie.Need-returns-4
 returns-4 c =
-    let start = c .before .before .before .before .before .before .before .before .before .before in
-    let else1 = c .before .before .before .before .before .before in
-    let else2 = c .before .before .before .before in
-    let after-u16-at = c .before .before .before in
     let after-find = c .before .before in
+    let after-u16-at = after-find .before in
+    let else2 = after-u16-at .before in
+    let else1 = else2 .before .before in
+    let start = else1 .before .before .before .before in
     let g = c .enum-told .given in
-    covered-found (eqb (start .args .openness) 1) (entryNames (start .args .m) (start .args .fs .now)) (start .args .e .now) (ne-eqb (start .args .openness) 1 (else1 .if1 .left)) (start .args .m) (start .args .fs .now) (start .args .cs .now) (start .pre .1) refl (after-u16-at .u16-at .result) (after-u16-at .u16-at .ensures .0) (after-find .find .result) (after-find .find .ensures) (else2 .if2 .left) (g .0 .0) (g .0 .1 .0) (g .1)
+    let args = start .args in
+    covered-found (eqb (args .openness) 1) (namesBy 5 (args .m) (args .fs .now)) (args .e .now) (ne-eqb (args .openness) 1 (else1 .if1 .left)) (args .m)
+    (args .fs .now) (args .cs .now) (start .pre .1) refl (after-u16-at .u16-at .result) (after-u16-at .u16-at .ensures .0) (after-find .find .result)
+    (after-find .find .ensures) (else2 .if2 .left) (g .0 .0) (g .0 .1 .0) (g .1)
 
 pub attribute-covered-spec : {M : Type 1} → statement M
 attribute-covered-spec =

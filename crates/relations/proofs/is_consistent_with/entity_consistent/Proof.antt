@@ -18,9 +18,7 @@ sub-names-share c =
     omega (arith, is-entity (start .args .levels) (start .args .t0 .now) (start .pre .0) (c .match .keys2) .some)
 
 part-names-share-start : tie.Need-part-names-share-start
-part-names-share-start c =
-    let start = c .before .before .before .before in
-    omega (arith, is-entity (start .args .levels) (start .args .t0 .now) (start .pre .0) (c .match .keys2) .some)
+part-names-share-start c = sub-names-share c
 
 part-names-share-end : tie.Need-part-names-share-end
 part-names-share-end c = search needs
@@ -41,8 +39,10 @@ part-names-share-end-2 c = search needs
 
 names-share-requires : tie.Need-names-share-requires
 names-share-requires c κs =
+    let match-keys2 = c .before .before .before .match in
     let start = c .before .before .before .before .before .before .before in
-    (rw (c .before .u16-at .ensures .0) (entity-names (entity-form (is-entity (start .args .levels) (start .args .t0 .now) (start .pre .0) (c .before .before .before .match .keys2)))), first-of (start .pre .1))
+    let by-entity-names = entity-names (entity-form (is-entity (start .args .levels) (start .args .t0 .now) (start .pre .0) (match-keys2 .keys2))) in
+    (rw (c .before .u16-at .ensures .0) by-entity-names, first-of (start .pre .1))
 
 u16-at-requires-2 : tie.Need-u16-at-requires-2
 u16-at-requires-2 c κs =
@@ -59,16 +59,21 @@ returns c =
 
 returns-2 : tie.Need-returns-2
 returns-2 c =
-    let start = c .before .before .before .before .before .before .before .before in
-    let at-match-keys2 = c .before .before .before .before in
     let after-u16-at = c .before .before in
-    entity-name (start .args .levels) (start .args .t0 .now) (start .args .t1 .now) (start .pre .0) (start .pre .1) (at-match-keys2 .match .keys2) (after-u16-at .u16-at .result) (after-u16-at .u16-at .ensures .0) (c .names-share .result) (c .names-share .ensures)
+    let at-match-keys2 = after-u16-at .before .before in
+    let start = at-match-keys2 .before .before .before .before in
+    let args = start .args in
+    entity-name (args .levels) (args .t0 .now) (args .t1 .now) (start .pre .0) (start .pre .1) (at-match-keys2 .match .keys2) (after-u16-at .u16-at .result)
+    (after-u16-at .u16-at .ensures .0) (c .names-share .result) (c .names-share .ensures)
 
 returns-3 : tie.Need-returns-3
 returns-3 c =
-    let start = c .before .before .before .before .before .before in
     let after-u16-at2 = c .before in
-    entity-action (start .args .levels) (start .args .t0 .now) (start .args .t1 .now) (start .pre .0) (start .pre .1) (c .before .before .match .keys3) (after-u16-at2 .u16-at2 .result) (c .u16-at3 .result) (after-u16-at2 .u16-at2 .ensures .0) (c .u16-at3 .ensures .0)
+    let match-keys3 = after-u16-at2 .before .match in
+    let start = after-u16-at2 .before .before .before .before .before in
+    let args = start .args in
+    entity-action (args .levels) (args .t0 .now) (args .t1 .now) (start .pre .0) (start .pre .1) (match-keys3 .keys3) (after-u16-at2 .u16-at2 .result)
+    (c .u16-at3 .result) (after-u16-at2 .u16-at2 .ensures .0) (c .u16-at3 .ensures .0)
 
 returns-4 : tie.Need-returns-4
 returns-4 c =

@@ -4,7 +4,8 @@ use Prim.Native.Nat.{_+_, _*_}
 use native.Mathlib.Omega.{arith}
 use Rattle.forms.specs.TypeBytes.{dec, decA}
 use Rattle.forms.specs.Laws.Views.{not-empty, is-set, is-record, is-entity}
-use Rattle.relations.specs.Laws.Plain.{PlainLeft, plain-start, plain-end, plain-first, plain-not, plain-again, plain-set, plain-record, plain-entity, plain-extension, plain-other}
+use Rattle.relations.specs.Laws.Plain.{PlainLeft, plain-start, plain-end, plain-first, plain-not, plain-again, plain-set, plain-record, plain-entity}
+use Rattle.relations.specs.Laws.Plain.{plain-extension, plain-other}
 use borrow.Author.Needs.{needs}
 use Prim.Native.Nat.{ℕ, _<_}
 use borrow.Fn.Kinds.{In}
@@ -53,7 +54,16 @@ abbrev attributes-plain-claims : ℕ → attributes-plain-lts.Claims
 attributes-plain-claims t = (u16-at-reads.Asked, u16-at-reads.Learnt, is-plain-below t, is-plain.Post)
 
 abbrev is-plain-claims : ℕ → is-plain-lts.Claims
-is-plain-claims t = (is-plain-below t, is-plain.Post, u16-at-reads.Asked, u16-at-reads.Learnt, attributes-plain-below t, attributes-plain.Post, kind-is-plain-reads.Asked, kind-is-plain-reads.Learnt)
+is-plain-claims t = (
+  is-plain-below t,
+  is-plain.Post,
+  u16-at-reads.Asked,
+  u16-at-reads.Learnt,
+  attributes-plain-below t,
+  attributes-plain.Post,
+  kind-is-plain-reads.Asked,
+  kind-is-plain-reads.Learnt,
+)
 
 abbrev attributes-plain-Inv-loop : attributes-plain-lts.InvT-loop
 attributes-plain-Inv-loop es bs n levels e₀ b₀ left₀ e b left = PlainLeft levels (decA (dec levels) n es bs) left e b
@@ -61,75 +71,114 @@ attributes-plain-Inv-loop es bs n levels e₀ b₀ left₀ e b left = PlainLeft 
 abbrev attributes-plain-μ-loop : attributes-plain-lts.MeasureT-loop
 attributes-plain-μ-loop es bs n levels e₀ b₀ left₀ e b left = left
 
-attributes-plain-loop-holds : (t : ℕ) → attributes-plain-lts.Need-loop-holds (attributes-plain-claims t) (attributes-plain-at t) attributes-plain.Post attributes-plain-Inv-loop attributes-plain-μ-loop
-attributes-plain-loop-holds t c = plain-start (c .before .before .pre .1)
+attributes-plain-loop-holds : (t : ℕ) →
+    attributes-plain-lts.Need-loop-holds (attributes-plain-claims t) (attributes-plain-at t) attributes-plain.Post attributes-plain-Inv-loop
+    attributes-plain-μ-loop
+attributes-plain-loop-holds t c =
+    let pre = c .before .before .pre in
+    plain-start (pre .1)
 
-attributes-plain-u16-at-requires : (t : ℕ) → attributes-plain-lts.Need-u16-at-requires (attributes-plain-claims t) (attributes-plain-at t) attributes-plain.Post attributes-plain-Inv-loop attributes-plain-μ-loop
+attributes-plain-u16-at-requires : (t : ℕ) →
+    attributes-plain-lts.Need-u16-at-requires (attributes-plain-claims t) (attributes-plain-at t) attributes-plain.Post attributes-plain-Inv-loop
+    attributes-plain-μ-loop
 attributes-plain-u16-at-requires t c κs = omega arith
 
-attributes-plain-sub-is-plain : (t : ℕ) → attributes-plain-lts.Need-sub-is-plain (attributes-plain-claims t) (attributes-plain-at t) attributes-plain.Post attributes-plain-Inv-loop attributes-plain-μ-loop
-attributes-plain-sub-is-plain t c = omega (arith, plain-first (c .before .before .loop .inv) (c .before .loop-test .taken) .fit, c .u16-at .ensures .0)
+attributes-plain-sub-is-plain : (t : ℕ) →
+    attributes-plain-lts.Need-sub-is-plain (attributes-plain-claims t) (attributes-plain-at t) attributes-plain.Post attributes-plain-Inv-loop
+    attributes-plain-μ-loop
+attributes-plain-sub-is-plain t c =
+    let loop = c .before .before .loop in
+    omega (arith, plain-first (loop .inv) (c .before .loop-test .taken) .fit, c .u16-at .ensures .0)
 
-attributes-plain-part-is-plain-start : (t : ℕ) → attributes-plain-lts.Need-part-is-plain-start (attributes-plain-claims t) (attributes-plain-at t) attributes-plain.Post attributes-plain-Inv-loop attributes-plain-μ-loop
+attributes-plain-part-is-plain-start : (t : ℕ) →
+    attributes-plain-lts.Need-part-is-plain-start (attributes-plain-claims t) (attributes-plain-at t) attributes-plain.Post attributes-plain-Inv-loop
+    attributes-plain-μ-loop
 attributes-plain-part-is-plain-start t c = omega arith
 
-attributes-plain-part-is-plain-end : (t : ℕ) → attributes-plain-lts.Need-part-is-plain-end (attributes-plain-claims t) (attributes-plain-at t) attributes-plain.Post attributes-plain-Inv-loop attributes-plain-μ-loop
-attributes-plain-part-is-plain-end t c = omega (arith, plain-first (c .before .before .loop .inv) (c .before .loop-test .taken) .fit, c .u16-at .ensures .0)
+attributes-plain-part-is-plain-end : (t : ℕ) →
+    attributes-plain-lts.Need-part-is-plain-end (attributes-plain-claims t) (attributes-plain-at t) attributes-plain.Post attributes-plain-Inv-loop
+    attributes-plain-μ-loop
+attributes-plain-part-is-plain-end t c =
+    let loop = c .before .before .loop in
+    omega (arith, plain-first (loop .inv) (c .before .loop-test .taken) .fit, c .u16-at .ensures .0)
 
-attributes-plain-is-plain-requires : (t : ℕ) → attributes-plain-lts.Need-is-plain-requires (attributes-plain-claims t) (attributes-plain-at t) attributes-plain.Post attributes-plain-Inv-loop attributes-plain-μ-loop
+attributes-plain-is-plain-requires : (t : ℕ) →
+    attributes-plain-lts.Need-is-plain-requires (attributes-plain-claims t) (attributes-plain-at t) attributes-plain.Post attributes-plain-Inv-loop
+    attributes-plain-μ-loop
 attributes-plain-is-plain-requires t c κs =
+    let loop-test = c .before .before .loop-test in
+    let loop = c .before .before .before .loop in
     let start = c .before .before .before .before .before .before in
-    (omega (arith, start .pre .0), rw (c .before .u16-at .ensures .0) (plain-first (c .before .before .before .loop .inv) (c .before .before .loop-test .taken) .body))
+    (omega (arith, start .pre .0), rw (c .before .u16-at .ensures .0) (plain-first (loop .inv) (loop-test .taken) .body))
 
-attributes-plain-returns : (t : ℕ) → attributes-plain-lts.Need-returns (attributes-plain-claims t) (attributes-plain-at t) attributes-plain.Post attributes-plain-Inv-loop attributes-plain-μ-loop
+attributes-plain-returns : (t : ℕ) →
+    attributes-plain-lts.Need-returns (attributes-plain-claims t) (attributes-plain-at t) attributes-plain.Post attributes-plain-Inv-loop
+    attributes-plain-μ-loop
 attributes-plain-returns t c =
-    let at-loop = c .before .before .before .before .before in
-    let in-loop = c .before .before .before .before in
-    let after-u16-at = c .before .before .before in
     let after-is-plain = c .before in
-    plain-not (at-loop .loop .inv) (in-loop .loop-test .taken) (after-u16-at .u16-at .result) (after-u16-at .u16-at .ensures .0) (after-is-plain .is-plain .result) (after-is-plain .is-plain .ensures) (c .if1 .taken)
+    let after-u16-at = after-is-plain .before .before in
+    let in-loop = after-u16-at .before in
+    let at-loop = in-loop .before in
+    plain-not (at-loop .loop .inv) (in-loop .loop-test .taken) (after-u16-at .u16-at .result) (after-u16-at .u16-at .ensures .0)
+    (after-is-plain .is-plain .result) (after-is-plain .is-plain .ensures) (c .if1 .taken)
 
-attributes-plain-sub-e : (t : ℕ) → attributes-plain-lts.Need-sub-e (attributes-plain-claims t) (attributes-plain-at t) attributes-plain.Post attributes-plain-Inv-loop attributes-plain-μ-loop
+attributes-plain-sub-e : (t : ℕ) →
+    attributes-plain-lts.Need-sub-e (attributes-plain-claims t) (attributes-plain-at t) attributes-plain.Post attributes-plain-Inv-loop attributes-plain-μ-loop
 attributes-plain-sub-e t c = omega arith
 
-attributes-plain-part-e-start : (t : ℕ) → attributes-plain-lts.Need-part-e-start (attributes-plain-claims t) (attributes-plain-at t) attributes-plain.Post attributes-plain-Inv-loop attributes-plain-μ-loop
+attributes-plain-part-e-start : (t : ℕ) →
+    attributes-plain-lts.Need-part-e-start (attributes-plain-claims t) (attributes-plain-at t) attributes-plain.Post attributes-plain-Inv-loop
+    attributes-plain-μ-loop
 attributes-plain-part-e-start t c = omega arith
 
-attributes-plain-part-e-end : (t : ℕ) → attributes-plain-lts.Need-part-e-end (attributes-plain-claims t) (attributes-plain-at t) attributes-plain.Post attributes-plain-Inv-loop attributes-plain-μ-loop
+attributes-plain-part-e-end : (t : ℕ) →
+    attributes-plain-lts.Need-part-e-end (attributes-plain-claims t) (attributes-plain-at t) attributes-plain.Post attributes-plain-Inv-loop
+    attributes-plain-μ-loop
 attributes-plain-part-e-end t c = omega arith
 
-attributes-plain-sub-b : (t : ℕ) → attributes-plain-lts.Need-sub-b (attributes-plain-claims t) (attributes-plain-at t) attributes-plain.Post attributes-plain-Inv-loop attributes-plain-μ-loop
+attributes-plain-sub-b : (t : ℕ) →
+    attributes-plain-lts.Need-sub-b (attributes-plain-claims t) (attributes-plain-at t) attributes-plain.Post attributes-plain-Inv-loop attributes-plain-μ-loop
 attributes-plain-sub-b t c =
     let at-loop = c .before .before .before .before .before .before in
     let in-loop = c .before .before .before .before .before in
     let after-u16-at = c .before .before .before .before in
     omega (arith, plain-first (at-loop .loop .inv) (in-loop .loop-test .taken) .fit, after-u16-at .u16-at .ensures .0)
 
-attributes-plain-part-b-start : (t : ℕ) → attributes-plain-lts.Need-part-b-start (attributes-plain-claims t) (attributes-plain-at t) attributes-plain.Post attributes-plain-Inv-loop attributes-plain-μ-loop
-attributes-plain-part-b-start t c =
-    let at-loop = c .before .before .before .before .before .before in
-    let in-loop = c .before .before .before .before .before in
-    let after-u16-at = c .before .before .before .before in
-    omega (arith, plain-first (at-loop .loop .inv) (in-loop .loop-test .taken) .fit, after-u16-at .u16-at .ensures .0)
+attributes-plain-part-b-start : (t : ℕ) →
+    attributes-plain-lts.Need-part-b-start (attributes-plain-claims t) (attributes-plain-at t) attributes-plain.Post attributes-plain-Inv-loop
+    attributes-plain-μ-loop
+attributes-plain-part-b-start t c = attributes-plain-sub-b t c
 
-attributes-plain-part-b-end : (t : ℕ) → attributes-plain-lts.Need-part-b-end (attributes-plain-claims t) (attributes-plain-at t) attributes-plain.Post attributes-plain-Inv-loop attributes-plain-μ-loop
+attributes-plain-part-b-end : (t : ℕ) →
+    attributes-plain-lts.Need-part-b-end (attributes-plain-claims t) (attributes-plain-at t) attributes-plain.Post attributes-plain-Inv-loop
+    attributes-plain-μ-loop
 attributes-plain-part-b-end t c = omega arith
 
-attributes-plain-sub-left : (t : ℕ) → attributes-plain-lts.Need-sub-left (attributes-plain-claims t) (attributes-plain-at t) attributes-plain.Post attributes-plain-Inv-loop attributes-plain-μ-loop
+attributes-plain-sub-left : (t : ℕ) →
+    attributes-plain-lts.Need-sub-left (attributes-plain-claims t) (attributes-plain-at t) attributes-plain.Post attributes-plain-Inv-loop
+    attributes-plain-μ-loop
 attributes-plain-sub-left t c = omega arith
 
-attributes-plain-loop-less : (t : ℕ) → attributes-plain-lts.Need-loop-less (attributes-plain-claims t) (attributes-plain-at t) attributes-plain.Post attributes-plain-Inv-loop attributes-plain-μ-loop
+attributes-plain-loop-less : (t : ℕ) →
+    attributes-plain-lts.Need-loop-less (attributes-plain-claims t) (attributes-plain-at t) attributes-plain.Post attributes-plain-Inv-loop
+    attributes-plain-μ-loop
 attributes-plain-loop-less t c = omega arith
 
-attributes-plain-loop-again : (t : ℕ) → attributes-plain-lts.Need-loop-again (attributes-plain-claims t) (attributes-plain-at t) attributes-plain.Post attributes-plain-Inv-loop attributes-plain-μ-loop
+attributes-plain-loop-again : (t : ℕ) →
+    attributes-plain-lts.Need-loop-again (attributes-plain-claims t) (attributes-plain-at t) attributes-plain.Post attributes-plain-Inv-loop
+    attributes-plain-μ-loop
 attributes-plain-loop-again t c =
-    let at-loop = c .before .before .before .before .before .before .before in
-    let in-loop = c .before .before .before .before .before .before in
-    let after-u16-at = c .before .before .before .before .before in
+    let if1 = c .before .before .if1 in
     let after-is-plain = c .before .before .before in
-    plain-again (at-loop .loop .inv) (in-loop .loop-test .taken) (after-u16-at .u16-at .result) (after-u16-at .u16-at .ensures .0) (after-is-plain .is-plain .result) (after-is-plain .is-plain .ensures) (c .before .before .if1 .left)
+    let after-u16-at = after-is-plain .before .before in
+    let in-loop = after-u16-at .before in
+    let at-loop = in-loop .before in
+    plain-again (at-loop .loop .inv) (in-loop .loop-test .taken) (after-u16-at .u16-at .result) (after-u16-at .u16-at .ensures .0)
+    (after-is-plain .is-plain .result) (after-is-plain .is-plain .ensures) (if1 .left)
 
-attributes-plain-returns-2 : (t : ℕ) → attributes-plain-lts.Need-returns-2 (attributes-plain-claims t) (attributes-plain-at t) attributes-plain.Post attributes-plain-Inv-loop attributes-plain-μ-loop
+attributes-plain-returns-2 : (t : ℕ) →
+    attributes-plain-lts.Need-returns-2 (attributes-plain-claims t) (attributes-plain-at t) attributes-plain.Post attributes-plain-Inv-loop
+    attributes-plain-μ-loop
 attributes-plain-returns-2 t c = plain-end (c .before .loop .inv) (c .loop-test .left)
 
 is-plain-shared-slice-read-k : (t : ℕ) → is-plain-lts.Need-shared-slice-read-k (is-plain-claims t) (is-plain-at t) is-plain.Post
@@ -143,9 +192,7 @@ is-plain-sub-is-plain t c =
     omega (arith, not-empty (start .args .levels) (start .args .t .now) (start .pre .1))
 
 is-plain-part-is-plain-start : (t : ℕ) → is-plain-lts.Need-part-is-plain-start (is-plain-claims t) (is-plain-at t) is-plain.Post
-is-plain-part-is-plain-start t c =
-    let start = c .before .before .before in
-    omega (arith, not-empty (start .args .levels) (start .args .t .now) (start .pre .1))
+is-plain-part-is-plain-start t c = is-plain-sub-is-plain t c
 
 is-plain-part-is-plain-end : (t : ℕ) → is-plain-lts.Need-part-is-plain-end (is-plain-claims t) (is-plain-at t) is-plain.Post
 is-plain-part-is-plain-end t c = omega arith
@@ -187,27 +234,31 @@ is-plain-part-attributes-plain-end t c =
 
 is-plain-sub-attributes-plain-2 : (t : ℕ) → is-plain-lts.Need-sub-attributes-plain-2 (is-plain-claims t) (is-plain-at t) is-plain.Post
 is-plain-sub-attributes-plain-2 t c =
+    let match-keys2 = c .before .before .match in
     let start = c .before .before .before .before .before in
-    omega (arith, (is-record (start .args .levels) (start .args .t .now) (start .pre .1) (c .before .before .match .keys2)) .fit, c .before .u16-at .ensures .0)
+    omega (arith, is-record (start .args .levels) (start .args .t .now) (start .pre .1) (match-keys2 .keys2) .fit, c .before .u16-at .ensures .0)
 
 is-plain-part-attributes-plain-start-2 : (t : ℕ) → is-plain-lts.Need-part-attributes-plain-start-2 (is-plain-claims t) (is-plain-at t) is-plain.Post
-is-plain-part-attributes-plain-start-2 t c =
-    let start = c .before .before .before .before .before in
-    omega (arith, (is-record (start .args .levels) (start .args .t .now) (start .pre .1) (c .before .before .match .keys2)) .fit, c .before .u16-at .ensures .0)
+is-plain-part-attributes-plain-start-2 t c = is-plain-sub-attributes-plain-2 t c
 
 is-plain-part-attributes-plain-end-2 : (t : ℕ) → is-plain-lts.Need-part-attributes-plain-end-2 (is-plain-claims t) (is-plain-at t) is-plain.Post
 is-plain-part-attributes-plain-end-2 t c = omega arith
 
 is-plain-sub-attributes-plain-3 : (t : ℕ) → is-plain-lts.Need-sub-attributes-plain-3 (is-plain-claims t) (is-plain-at t) is-plain.Post
 is-plain-sub-attributes-plain-3 t c =
+    let match-keys2 = c .before .before .before .match in
     let start = c .before .before .before .before .before .before in
-    omega (arith, (is-record (start .args .levels) (start .args .t .now) (start .pre .1) (c .before .before .before .match .keys2)) .deep)
+    omega (arith, is-record (start .args .levels) (start .args .t .now) (start .pre .1) (match-keys2 .keys2) .deep)
 
 is-plain-attributes-plain-requires : (t : ℕ) → is-plain-lts.Need-attributes-plain-requires (is-plain-claims t) (is-plain-at t) is-plain.Post
 is-plain-attributes-plain-requires t c κs =
-    let start = c .before .before .before .before .before .before in
+    let u16-at = c .before .before .u16-at in
     let at-match-keys2 = c .before .before .before in
-    (omega (arith, start .pre .0, (is-record (start .args .levels) (start .args .t .now) (start .pre .1) (at-match-keys2 .match .keys2)) .deep), rw (c .before .before .u16-at .ensures .0) ((is-record (start .args .levels) (start .args .t .now) (start .pre .1) (at-match-keys2 .match .keys2)) .sound))
+    let start = at-match-keys2 .before .before .before in
+    let pre = start .pre in
+    let args = start .args in
+    let by-is-record = is-record (args .levels) (args .t .now) (pre .1) (at-match-keys2 .match .keys2) in
+    (omega (arith, pre .0, by-is-record .deep), rw (u16-at .ensures .0) (by-is-record .sound))
 
 is-plain-u16-at-requires-2 : (t : ℕ) → is-plain-lts.Need-u16-at-requires-2 (is-plain-claims t) (is-plain-at t) is-plain.Post
 is-plain-u16-at-requires-2 t c κs =
@@ -219,15 +270,18 @@ is-plain-kind-is-plain-requires t c κs = search needs
 
 is-plain-returns : (t : ℕ) → is-plain-lts.Need-returns (is-plain-claims t) (is-plain-at t) is-plain.Post
 is-plain-returns t c =
+    let match-keys1 = c .before .before .match in
     let start = c .before .before .before .before .before in
-    c .is-plain .ensures ∙ plain-set (start .args .levels) (start .args .t .now) (start .pre .1) (c .before .before .match .keys1)
+    c .is-plain .ensures ∙ plain-set (start .args .levels) (start .args .t .now) (start .pre .1) (match-keys1 .keys1)
 
 is-plain-returns-2 : (t : ℕ) → is-plain-lts.Need-returns-2 (is-plain-claims t) (is-plain-at t) is-plain.Post
 is-plain-returns-2 t c =
-    let start = c .before .before .before .before .before .before .before in
-    let at-match-keys2 = c .before .before .before .before in
     let after-u16-at = c .before .before .before in
-    c .attributes-plain .ensures ∙ plain-record (start .args .levels) (start .args .t .now) (start .pre .1) (at-match-keys2 .match .keys2) (after-u16-at .u16-at .result) (after-u16-at .u16-at .ensures .0)
+    let at-match-keys2 = after-u16-at .before in
+    let start = at-match-keys2 .before .before .before in
+    let by-plain-record = plain-record (start .args .levels) (start .args .t .now) (start .pre .1) (at-match-keys2 .match .keys2) (after-u16-at .u16-at .result)
+    (after-u16-at .u16-at .ensures .0) in
+    c .attributes-plain .ensures ∙ by-plain-record
 
 is-plain-returns-3 : (t : ℕ) → is-plain-lts.Need-returns-3 (is-plain-claims t) (is-plain-at t) is-plain.Post
 is-plain-returns-3 t c =
@@ -247,7 +301,9 @@ is-plain-returns-5 t c =
 
 pub +attributes-plain+is-plain-spec : {M : Type 1} → statement M
 +attributes-plain+is-plain-spec =
-    close μ-attributes-plain μ-is-plain (λ t. attributes-plain-lts.spec (attributes-plain-claims t) (attributes-plain-at t) attributes-plain.Post attributes-plain-Inv-loop attributes-plain-μ-loop
+    close μ-attributes-plain μ-is-plain
+    (λ t. attributes-plain-lts.spec (attributes-plain-claims t) (attributes-plain-at t) attributes-plain.Post attributes-plain-Inv-loop
+    attributes-plain-μ-loop
     (attributes-plain-loop-holds t)
     (attributes-plain-u16-at-requires t)
     (attributes-plain-sub-is-plain t)

@@ -42,21 +42,30 @@ names-subset-requires c κs =
 
 returns : tie.Need-returns
 returns c =
-    let start = c .before .before .before .before .before .before .before .before .before in
-    let after-is-permissive = c .before .before .before .before in
-    let after-u16-at = c .before .before in
     let after-u16-at2 = c .before in
-    names-permissive (asMode (start .args .mode)) (start .args .t0 .now) (start .args .t1 .now) (c .names-subset .result) (after-u16-at .u16-at .result) (after-u16-at2 .u16-at2 .result) (after-u16-at .u16-at .ensures .0) (after-u16-at2 .u16-at2 .ensures .0) (sym (after-is-permissive .is-permissive .ensures) ∙ c .before .before .before .if1 .taken) (c .names-subset .ensures)
+    let after-u16-at = after-u16-at2 .before in
+    let if1 = after-u16-at .before .if1 in
+    let after-is-permissive = after-u16-at .before .before in
+    let start = after-is-permissive .before .before .before .before .before in
+    let args = start .args in
+    names-permissive (asMode (args .mode)) (args .t0 .now) (args .t1 .now) (c .names-subset .result) (after-u16-at .u16-at .result)
+    (after-u16-at2 .u16-at2 .result) (after-u16-at .u16-at .ensures .0) (after-u16-at2 .u16-at2 .ensures .0)
+    (sym (after-is-permissive .is-permissive .ensures) ∙ if1 .taken) (c .names-subset .ensures)
 
 same-bytes-requires : tie.Need-same-bytes-requires
 same-bytes-requires c κs = search needs
 
 returns-2 : tie.Need-returns-2
 returns-2 c =
-    let start = c .before .before .before .before .before .before .before in
-    let after-shared-slice-known = c .before .before .before .before .before .before in
+    let is-permissive = c .before .before .is-permissive in
     let after-shared-slice-known2 = c .before .before .before .before .before in
-    names-strict (asMode (start .args .mode)) (start .args .t0 .now) (start .args .t1 .now) (c .same-bytes .result) (Bytes-index (start .args .t0 .now) (λ i. after-shared-slice-known .shared-slice-known .given i .fits)) (Bytes-index (start .args .t1 .now) (λ i. after-shared-slice-known2 .shared-slice-known2 .given i .fits)) (start .pre .0) (start .pre .1) (sym (c .before .before .is-permissive .ensures) ∙ c .before .if1 .left) (c .same-bytes .ensures)
+    let after-shared-slice-known = after-shared-slice-known2 .before in
+    let start = after-shared-slice-known .before in
+    let args = start .args in
+    let by-Bytes-index = Bytes-index (args .t0 .now) (λ i. after-shared-slice-known .shared-slice-known .given i .fits) in
+    let by-Bytes-index-2 = Bytes-index (args .t1 .now) (λ i. after-shared-slice-known2 .shared-slice-known2 .given i .fits) in
+    names-strict (asMode (args .mode)) (args .t0 .now) (args .t1 .now) (c .same-bytes .result) by-Bytes-index by-Bytes-index-2 (start .pre .0) (start .pre .1)
+    (sym (is-permissive .ensures) ∙ c .before .if1 .left) (c .same-bytes .ensures)
 
 pub entity-under-spec : {M : Type 1} → statement M
 entity-under-spec =

@@ -12,12 +12,14 @@ is-permissive-requires c κs = search needs
 returns : tie.Need-returns
 returns c =
     let start = c .before .before in
-    flag-permissive (asMode (start .args .mode)) (start .args .lower) (start .args .upper) (start .pre .0) (start .pre .1) (sym (c .before .is-permissive .ensures) ∙ c .if1 .taken)
+    let args = start .args in
+    flag-permissive (asMode (args .mode)) (args .lower) (args .upper) (start .pre .0) (start .pre .1) (sym (c .before .is-permissive .ensures) ∙ c .if1 .taken)
 
 returns-2 : tie.Need-returns-2
 returns-2 c =
     let start = c .before .before in
-    flag-strict (asMode (start .args .mode)) (start .args .lower) (start .args .upper) (start .pre .0) (start .pre .1) (sym (c .before .is-permissive .ensures) ∙ c .if1 .left)
+    let args = start .args in
+    flag-strict (asMode (args .mode)) (args .lower) (args .upper) (start .pre .0) (start .pre .1) (sym (c .before .is-permissive .ensures) ∙ c .if1 .left)
 
 pub required-under-spec : {M : Type 1} → statement M
 required-under-spec = tie.close (tie.spec is-permissive-requires returns returns-2)

@@ -30,7 +30,9 @@ u16-at-requires : tie.Need-u16-at-requires Inv-loop μ-loop Inv-search μ-search
 u16-at-requires c κs = search needs
 
 loop-holds : tie.Need-loop-holds Inv-loop μ-loop Inv-search μ-search
-loop-holds c = c .before .before .search .inv
+loop-holds c =
+    let search-step = c .before .before .search in
+    search-step .inv
 
 u16-at-requires-2 : tie.Need-u16-at-requires-2 Inv-loop μ-loop Inv-search μ-search
 u16-at-requires-2 c κs = search needs
@@ -52,12 +54,16 @@ loop-less c = search needs
 
 loop-again : tie.Need-loop-again Inv-loop μ-loop Inv-search μ-search
 loop-again c =
-    let in-search = c .before .before .before .before .before .before .before in
-    let after-u16-at = c .before .before .before .before .before .before in
-    let at-loop = c .before .before .before .before .before in
-    let in-loop = c .before .before .before .before in
+    let if1 = c .before .before .if1 in
     let y = c .before .before .before .u16-at2 in
-    (walk-second (at-loop .loop .inv .0) (in-search .search-test .taken) (in-loop .loop-test .taken) shares-skip (after-u16-at .u16-at .result) (y .result) (after-u16-at .u16-at .ensures .0) (y .ensures .0) (omega (arith, c .before .before .if1 .left, c .before .if2 .left)), at-loop .loop .inv .1)
+    let in-loop = c .before .before .before .before in
+    let at-loop = in-loop .before in
+    let after-u16-at = at-loop .before in
+    let in-search = after-u16-at .before in
+    let by-walk-second = walk-second (at-loop .loop .inv .0) (in-search .search-test .taken) (in-loop .loop-test .taken)
+    shares-skip (after-u16-at .u16-at .result) (y .result) (after-u16-at .u16-at .ensures .0) (y .ensures .0)
+    (omega (arith, if1 .left, c .before .if2 .left)) in
+    (by-walk-second, at-loop .loop .inv .1)
 
 sub-a : tie.Need-sub-a Inv-loop μ-loop Inv-search μ-search
 sub-a c = search needs
@@ -76,11 +82,14 @@ search-less c = search needs
 
 search-again : tie.Need-search-again Inv-loop μ-loop Inv-search μ-search
 search-again c =
-    let in-search = c .before .before .before .before in
-    let l = c .before .before .loop .inv in
-    let p = in-search .search-test .taken in
+    let loop = c .before .before .loop in
     let x = c .before .before .before .u16-at in
-    (⊎-elim (λ w. share-over (l .0) p (x .result) (x .ensures .0) (w .left)) (λ w. share-past (l .0) p (x .result) (x .ensures .0) (w .0 .taken) (w .1 .result) (w .1 .ensures .0) (w .3 .taken)) (c .before .loop-test .came), l .1)
+    let in-search = c .before .before .before .before in
+    let l = loop .inv in
+    let p = in-search .search-test .taken in
+    let ⊎-elim-came = ⊎-elim (λ w. share-over (l .0) p (x .result) (x .ensures .0) (w .left))
+    (λ w. share-past (l .0) p (x .result) (x .ensures .0) (w .0 .taken) (w .1 .result) (w .1 .ensures .0) (w .3 .taken)) (c .before .loop-test .came) in
+    (⊎-elim-came, l .1)
 
 returns : tie.Need-returns Inv-loop μ-loop Inv-search μ-search
 returns c =
@@ -89,10 +98,13 @@ returns c =
 
 returns-2 : tie.Need-returns-2 Inv-loop μ-loop Inv-search μ-search
 returns-2 c =
-    let in-search = c .before .before .before .before .before in
-    let after-u16-at = c .before .before .before .before in
     let after-u16-at2 = c .before in
-    share-hit (c .before .before .before .loop .inv .0) (in-search .search-test .taken) (after-u16-at .u16-at .result) (after-u16-at .u16-at .ensures .0) (c .before .before .loop-test .taken) (after-u16-at2 .u16-at2 .result) (after-u16-at2 .u16-at2 .ensures .0) (c .if1 .taken)
+    let loop-test = after-u16-at2 .before .loop-test in
+    let loop = after-u16-at2 .before .before .loop in
+    let after-u16-at = after-u16-at2 .before .before .before in
+    let in-search = after-u16-at .before in
+    share-hit (loop .inv .0) (in-search .search-test .taken) (after-u16-at .u16-at .result) (after-u16-at .u16-at .ensures .0) (loop-test .taken)
+    (after-u16-at2 .u16-at2 .result) (after-u16-at2 .u16-at2 .ensures .0) (c .if1 .taken)
 
 pub names-share-spec : {M : Type 1} → statement M
 names-share-spec =

@@ -22,7 +22,9 @@ loop-holds c =
     walk-start (start .pre .0) (start .pre .1)
 
 returns : tie.Need-returns Inv-loop μ-loop
-returns c = subset-over (c .before .before .loop .inv) (c .before .loop-test .taken) (omega (arith, c .if1 .taken))
+returns c =
+    let loop = c .before .before .loop in
+    subset-over (loop .inv) (c .before .loop-test .taken) (omega (arith, c .if1 .taken))
 
 u16-at-requires : tie.Need-u16-at-requires Inv-loop μ-loop
 u16-at-requires c κs = search needs
@@ -32,11 +34,12 @@ u16-at-requires-2 c κs = search needs
 
 returns-2 : tie.Need-returns-2 Inv-loop μ-loop
 returns-2 c =
-    let at-loop = c .before .before .before .before .before in
-    let in-loop = c .before .before .before .before in
-    let after-u16-at = c .before .before in
     let after-u16-at2 = c .before in
-    subset-past (at-loop .loop .inv) (in-loop .loop-test .taken) (omega arith) (after-u16-at .u16-at .result) (after-u16-at2 .u16-at2 .result) (after-u16-at .u16-at .ensures .0) (after-u16-at2 .u16-at2 .ensures .0) (c .if2 .taken)
+    let after-u16-at = after-u16-at2 .before in
+    let in-loop = after-u16-at .before .before in
+    let at-loop = in-loop .before in
+    subset-past (at-loop .loop .inv) (in-loop .loop-test .taken) (omega arith) (after-u16-at .u16-at .result) (after-u16-at2 .u16-at2 .result)
+    (after-u16-at .u16-at .ensures .0) (after-u16-at2 .u16-at2 .ensures .0) (c .if2 .taken)
 
 sub-a : tie.Need-sub-a Inv-loop μ-loop
 sub-a c = search needs
@@ -67,18 +70,19 @@ loop-less c = search needs
 
 loop-again : tie.Need-loop-again Inv-loop μ-loop
 loop-again c =
-    let at-loop = c .before .before .before .before .before .before .before in
-    let in-loop = c .before .before .before .before .before .before in
-    let after-u16-at = c .before .before .before .before in
     let joined3 = c .before in
+    let if2 = joined3 .before .if2 in
+    let y = joined3 .before .before .u16-at2 in
+    let x = joined3 .before .before .before .u16-at in
+    let in-loop = joined3 .before .before .before .before .before in
+    let at-loop = in-loop .before in
     let l = at-loop .loop .inv in
     let p = in-loop .loop-test .taken in
     let q : 0 < at-loop .loop .more = omega arith in
-    let x = after-u16-at .u16-at in
-    let y = c .before .before .before .u16-at2 in
-    ⊎-elim
-    (λ w. walk-met {a = rest 2 (at-loop .loop .a .now)} {a′ = joined3 .if3 .a .now} (w .3) (ap (λ z. z .now) (w .2)) (subset-both l p q (x .result) (y .result) (x .ensures .0) (y .ensures .0) (w .0 .taken)))
-    (λ w. walk-met {a = at-loop .loop .a .now} {a′ = joined3 .if3 .a .now} (w .2) (ap (λ z. z .now) (w .1)) (walk-second l p q subset-skip (x .result) (y .result) (x .ensures .0) (y .ensures .0) (omega (arith, w .0 .left, c .before .before .if2 .left))))
+    ⊎-elim (λ w. walk-met {a = rest 2 (at-loop .loop .a .now)} {a′ = joined3 .if3 .a .now} (w .3) (ap (λ z. z .now) (w .2))
+    (subset-both l p q (x .result) (y .result) (x .ensures .0) (y .ensures .0) (w .0 .taken)))
+    (λ w. walk-met {a = at-loop .loop .a .now} {a′ = joined3 .if3 .a .now} (w .2) (ap (λ z. z .now) (w .1))
+    (walk-second l p q subset-skip (x .result) (y .result) (x .ensures .0) (y .ensures .0) (omega (arith, w .0 .left, if2 .left))))
     (joined3 .if3 .came)
 
 returns-3 : tie.Need-returns-3 Inv-loop μ-loop

@@ -3,7 +3,8 @@ use mathlib.Core.Path.{refl}
 use Prim.Native.Nat.{_-_, _<_}
 use native.Mathlib.Omega.{arith}
 use lib.ListN.{length}
-use Rattle.relations.specs.Laws.Equality.{BytesLeft, unlike-lengths, bytes-end, bytes-differ, bytes-again}
+use Rattle.forms.specs.Laws.Names.{unlike-lengths}
+use Rattle.relations.specs.Laws.Equality.{BytesLeft, bytes-end, bytes-differ, bytes-again}
 use borrow.Author.Needs.{needs}
 use Rattle.relations.proofs.same_bytes.same_bytes.Statement.{statement}
 use Rattle.relations.proofs.same_bytes.same_bytes.Tie as tie
@@ -30,10 +31,12 @@ shared-slice-read-if2-2 c = search needs
 
 returns-2 : tie.Need-returns-2 Inv-loop μ-loop
 returns-2 c =
-    let start = c .before .before .before .before .before .before in
-    let else1 = c .before .before .before .before .before in
+    let loop-test = c .before .before .before .loop-test in
     let at-loop = c .before .before .before .before in
-    bytes-differ (at-loop .loop .inv) (c .before .before .before .loop-test .taken) (let q : (at-loop .loop .i) < length (start .args .b .now) = omega (arith, else1 .if1 .left) in q) (c .if2 .taken)
+    let else1 = at-loop .before in
+    let start = else1 .before in
+    bytes-differ (at-loop .loop .inv) (loop-test .taken) (let q : at-loop .loop .i < length (start .args .b .now) = omega (arith, else1 .if1 .left) in
+    q) (c .if2 .taken)
 
 add-i : tie.Need-add-i Inv-loop μ-loop
 add-i c = search needs
@@ -43,13 +46,17 @@ loop-less c = search needs
 
 loop-again : tie.Need-loop-again Inv-loop μ-loop
 loop-again c =
-    let start = c .before .before .before .before .before .before in
-    let else1 = c .before .before .before .before .before in
+    let loop-test = c .before .before .before .loop-test in
     let at-loop = c .before .before .before .before in
-    bytes-again (at-loop .loop .inv) (c .before .before .before .loop-test .taken) (let q : (at-loop .loop .i) < length (start .args .b .now) = omega (arith, else1 .if1 .left) in q) (c .if2 .left)
+    let else1 = at-loop .before in
+    let start = else1 .before in
+    bytes-again (at-loop .loop .inv) (loop-test .taken) (let q : at-loop .loop .i < length (start .args .b .now) = omega (arith, else1 .if1 .left) in
+    q) (c .if2 .left)
 
 returns-3 : tie.Need-returns-3 Inv-loop μ-loop
-returns-3 c = bytes-end (c .before .loop .inv) (c .before .before .if1 .left) (c .loop-test .left)
+returns-3 c =
+    let if1 = c .before .before .if1 in
+    bytes-end (c .before .loop .inv) (if1 .left) (c .loop-test .left)
 
 pub same-bytes-spec : {M : Type 1} → statement M
 same-bytes-spec =

@@ -1,0 +1,4 @@
+pub mod Kinds
+pub mod Names
+pub mod Pairs
+pub mod Laws

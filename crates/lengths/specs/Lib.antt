@@ -1,5 +1,0 @@
-pub mod Extents
-pub mod Kinds
-pub mod Names
-pub mod Pairs
-pub mod Laws
