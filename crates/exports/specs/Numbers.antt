@@ -11,16 +11,17 @@ use Rattle.validator.specs.declared.answers.Answer.{Answer}
 use Rattle.validator.specs.declared.answers.Answer.the-variants.{Refused, Yes, No, Nothing, Wrote, Attribute}
 use Rattle.validator.specs.declared.own_attribute_type.OwnPart.{OwnPart}
 use Rattle.validator.specs.declared.own_attribute_type.OwnPart.the-variants as parts
+use Rattle.exports.specs.Steps.{kindStep, packedStep}
 
 -- Kinds 0 to 6: refused, yes, no, none, wrote, optional attribute, required attribute.
 abbrev pub answerNumber : Answer → ℕ
-answerNumber (Refused n) = 256 * n
+answerNumber (Refused n) = kindStep * n
 answerNumber Yes = 1
 answerNumber No = 2
 answerNumber Nothing = 3
-answerNumber (Wrote n) = 4 + 256 * n
-answerNumber (Attribute false n) = 5 + 256 * n
-answerNumber (Attribute true n) = 6 + 256 * n
+answerNumber (Wrote n) = 4 + kindStep * n
+answerNumber (Attribute false n) = 5 + kindStep * n
+answerNumber (Attribute true n) = 6 + kindStep * n
 
 -- The answer of a kind and what stands above it.
 abbrev pub answerWith : ℕ → ℕ → Answer
@@ -34,7 +35,7 @@ answerWith (suc (suc (suc (suc (suc (suc k)))))) v = Attribute true v
 
 -- The answer that a number says.
 abbrev pub readAnswer : ℕ → Answer
-readAnswer x = answerWith (x % 256) (x / 256)
+readAnswer x = answerWith (x % kindStep) (x / kindStep)
 
 -- An answer that tells no more bytes than a form has.
 abbrev pub Brief : Answer → Type 0
@@ -58,10 +59,10 @@ pub record NumberedIn (o : Outcome) (before after work workAfter : List ℕ) (r 
 
 -- A part of the caller's form: kind 7 if it is an optional attribute, 8 if required; above it the part's start, and 65,536 times its end.
 abbrev pub partNumber : OwnPart → ℕ
-partNumber (parts.Refused n) = 256 * n
+partNumber (parts.Refused n) = kindStep * n
 partNumber parts.Nothing = 3
-partNumber (parts.At s e false) = 7 + 256 * (s + 65536 * e)
-partNumber (parts.At s e true) = 8 + 256 * (s + 65536 * e)
+partNumber (parts.At s e false) = 7 + kindStep * (s + packedStep * e)
+partNumber (parts.At s e true) = 8 + kindStep * (s + packedStep * e)
 
 -- The part of a kind and what stands above it.
 abbrev pub partWith : ℕ → ℕ → OwnPart
@@ -72,12 +73,12 @@ partWith (suc (suc (suc zero))) v = parts.Nothing
 partWith (suc (suc (suc (suc zero)))) v = parts.Nothing
 partWith (suc (suc (suc (suc (suc zero))))) v = parts.Nothing
 partWith (suc (suc (suc (suc (suc (suc zero)))))) v = parts.Nothing
-partWith (suc (suc (suc (suc (suc (suc (suc zero))))))) v = parts.At (v % 65536) (v / 65536) false
-partWith (suc (suc (suc (suc (suc (suc (suc (suc k)))))))) v = parts.At (v % 65536) (v / 65536) true
+partWith (suc (suc (suc (suc (suc (suc (suc zero))))))) v = parts.At (v % packedStep) (v / packedStep) false
+partWith (suc (suc (suc (suc (suc (suc (suc (suc k)))))))) v = parts.At (v % packedStep) (v / packedStep) true
 
 -- The part that a number says.
 abbrev pub readPart : ℕ → OwnPart
-readPart x = partWith (x % 256) (x / 256)
+readPart x = partWith (x % kindStep) (x / kindStep)
 
 -- A part within the length of a form.
 abbrev pub Narrow : OwnPart → Type 0

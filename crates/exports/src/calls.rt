@@ -23,7 +23,7 @@ ghost use Rattle.validator.specs.Answers.{answerOf};
 ghost use Rattle.validator.specs.Handed.{partOf};
 ghost use Rattle.exports.specs.Numbers.{answerNumber, Numbered, NumberedIn, partNumber};
 
-// Whether no entity is of both types.
+// Whether both types name entity types, and none in common.
 #[no_mangle]
 pub extern "C" fn tirncheav_are_types_disjoint(t0: &[u8], t1: &[u8]) -> u64
     ensures { λ r. ⌜ r ≡ answerNumber (answerOf (disjointCall standard (now (t0 .entry)) (now (t1 .entry)))) ⌝ }

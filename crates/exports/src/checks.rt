@@ -1,21 +1,44 @@
 // One number for the outcome of a schema's check.
-use forms::numbers::u16_at;
-use forms::offsets::SchemaOffset;
-use forms::widths::Width;
-use schemas::sections::Section;
-use schemas::sections::Sections;
+use schemas::offsets::Offsets;
+use schemas::sections::entries_end;
 use schemas::whole::Checked;
-use schemas::whole::Counts;
-use schemas::whole::check_schema;
 ghost use mathlib.Core.Path.{_≡_};
 ghost use Rattle.schemas.specs.SchemaBytes.{checked};
-ghost use Rattle.exports.specs.Checks.{checkNumber};
+ghost use Rattle.schemas.specs.Offsets.{offsetsOf};
+ghost use Rattle.exports.specs.Checks.{packedOf, checkNumber, Near};
 
-// What the second of the two offsets is multiplied by.
+// What the second of two offsets is multiplied by.
 pub struct Packed;
 
 impl Packed {
     pub const STEP: usize = 65536;
+
+    // The number of a schema that is broken.
+    pub const BROKEN: u64 = 0;
+}
+
+// The offsets as one number. The first is not in it: it is read from the schema's counts.
+fn pack(at: Offsets) -> u64
+    requires { ⌜ Near at ⌝ }
+    ensures { λ r. ⌜ r ≡ packedOf at ⌝ }
+{
+    (at.actions + Packed::STEP * at.functions) as u64
+}
+
+// The offsets of a schema from their number.
+fn unpack(schema: &[u8], number: u64) -> Offsets
+    requires { ⌜ number ≡ checkNumber (checked (now schema)) ⌝ }
+    ensures { λ r. ⌜ r ≡ offsetsOf (checked (now (schema .entry))) ⌝ }
+{
+    if number == Packed::BROKEN {
+        return Offsets::BROKEN;
+    }
+    let offsets = number as usize;
+    Offsets {
+        entities: entries_end(schema),
+        actions: offsets % Packed::STEP,
+        functions: offsets / Packed::STEP,
+    }
 }
 
 // Checks a schema.
@@ -23,10 +46,7 @@ impl Packed {
 pub extern "C" fn tirncheav_check_schema(schema: &[u8]) -> u64
     ensures { λ r. ⌜ r ≡ checkNumber (checked (now (schema .entry))) ⌝ }
 {
-    let Checked::Whole(at) = check_schema(schema) else {
-        return 0;
-    };
-    (at.actions.bodies + Packed::STEP * at.functions.bodies) as u64
+    pack(Offsets::of(schema))
 }
 
 // The outcome of the check, from its number.
@@ -34,18 +54,5 @@ pub fn check_again(schema: &[u8], number: u64) -> Checked
     requires { ⌜ number ≡ checkNumber (checked (now schema)) ⌝ }
     ensures { λ r. ⌜ r ≡ checked (now (schema .entry)) ⌝ }
 {
-    if number == 0 {
-        return Checked::Broken;
-    }
-    let m = u16_at(schema, SchemaOffset::ENTITIES);
-    let n = u16_at(schema, SchemaOffset::ACTIONS);
-    let k = u16_at(schema, SchemaOffset::FUNCTIONS);
-    let second = Counts::BYTES + Width::ENTITY * m;
-    let third = second + Width::ACTION * n;
-    let bodies = number as usize;
-    Checked::Whole(Sections {
-        entities: Section::new(m, Counts::BYTES, third + Width::FUNCTION * k),
-        actions: Section::new(n, second, bodies % Packed::STEP),
-        functions: Section::new(k, third, bodies / Packed::STEP),
-    })
+    unpack(schema, number).check(schema)
 }

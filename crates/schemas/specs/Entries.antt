@@ -7,8 +7,8 @@ use lib.Dec.{eqb}
 use lib.ListN.{length, getD}
 use Rattle.cedar.specs.Types.{Attrs}
 use Rattle.cedar.specs.Limits.{standard, blockBytes}
-use Rattle.forms.specs.Parts.{part, rest, rd}
-use Rattle.forms.specs.TypeBytes.{dec, decA}
+use Rattle.forms.specs.Parts.{rest, rd}
+use Rattle.forms.specs.Tables.{attrsAt}
 use Rattle.schemas.specs.SchemaBytes.{sectionEnd, sectionsOf, wholeS}
 use Rattle.schemas.specs.declared.sections.Section.{Section}
 use Rattle.schemas.specs.declared.sections.Sections.{Sections}
@@ -45,20 +45,19 @@ functionAt name x b = signatureOf b (entryAt 7 (Name name) x b)
 
 -- A section of so wide entries lies within the bytes.
 pub record LaidIn (w : ℕ) (x : Section) (b : List ℕ) : Type 0 where
-  pub wide : 5 ≤ w
   pub entries : x .entries + w * x .count ≤ length b
   pub room : sectionEnd w x b ≤ length b
 
 -- A schema that was checked, and its sections.
-pub record Kept (b : List ℕ) (x : Sections) : Type 0 where
+pub record Sectioned (b : List ℕ) (x : Sections) : Type 0 where
   pub few : length b ≤ blockBytes
   pub yes : wholeS standard b ≡ true
   pub is : x ≡ sectionsOf b
 
--- What a record form says.
+-- Whether an entry's body, a record form, is open.
 abbrev pub openAt : List ℕ → Bool
 openAt c = eqb (getD c 1 0) 1
 
 -- Its attributes.
-abbrev pub attrsAt : List ℕ → Attrs
-attrsAt c = decA (dec (standard .levels - 1)) (rd c 2) (part 4 (4 + 5 * rd c 2) c) (rest (4 + 5 * rd c 2) c)
+abbrev pub bodyAttrs : List ℕ → Attrs
+bodyAttrs c = attrsAt (standard .levels - 1) 2 c

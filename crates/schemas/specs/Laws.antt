@@ -7,3 +7,4 @@ pub mod SchemaTwin
 pub mod Checks
 pub mod Entries
 pub mod Finders
+pub mod Offsets

@@ -1,6 +1,6 @@
 -- The schema form in the borrow checker's terms: the test that one is whole and a total decoder. Assumes nothing: these are definitions.
 use Prim.Native.Nat.{ℕ, _+_, _*_, _≤_}
-use mathlib.Core.List.{List, []}
+use mathlib.Core.List.{List, [], _∷_}
 use mathlib.Core.Bool.{Bool, true, false, not, _&&_, _||_, cond}
 use mathlib.Core.Option.{Option, none, some}
 use lib.Dec.{eqb, leb, ltb}
@@ -12,6 +12,9 @@ use Rattle.forms.specs.Parts.{rest, rd}
 use Rattle.forms.specs.Rows.{Row, rowsTo, rowsOf}
 use Rattle.forms.specs.TypeBytes.{whole, dec}
 use Rattle.forms.specs.Search.{used}
+use Rattle.schemas.specs.declared.kinds.SectionKind.{SectionKind}
+use Rattle.schemas.specs.declared.kinds.SectionKind.the-variants.{Entities, Actions, Functions}
+use Rattle.schemas.specs.declared.order.Low.{Low}
 use Rattle.schemas.specs.declared.sections.Section.{Section}
 use Rattle.schemas.specs.declared.sections.Sections.{Sections}
 use Rattle.schemas.specs.declared.sections.Passed.{Passed}
@@ -81,50 +84,87 @@ argsFit b = present (parseArgs b)
 unfoldable pub argsOf : List ℕ → List Arg
 argsOf b = maybe [] (λ x. x) (parseArgs b)
 
--- The body of each section's entry.
-abbrev pub entityBody : Limits → ℕ × Bool → List ℕ → Bool
-entityBody lim h = bodyFits lim (h .1)
+-- What the entries of a section go by: entity types and functions by a name, actions by a type and an id.
+abbrev pub LowOf : SectionKind → Type 0
+LowOf Entities = ℕ
+LowOf Actions = ℕ × ℕ
+LowOf Functions = ℕ
 
--- An action's is closed.
-abbrev pub actionBody : Limits → ℕ × ℕ → List ℕ → Bool
-actionBody lim h = bodyFits lim true
+-- What the code's next entry goes by.
+abbrev pub lowIn : (k : SectionKind) → Low → LowOf k
+lowIn Entities low = low .name
+lowIn Actions low = (low .name, low .id)
+lowIn Functions low = low .name
 
--- A function's is its arguments.
-abbrev pub functionBody : ℕ × Option ℕ → List ℕ → Bool
-functionBody h = argsFit
+-- What the first entry goes by.
+abbrev pub lowest : Low
+lowest = record { name = 0; id = 0 }
+
+-- What an entry of a section says.
+abbrev pub HeadOf : SectionKind → Type 0
+HeadOf Entities = ℕ × Bool
+HeadOf Actions = ℕ × ℕ
+HeadOf Functions = ℕ × Option ℕ
+
+-- How the entries of a section look.
+abbrev pub rowOf : (k : SectionKind) → Row (LowOf k) (HeadOf k)
+rowOf Entities = entityRow
+rowOf Actions = actionRow
+rowOf Functions = functionRow
+
+-- What the body of an entry must be: a record form, closed for an enumerated entity type and for an action; a function's arguments.
+abbrev pub bodyTest : Limits → (k : SectionKind) → HeadOf k → List ℕ → Bool
+bodyTest lim Entities = λ h. bodyFits lim (h .1)
+bodyTest lim Actions = λ h. bodyFits lim true
+bodyTest lim Functions = λ h. argsFit
 
 -- Whatever is left.
 abbrev pub any : List ℕ → Bool
 any b = true
 
-module _ {S H : Type 0} where
-  -- The entries of a section are in order, and each body passes w.
-  abbrev pub sectionFits : Row S H → (H → List ℕ → Bool) → S → Section → List ℕ → Bool
-  sectionFits r w s x b = rowsTo r w any (x .count) s (rest (x .entries) b) (rest (x .bodies) b)
+-- The entries of a section are in order, and their bodies whole.
+abbrev pub sectionFits : Limits → SectionKind → Section → List ℕ → Bool
+sectionFits lim k x b = rowsTo (rowOf k) (bodyTest lim k) any (x .count) (lowIn k lowest) (rest (x .entries) b) (rest (x .bodies) b)
 
-  -- What a section says.
-  abbrev pub sectionOf : {A : Type 0} → Row S H → (H → List ℕ → A) → Section → List ℕ → List (H × A)
-  sectionOf r d x b = rowsOf r d (x .count) (rest (x .entries) b) (rest (x .bodies) b)
-
--- A section, by its count and where its entries and bodies start.
-abbrev pub section : ℕ → ℕ → ℕ → Section
-section count entries bodies = record { count = count; entries = entries; bodies = bodies }
+-- What a section says.
+abbrev pub sectionOf : {S H A : Type 0} → Row S H → (H → List ℕ → A) → Section → List ℕ → List (H × A)
+sectionOf r d x b = rowsOf r d (x .count) (rest (x .entries) b) (rest (x .bodies) b)
 
 -- Where the bodies of a section of so wide entries end.
 abbrev pub sectionEnd : ℕ → Section → List ℕ → ℕ
 sectionEnd w x b = x .bodies + used w (x .count) (rest (x .entries) b)
 
--- The three sections: entries after the counts, bodies after the entries.
+-- Where the entries of all sections end.
+abbrev pub entriesEnd : List ℕ → ℕ
+entriesEnd b = 6 + 5 * rd b 0 + 6 * rd b 2 + 7 * rd b 4
+
+-- How many entries a section has.
+abbrev pub countIn : SectionKind → List ℕ → ℕ
+countIn Entities b = rd b 0
+countIn Actions b = rd b 2
+countIn Functions b = rd b 4
+
+-- Where they start: behind the counts, section by section.
+abbrev pub entriesIn : SectionKind → List ℕ → ℕ
+entriesIn Entities b = 6
+entriesIn Actions b = 6 + 5 * rd b 0
+entriesIn Functions b = 6 + 5 * rd b 0 + 6 * rd b 2
+
+-- A section whose bodies start at p.
+abbrev pub sectionAt : SectionKind → ℕ → List ℕ → Section
+sectionAt k p b = record { count = countIn k b; entries = entriesIn k b; bodies = p }
+
+-- The three sections: the bodies of each behind those of the one before, the first behind the entries.
 abbrev pub entitySection : List ℕ → Section
-entitySection b = section (rd b 0) 6 (6 + 5 * rd b 0 + 6 * rd b 2 + 7 * rd b 4)
+entitySection b = sectionAt Entities (entriesEnd b) b
 
--- The actions, behind the entity types.
+-- The actions.
 abbrev pub actionSection : List ℕ → Section
-actionSection b = section (rd b 2) (6 + 5 * rd b 0) (sectionEnd 5 (entitySection b) b)
+actionSection b = sectionAt Actions (sectionEnd 5 (entitySection b) b) b
 
--- The functions, behind the actions.
+-- The functions.
 abbrev pub functionSection : List ℕ → Section
-functionSection b = section (rd b 4) (6 + 5 * rd b 0 + 6 * rd b 2) (sectionEnd 6 (actionSection b) b)
+functionSection b = sectionAt Functions (sectionEnd 6 (actionSection b) b) b
 
 -- All three.
 unfoldable pub sectionsOf : List ℕ → Sections
@@ -134,16 +174,16 @@ sectionsOf b = record { entities = entitySection b; actions = actionSection b; f
 abbrev pub headFits : List ℕ → Bool
 headFits b =
     leb 6 (length b)
-    && ((leb (rd b 0) maxEntities && (leb (rd b 2) maxActions && leb (rd b 4) maxFunctions)) && leb (entitySection b .bodies) (length b))
+    && ((leb (rd b 0) maxEntities && (leb (rd b 2) maxActions && leb (rd b 4) maxFunctions)) && leb (entriesEnd b) (length b))
 
--- The three sections, with no byte over.
+-- Sections one after the other, the first one's bodies from p on, with no byte over.
+abbrev pub sectionsFit : Limits → List SectionKind → ℕ → List ℕ → Bool
+sectionsFit lim [] p b = eqb p (length b)
+sectionsFit lim (k ∷ ks) p b = sectionFits lim k (sectionAt k p b) b && sectionsFit lim ks (sectionEnd (rowOf k .width) (sectionAt k p b) b) b
+
+-- The counts and the three sections, with no byte over.
 unfoldable pub wholeS : Limits → List ℕ → Bool
-wholeS lim b =
-    headFits b
-    && (sectionFits entityRow (entityBody lim) 0 (entitySection b) b
-    && (sectionFits actionRow (actionBody lim) (0, 0) (actionSection b) b
-    && (sectionFits functionRow functionBody 0 (functionSection b) b
-    && eqb (sectionEnd 7 (functionSection b) b) (length b))))
+wholeS lim b = headFits b && sectionsFit lim (Entities ∷ Actions ∷ Functions ∷ []) (entriesEnd b) b
 
 -- The schema that the bytes say.
 unfoldable pub decS : Limits → List ℕ → Schema
@@ -160,8 +200,8 @@ pub record Inside (w : ℕ) (x : Section) (b : List ℕ) : Type 0 where
   pub bodies : x .bodies ≤ length b
 
 -- The answer of a walk over a section.
-unfoldable pub passedBy : {S H : Type 0} → Row S H → (H → List ℕ → Bool) → S → Section → List ℕ → Passed
-passedBy r w s x b = cond (sectionFits r w s x b) (To (sectionEnd (r .width) x b)) Broken
+unfoldable pub passedBy : SectionKind → Section → List ℕ → Passed
+passedBy k x b = cond (sectionFits standard k x b) (To (sectionEnd (rowOf k .width) x b)) Broken
 
 -- The answer of `check_schema`.
 unfoldable pub checked : List ℕ → Checked

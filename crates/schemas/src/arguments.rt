@@ -1,4 +1,5 @@
 // The body of a function's entry: the arguments that it takes.
+use crate::order::Extension;
 use forms::kinds::ArgumentKind;
 use forms::numbers::u16_at;
 use forms::offsets::SchemaOffset;
@@ -17,7 +18,7 @@ fn argument_within(a: &[u8]) -> bool
     if k == ArgumentKind::EXTENSION {
         return true;
     }
-    if u16_at(a, SchemaOffset::ARGUMENT_EXTENSION) != 0 {
+    if u16_at(a, SchemaOffset::ARGUMENT_EXTENSION) != Extension::NONE {
         return false;
     }
     if k < ArgumentKind::BOOL {

@@ -1,14 +1,15 @@
 // Entries of a whole schema by their keys.
+use crate::kinds::SectionKind;
 use crate::order::Returns;
 use crate::sections::Section;
 use crate::sections::Sections;
 use forms::numbers::u16_at;
 use forms::offsets::SchemaOffset;
-use forms::widths::Width;
 ghost use mathlib.Core.Path.{_≡_};
 ghost use Prim.Native.Nat.{_≤_};
 ghost use lib.ListN.{length};
-ghost use Rattle.schemas.specs.Entries.{keyIs, entryAt, functionAt, LaidIn, Kept};
+ghost use Rattle.schemas.specs.SchemaBytes.{rowOf};
+ghost use Rattle.schemas.specs.Entries.{keyIs, entryAt, functionAt, LaidIn, Sectioned};
 
 // What an entry is found by: an entity type or a function by its name, an action by its type and id.
 pub enum Key {
@@ -52,16 +53,17 @@ fn has_key(e: &[u8], key: Key) -> bool
 }
 
 // The entry of a key. A body starts where those before it end, so the entries are passed one by one.
-fn find_entry(s: &[u8], width: usize, x: Section, key: Key) -> FoundEntry
-    requires { ⌜ LaidIn width x (now s) ⌝ }
-    ensures { λ r. ⌜ r ≡ entryAt width key x (now (s .entry)) ⌝ }
+fn find_entry(s: &[u8], kind: SectionKind, x: Section, key: Key) -> FoundEntry
+    requires { ⌜ LaidIn (rowOf kind .width) x (now s) ⌝ }
+    ensures { λ r. ⌜ r ≡ entryAt (rowOf kind .width) key x (now (s .entry)) ⌝ }
 {
+    let width = kind.width();
     let mut at = x.entries;
     let mut start = x.bodies;
     let mut left = x.count;
     while 0 < left {
         let e = &s[at..];
-        let end = start + u16_at(e, width - 2);
+        let end = start + kind.body_length(e);
         if has_key(e, key) {
             return FoundEntry::At(at, start, end);
         }
@@ -74,28 +76,28 @@ fn find_entry(s: &[u8], width: usize, x: Section, key: Key) -> FoundEntry
 
 // The entity entry of a name.
 pub fn find_entity(s: &[u8], at: Sections, name: usize) -> FoundEntry
-    requires { ⌜ Kept (now s) at ⌝ }
+    requires { ⌜ Sectioned (now s) at ⌝ }
     ensures { λ r. ⌜ r ≡ entryAt 5 (Key.Name name) (at .entities) (now (s .entry)) ⌝ }
 {
-    find_entry(s, Width::ENTITY, at.entities, Key::Name(name))
+    find_entry(s, SectionKind::Entities, at.entities, Key::Name(name))
 }
 
 // The action entry of a uid.
 pub fn find_action(s: &[u8], at: Sections, kind: usize, id: usize) -> FoundEntry
-    requires { ⌜ Kept (now s) at ⌝ }
+    requires { ⌜ Sectioned (now s) at ⌝ }
     ensures { λ r. ⌜ r ≡ entryAt 6 (Key.Uid kind id) (at .actions) (now (s .entry)) ⌝ }
 {
-    find_entry(s, Width::ACTION, at.actions, Key::Uid(kind, id))
+    find_entry(s, SectionKind::Actions, at.actions, Key::Uid(kind, id))
 }
 
 // The function of a name.
 pub fn find_function(s: &[u8], at: Sections, name: usize) -> FoundFunction
-    requires { ⌜ Kept (now s) at ⌝ }
+    requires { ⌜ Sectioned (now s) at ⌝ }
     ensures { λ r. ⌜ r ≡ functionAt name (at .functions) (now (s .entry)) ⌝ }
 {
     let FoundEntry::At(i, start, end) = find_entry(
         s,
-        Width::FUNCTION,
+        SectionKind::Functions,
         at.functions,
         Key::Name(name),
     ) else {

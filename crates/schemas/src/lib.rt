@@ -2,6 +2,8 @@
 pub mod arguments;
 pub mod bodies;
 pub mod entries;
+pub mod kinds;
+pub mod offsets;
 pub mod order;
 pub mod sections;
 pub mod whole;

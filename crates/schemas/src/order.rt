@@ -17,6 +17,24 @@ impl Returns {
     pub const EXTENSION: u8 = 1;
 }
 
+// The name that stands where there is no extension.
+pub struct Extension;
+
+impl Extension {
+    pub const NONE: usize = 0;
+}
+
+// What the next entry of a section may be called at least: a name; for an action a type and an id.
+pub struct Low {
+    pub name: usize,
+    pub id: usize,
+}
+
+impl Low {
+    // The first entry's.
+    pub const FIRST: Low = Low { name: 0, id: 0 };
+}
+
 // Whether an entity type is an action type.
 pub fn is_action(name: usize) -> bool
     ensures { λ r. ⌜ r ≡ isAction name ⌝ }
@@ -66,7 +84,7 @@ pub fn function_follows(e: &[u8], low: usize) -> bool
     if e[SchemaOffset::RETURNS] != Returns::NOTHING {
         return false;
     }
-    if u16_at(e, SchemaOffset::EXTENSION) != 0 {
+    if u16_at(e, SchemaOffset::EXTENSION) != Extension::NONE {
         return false;
     }
     low <= name

@@ -1,31 +1,21 @@
 // Whether bytes are a whole schema.
+use crate::kinds::SectionKind;
+use crate::sections::Counts;
 use crate::sections::Passed;
-use crate::sections::Section;
 use crate::sections::Sections;
-use crate::sections::actions_within;
-use crate::sections::entities_within;
-use crate::sections::functions_within;
+use crate::sections::entries_end;
+use crate::sections::section_at;
+use crate::sections::section_within;
 use forms::limits::Limits;
 use forms::numbers::u16_at;
 use forms::offsets::SchemaOffset;
-use forms::widths::Width;
 ghost use mathlib.Core.Path.{_≡_};
-ghost use Rattle.cedar.specs.Types.{present};
-ghost use Rattle.cedar.specs.Limits.{standard};
-ghost use Rattle.cedar.specs.Whole.{wholeSchema};
 ghost use Rattle.schemas.specs.SchemaBytes.{headFits, checked};
 
 // A whole schema's sections.
 pub enum Checked {
     Whole(Sections),
     Broken,
-}
-
-// How many bytes the three counts take.
-pub struct Counts;
-
-impl Counts {
-    pub const BYTES: usize = 6;
 }
 
 // Whether the counts are within their limits and the entries within the bytes.
@@ -35,20 +25,16 @@ fn counts_within(s: &[u8]) -> bool
     if s.len() < Counts::BYTES {
         return false;
     }
-    let entities = u16_at(s, SchemaOffset::ENTITIES);
-    let actions = u16_at(s, SchemaOffset::ACTIONS);
-    let functions = u16_at(s, SchemaOffset::FUNCTIONS);
-    if Limits::ENTITIES < entities {
+    if Limits::ENTITIES < u16_at(s, SchemaOffset::ENTITIES) {
         return false;
     }
-    if Limits::ACTIONS < actions {
+    if Limits::ACTIONS < u16_at(s, SchemaOffset::ACTIONS) {
         return false;
     }
-    if Limits::FUNCTIONS < functions {
+    if Limits::FUNCTIONS < u16_at(s, SchemaOffset::FUNCTIONS) {
         return false;
     }
-    Counts::BYTES + Width::ENTITY * entities + Width::ACTION * actions + Width::FUNCTION * functions
-        <= s.len()
+    entries_end(s) <= s.len()
 }
 
 // The sections of a whole schema.
@@ -61,21 +47,16 @@ pub fn check_schema(s: &[u8]) -> Checked
     if !counts_within(s) {
         return Checked::Broken;
     }
-    let m = u16_at(s, SchemaOffset::ENTITIES);
-    let n = u16_at(s, SchemaOffset::ACTIONS);
-    let k = u16_at(s, SchemaOffset::FUNCTIONS);
-    let second = Counts::BYTES + Width::ENTITY * m;
-    let third = second + Width::ACTION * n;
-    let entities = Section::new(m, Counts::BYTES, third + Width::FUNCTION * k);
-    let Passed::To(p) = entities_within(s, entities) else {
+    let entities = section_at(s, SectionKind::Entities, entries_end(s));
+    let Passed::To(second) = section_within(s, SectionKind::Entities, entities) else {
         return Checked::Broken;
     };
-    let actions = Section::new(n, second, p);
-    let Passed::To(q) = actions_within(s, actions) else {
+    let actions = section_at(s, SectionKind::Actions, second);
+    let Passed::To(third) = section_within(s, SectionKind::Actions, actions) else {
         return Checked::Broken;
     };
-    let functions = Section::new(k, third, q);
-    let Passed::To(end) = functions_within(s, functions) else {
+    let functions = section_at(s, SectionKind::Functions, third);
+    let Passed::To(end) = section_within(s, SectionKind::Functions, functions) else {
         return Checked::Broken;
     };
     if end != s.len() {
@@ -86,14 +67,4 @@ pub fn check_schema(s: &[u8]) -> Checked
         actions,
         functions,
     })
-}
-
-// Whether bytes are a whole schema.
-pub fn whole_schema(s: &[u8]) -> bool
-    ensures { λ r. ⌜ r ≡ present (wholeSchema standard (now (s .entry))) ⌝ }
-{
-    let Checked::Whole(_) = check_schema(s) else {
-        return false;
-    };
-    true
 }

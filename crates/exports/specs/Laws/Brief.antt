@@ -2,9 +2,9 @@
 use Prim.Native.Nat.{ℕ, _≤_, min}
 use native.Mathlib.Omega.{arith}
 use mathlib.Core.List.{List, []}
-use mathlib.Core.Bool.{Bool, true, false, cond}
+use mathlib.Core.Bool.{Bool, true, false}
 use mathlib.Core.Option.{Option, none, some}
-use mathlib.Core.Path.{_≡_, refl, sym, subst, _∙_}
+use mathlib.Core.Path.{_≡_, refl, sym, subst}
 use lib.Dec.{leb}
 use lib.ListN.{length}
 use borrow.Author.Tests.{leb-true}
@@ -24,7 +24,8 @@ use Rattle.cedar.specs.Consistency.{plain, consistent}
 use Rattle.cedar.specs.Conversion.{convert}
 use Rattle.cedar.specs.Literal.{literal}
 use Rattle.cedar.specs.Conformance.{Verdict, holds, fails, failsInside, unknown, shorter, conforms, asUid}
-use Rattle.cedar.specs.Calls.{ask, modeOf, stepFits, answer, writeType, writeAttribute, writeNames, ofVerdict, literalCall, disjointCall, subtypeCall, boundCall, foldCall, lookupCall, mayHaveCall, namesCall, consistentCall, convertCall, conformsCall}
+use Rattle.cedar.specs.Calls.{ask, modeOf, stepFits, answer, writeType, writeAttribute, writeNames, ofVerdict, literalCall, disjointCall, subtypeCall}
+use Rattle.cedar.specs.Calls.{boundCall, foldCall, lookupCall, mayHaveCall, namesCall, consistentCall, convertCall, conformsCall}
 use Rattle.validator.specs.Answers.{answerOf}
 use Rattle.validator.specs.declared.answers.Answer.{Answer}
 use Rattle.exports.specs.Numbers.{Brief}
@@ -57,7 +58,7 @@ asked n (some a) k h = h a
 measured : (room : ℕ) (w : List ℕ) (o : Outcome) → bytesOf o ≡ w → Short (answer standard room w o)
 measured room w o e = go (leb (length w) (min room 4096)) (leb-true (length w) (min room 4096))
   where
-    go : (y : Bool) → (y ≡ true → length w ≤ min room 4096) → Short (cond y o (refused 10))
+    go : (y : Bool) → (y ≡ true → length w ≤ min room 4096) → Short (ask 10 (guard y) (λ _. o))
     go true h = record { few = rw e (omega (arith, h refl)) }
     go false h = none-short (refused 10) refl
 
@@ -87,13 +88,16 @@ pub disjoint-short : (t₀ t₁ : List ℕ) → Short (disjointCall standard t�
 disjoint-short t₀ t₁ = asked _ (wholeType standard t₀) _ λ a. asked _ (wholeType standard t₁) _ λ b. said-short (disjoint a b)
 
 pub consistent-short : (t₀ t₁ : List ℕ) → Short (consistentCall standard t₀ t₁)
-consistent-short t₀ t₁ = asked _ (wholeType standard t₀) _ λ a. asked _ (wholeType standard t₁) _ λ b. asked _ (guard (plain b)) _ λ _. said-short (consistent a b)
+consistent-short t₀ t₁ =
+    asked _ (wholeType standard t₀) _ λ a. asked _ (wholeType standard t₁) _ λ b. asked _ (guard (plain b)) _ λ _. said-short (consistent a b)
 
 pub convert-short : (t : List ℕ) (room : ℕ) → Short (convertCall standard t room)
 convert-short t room = asked _ (wholeType standard t) _ λ a. asked _ (convert a) _ λ c. type-short room (ok c)
 
 pub conforms-short : (schema t v : List ℕ) → Short (conformsCall standard schema t v)
-conforms-short schema t v = asked _ (wholeSchema standard schema) _ λ s. asked _ (wholeType standard t) _ λ a. asked _ (wholeValue standard v) _ λ x. verdict-short (conforms shorter s a x)
+conforms-short schema t v =
+    asked _ (wholeSchema standard schema) _ λ s. asked _ (wholeType standard t) _ λ a. asked _ (wholeValue standard v) _ λ x.
+    verdict-short (conforms shorter s a x)
 
 module _ (schema : List ℕ) where
   pub literal-short : (v : List ℕ) (room : ℕ) → Short (literalCall standard schema v room)
@@ -107,17 +111,25 @@ module _ (schema : List ℕ) where
   may-have-short a t = asked _ (wholeSchema standard schema) _ λ s. asked _ (wholeType standard t) _ λ u. said-short (mayHave s a u)
 
   pub lookup-short : (a : ℕ) (t : List ℕ) (room work : ℕ) → Short (lookupCall standard schema a t room work)
-  lookup-short a t room work = asked _ (wholeSchema standard schema) _ λ s. asked _ (wholeType standard t) _ λ u. attribute-short room (lookup (stepFits standard work) s a u)
+  lookup-short a t room work =
+      asked _ (wholeSchema standard schema) _ λ s. asked _ (wholeType standard t) _ λ u. attribute-short room (lookup (stepFits standard work) s a u)
 
   pub names-call-short : (t : List ℕ) (room work : ℕ) → Short (namesCall standard schema t room work)
-  names-call-short t room work = asked _ (wholeSchema standard schema) _ λ s. asked _ (wholeType standard t) _ λ u. names-short room (allNames (stepFits standard work) s u)
+  names-call-short t room work =
+      asked _ (wholeSchema standard schema) _ λ s. asked _ (wholeType standard t) _ λ u. names-short room (allNames (stepFits standard work) s u)
 
   module _ (mode : ℕ) where
     pub subtype-short : (t₀ t₁ : List ℕ) → Short (subtypeCall standard mode schema t₀ t₁)
-    subtype-short t₀ t₁ = asked _ (modeOf mode) _ λ m. asked _ (wholeSchema standard schema) _ λ s. asked _ (wholeType standard t₀) _ λ a. asked _ (wholeType standard t₁) _ λ b. said-short (sub m a b)
+    subtype-short t₀ t₁ =
+        asked _ (modeOf mode) _ λ m. asked _ (wholeSchema standard schema) _ λ s. asked _ (wholeType standard t₀) _ λ a. asked _ (wholeType standard t₁) _ λ b.
+        said-short (sub m a b)
 
     pub bound-short : (t₀ t₁ : List ℕ) (room : ℕ) → Short (boundCall standard mode schema t₀ t₁ room)
-    bound-short t₀ t₁ room = asked _ (modeOf mode) _ λ m. asked _ (wholeSchema standard schema) _ λ s. asked _ (wholeType standard t₀) _ λ a. asked _ (wholeType standard t₁) _ λ b. type-short room (bound m a b)
+    bound-short t₀ t₁ room =
+        asked _ (modeOf mode) _ λ m. asked _ (wholeSchema standard schema) _ λ s. asked _ (wholeType standard t₀) _ λ a. asked _ (wholeType standard t₁) _ λ b.
+        type-short room (bound m a b)
 
     pub fold-short : (list : List ℕ) (room work : ℕ) → Short (foldCall standard mode schema list room work)
-    fold-short list room work = asked _ (modeOf mode) _ λ m. asked _ (wholeSchema standard schema) _ λ s. asked _ (wholeList standard list) _ λ ts. type-short room (foldTypes (stepFits standard work) m ts)
+    fold-short list room work =
+        asked _ (modeOf mode) _ λ m. asked _ (wholeSchema standard schema) _ λ s. asked _ (wholeList standard list) _ λ ts. type-short room
+        (foldTypes (stepFits standard work) m ts)

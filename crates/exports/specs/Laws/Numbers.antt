@@ -17,21 +17,22 @@ use Rattle.validator.specs.Handed.{partOf}
 use Rattle.validator.specs.Laws.Handed.{here-found}
 use Rattle.validator.specs.declared.own_attribute_type.OwnPart.{OwnPart}
 use Rattle.validator.specs.declared.own_attribute_type.OwnPart.the-variants as places
+use Rattle.exports.specs.Steps.{kindStep, packedStep}
 use Rattle.exports.specs.Numbers.{answerNumber, answerWith, readAnswer, Brief, Numbered, NumberedIn, partNumber, partWith, readPart, Narrow}
 
 -- A kind, and what stands above it.
-parts : (k n : ℕ) → k < 256 → readAnswer (k + 256 * n) ≡ answerWith k n
-parts k n l =
-    let low : (k + 256 * n) % 256 ≡ k = omega (arith, l) in
-    let high : (k + 256 * n) / 256 ≡ n = omega (arith, l) in
-    rw (low, high) refl
+cut : (k n : ℕ) → k < kindStep → ((k + kindStep * n) % kindStep ≡ k) × ((k + kindStep * n) / kindStep ≡ n)
+cut k n l = (omega (arith, l), omega (arith, l))
+
+cut-refused : (n : ℕ) → (kindStep * n % kindStep ≡ 0) × (kindStep * n / kindStep ≡ n)
+cut-refused n = (omega arith, omega arith)
+
+parts : (k n : ℕ) → k < kindStep → readAnswer (k + kindStep * n) ≡ answerWith k n
+parts k n l = rw (cut k n l .0, cut k n l .1) refl
 
 -- A number is read as the answer that it was made of.
 pub reads : (a : Answer) → readAnswer (answerNumber a) ≡ a
-reads (Refused n) =
-    let low : 256 * n % 256 ≡ 0 = omega arith in
-    let high : 256 * n / 256 ≡ n = omega arith in
-    rw (low, high) refl
+reads (Refused n) = rw (cut-refused n .0, cut-refused n .1) refl
 reads Yes = refl
 reads No = refl
 reads Nothing = refl
@@ -51,16 +52,16 @@ pub attribute-brief : (a : Answer) (q : Bool) (n : ℕ) → Brief a → a ≡ At
 attribute-brief a q n h e = subst Brief e h
 
 -- The number of an answer, case by case.
-pub refused-number : (a : Answer) (n : ℕ) → a ≡ Refused n → 0 + 256 * n ≡ answerNumber a
+pub refused-number : (a : Answer) (n : ℕ) → a ≡ Refused n → 0 + kindStep * n ≡ answerNumber a
 refused-number a n e = omega arith ∙ sym (ap answerNumber e)
 
-pub wrote-number : (a : Answer) (n : ℕ) → a ≡ Wrote n → 4 + 256 * n ≡ answerNumber a
+pub wrote-number : (a : Answer) (n : ℕ) → a ≡ Wrote n → 4 + kindStep * n ≡ answerNumber a
 wrote-number a n e = sym (ap answerNumber e)
 
-pub required-number : (a : Answer) (q : Bool) (n : ℕ) → a ≡ Attribute q n → q ≡ true → 6 + 256 * n ≡ answerNumber a
+pub required-number : (a : Answer) (q : Bool) (n : ℕ) → a ≡ Attribute q n → q ≡ true → 6 + kindStep * n ≡ answerNumber a
 required-number a q n e h = sym (ap answerNumber (e ∙ ap (λ (z : Bool). Attribute z n) h))
 
-pub optional-number : (a : Answer) (q : Bool) (n : ℕ) → a ≡ Attribute q n → q ≡ false → 5 + 256 * n ≡ answerNumber a
+pub optional-number : (a : Answer) (q : Bool) (n : ℕ) → a ≡ Attribute q n → q ≡ false → 5 + kindStep * n ≡ answerNumber a
 optional-number a q n e h = sym (ap answerNumber (e ∙ ap (λ (z : Bool). Attribute z n) h))
 
 -- The number of what an entry answered.
@@ -72,30 +73,25 @@ module _ {o : Outcome} {a : Answer} {before after : List ℕ} (r : ℕ) (e : r �
   numbered-in q = record { number = e ∙ ap answerNumber (q .answer); result = q .result; cleared = q .cleared }
 
 -- A part's number is read as the part that it was made of.
-located : (s e : ℕ) → s ≤ 4096 → ((s + 65536 * e) % 65536 ≡ s) × ((s + 65536 * e) / 65536 ≡ e)
+located : (s e : ℕ) → s ≤ 4096 → ((s + packedStep * e) % packedStep ≡ s) × ((s + packedStep * e) / packedStep ≡ e)
 located s e l = (omega (arith, l), omega (arith, l))
 
-part-kind : (k n : ℕ) → k < 256 → readPart (k + 256 * n) ≡ partWith k n
-part-kind k n l =
-    let low : (k + 256 * n) % 256 ≡ k = omega (arith, l) in
-    let high : (k + 256 * n) / 256 ≡ n = omega (arith, l) in
-    rw (low, high) refl
+part-kind : (k n : ℕ) → k < kindStep → readPart (k + kindStep * n) ≡ partWith k n
+part-kind k n l = rw (cut k n l .0, cut k n l .1) refl
 
 pub reads-part : (p : OwnPart) → Narrow p → readPart (partNumber p) ≡ p
-reads-part (places.Refused n) h =
-    let low : 256 * n % 256 ≡ 0 = omega arith in
-    let high : 256 * n / 256 ≡ n = omega arith in
-    rw (low, high) refl
+reads-part (places.Refused n) h = rw (cut-refused n .0, cut-refused n .1) refl
 reads-part places.Nothing h = refl
-reads-part (places.At s e false) h = part-kind 7 (s + 65536 * e) (omega arith) ∙ rw (located s e (h .0) .0, located s e (h .0) .1) refl
-reads-part (places.At s e true) h = part-kind 8 (s + 65536 * e) (omega arith) ∙ rw (located s e (h .0) .0, located s e (h .0) .1) refl
+reads-part (places.At s e false) h = part-kind 7 (s + packedStep * e) (omega arith) ∙ rw (located s e (h .0) .0, located s e (h .0) .1) refl
+reads-part (places.At s e true) h = part-kind 8 (s + packedStep * e) (omega arith) ∙ rw (located s e (h .0) .0, located s e (h .0) .1) refl
 
 -- So no two parts within a form's length have one number.
 pub one-part : (p q : OwnPart) → Narrow p → Narrow q → partNumber p ≡ partNumber q → p ≡ q
 one-part p q hp hq e = sym (reads-part p hp) ∙ ap readPart e ∙ reads-part q hq
 
 -- A place within a whole form.
-pub narrow : (schema : List ℕ) (a : ℕ) (t : RefT (List ℕ)) → ((i : ℕ) → getD (now t) i 0 < 256) → (p : OwnPart) → p ≡ partOf (ownAttributeCall standard schema a (now t)) (bodyIn standard a (now t)) → Narrow p
+pub narrow : (schema : List ℕ) (a : ℕ) (t : RefT (List ℕ)) → ((i : ℕ) → getD (now t) i 0 < 256) → (p : OwnPart) →
+    p ≡ partOf (ownAttributeCall standard schema a (now t)) (bodyIn standard a (now t)) → Narrow p
 narrow schema a t known p e = go p refl
   where
     go : (x : OwnPart) → p ≡ x → Narrow x
@@ -107,11 +103,11 @@ pub at-narrow : (p : OwnPart) (s e : ℕ) (q : Bool) → Narrow p → p ≡ plac
 at-narrow p s e q h at = subst Narrow at h
 
 -- The number of a part, case by case.
-pub part-refused-number : (p : OwnPart) (n : ℕ) → p ≡ places.Refused n → 0 + 256 * n ≡ partNumber p
+pub part-refused-number : (p : OwnPart) (n : ℕ) → p ≡ places.Refused n → 0 + kindStep * n ≡ partNumber p
 part-refused-number p n e = omega arith ∙ sym (ap partNumber e)
 
-pub part-required-number : (p : OwnPart) (s e : ℕ) (q : Bool) → p ≡ places.At s e q → q ≡ true → 8 + 256 * (s + 65536 * e) ≡ partNumber p
+pub part-required-number : (p : OwnPart) (s e : ℕ) (q : Bool) → p ≡ places.At s e q → q ≡ true → 8 + kindStep * (s + packedStep * e) ≡ partNumber p
 part-required-number p s e q at h = sym (ap partNumber (at ∙ ap (places.At s e) h))
 
-pub part-optional-number : (p : OwnPart) (s e : ℕ) (q : Bool) → p ≡ places.At s e q → q ≡ false → 7 + 256 * (s + 65536 * e) ≡ partNumber p
+pub part-optional-number : (p : OwnPart) (s e : ℕ) (q : Bool) → p ≡ places.At s e q → q ≡ false → 7 + kindStep * (s + packedStep * e) ≡ partNumber p
 part-optional-number p s e q at h = sym (ap partNumber (at ∙ ap (places.At s e) h))

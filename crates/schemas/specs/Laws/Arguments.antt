@@ -111,7 +111,8 @@ args-first b h p =
     says (k ∷ i ∷ []) l a m = absurd (omega arith)
     says (k ∷ i ∷ j ∷ c) l a m =
         unfold argsOf in
-        rw (rest-is 3 (k ∷ i ∷ j ∷ c), mul-comm j 256) (step-says (argOf k (i + 256 * j)) (parseArgs c) a (unfold argsFit in (rw (rest-is 3 (k ∷ i ∷ j ∷ c)) at m)))
+        rw (rest-is 3 (k ∷ i ∷ j ∷ c), mul-comm j 256)
+        (step-says (argOf k (i + 256 * j)) (parseArgs c) a (unfold argsFit in (rw (rest-is 3 (k ∷ i ∷ j ∷ c)) at m)))
 
 pub args-none : (b : List ℕ) → length b ≤ 0 → argsOf b ≡ []
 unfolding argsOf

@@ -1,5 +1,5 @@
 -- The loop of `find_entry`, and what it finds, for any row. Assumes nothing.
-use mathlib.Core.Path.{_≡_, refl, ap, sym, _∙_}
+use mathlib.Core.Path.{_≡_, refl, ap, sym, subst, _∙_}
 use mathlib.Core.List.{List, [], _∷_}
 use mathlib.Core.Bool.{Bool, true, false, cond}
 use mathlib.Core.Option.{Option, none, some}
@@ -43,7 +43,8 @@ entry-none w key zero at start b h = refl
 entry-none w key (suc n) at start b h = absurd (omega arith)
 
 entry-step : (w : ℕ) (key : Key) (n at start : ℕ) (b : List ℕ) → 0 < n →
-    entryFrom w key n at start b ≡ cond (keyIs key (rest at b)) (At at start (start + rd (rest at b) (w - 2))) (entryFrom w key (n - 1) (at + w) (start + rd (rest at b) (w - 2)) b)
+    entryFrom w key n at start b ≡ cond (keyIs key (rest at b)) (At at start (start + rd (rest at b) (w - 2)))
+    (entryFrom w key (n - 1) (at + w) (start + rd (rest at b) (w - 2)) b)
 unfolding entryFrom
 entry-step w key zero at start b h = absurd (omega arith)
 entry-step w key (suc n) at start b h = rw (sub-one (suc n)) refl
@@ -51,12 +52,11 @@ entry-step w key (suc n) at start b h = rw (sub-one (suc n)) refl
 -- A search that has come so far: what is left answers for the section.
 pub record FindLeft (w : ℕ) (key : Key) (x : Section) (b : List ℕ) (left at start : ℕ) : Type 0 where
   pub same : entryAt w key x b ≡ entryFrom w key left at start b
-  pub wide : 5 ≤ w
   pub sized : at + w * left ≤ length b
   pub room : start + used w left (rest at b) ≤ length b
 
 pub find-start : {w : ℕ} (key : Key) {x : Section} {b : List ℕ} → LaidIn w x b → FindLeft w key x b (x .count) (x .entries) (x .bodies)
-find-start key l = record { same = refl; wide = l .wide; sized = l .entries; room = l .room }
+find-start key l = record { same = refl; sized = l .entries; room = l .room }
 
 module _ {w : ℕ} {key : Key} {x : Section} {b : List ℕ} {left at start : ℕ} (i : FindLeft w key x b left at start) where
   pub find-end : left ≤ 0 → Nothing ≡ entryAt w key x b
@@ -74,14 +74,14 @@ module _ {w : ℕ} {key : Key} {x : Section} {b : List ℕ} {left at start : ℕ
         pub find-here : y ≡ true → At at start (start + k) ≡ entryAt w key x b
         find-here h = sym (i .same ∙ entry-step w key left at start b p ∙ rw (sym z ∙ h, ← q) refl)
 
-        pub find-again : y ≡ false → FindLeft w key x b (left - 1) (at + w) (start + k)
-        find-again h =
-            record {
+        pub find-again : y ≡ false → (v : ℕ) → v ≡ w → FindLeft w key x b (left - 1) (at + v) (start + k)
+        find-again h v vq =
+            subst (λ (j : ℕ). FindLeft w key x b (left - 1) (at + j) (start + k)) (sym vq)
+            (record {
               same = i .same ∙ entry-step w key left at start b p ∙ rw (sym z ∙ h, ← q) refl;
-              wide = i .wide;
               sized = omega (arith, i .sized, le-mul w left p, mul-less w left p);
               room = omega (arith, i .room, used-step w left (rest at b) p, ap (λ (l : List ℕ). used w (left - 1) l) (rest-rest at w b));
-            }
+            })
 
 -- The first row whose head passes.
 abbrev pub lookup : {H A : Type 0} → (H → Bool) → List (H × A) → Option (H × A)
@@ -107,7 +107,19 @@ module _ {S H A : Type 0} (r : Row S H) (w : H → List ℕ → Bool) (d : H →
 
   past-one : (x : H × A) (xs : List (H × A)) (f : FoundEntry) → q (x .0) ≡ false → FoundIn xs f → FoundIn (x ∷ xs) f
   past-one x xs (At i a e) h f =
-      record { room = f .room; order = f .order; inside = f .inside; low = f .low; fits = f .fits; has = f .has; body = f .body; is = ap (λ (z : Bool). cond z (some x) (lookup q xs)) h ∙ f .is }
+      record {
+        room =
+            f .room;
+        order =
+            f .order;
+        inside =
+            f .inside;
+        low = f .low;
+        fits = f .fits;
+        has = f .has;
+        body = f .body;
+        is = ap (λ (z : Bool). cond z (some x) (lookup q xs)) h ∙ f .is;
+      }
   past-one x xs Nothing h f = ap (λ (z : Bool). cond z (some x) (lookup q xs)) h ∙ f
 
   module _ (hit : (es : List ℕ) → keyIs key es ≡ q (r .head es)) where
@@ -124,12 +136,15 @@ module _ {S H A : Type 0} (r : Row S H) (w : H → List ℕ → Bool) (d : H →
         let sized : at + r .width + r .width * n ≤ length b = omega (arith, l, mul-suc (r .width) n) in
         let room : at + r .width ≤ length b = omega (arith, sized) in
         rw (rest-rest at (r .width) b, rest-rest start k b, part-rest start k b)
-        (go (keyIs key es) refl room fit (f .fits) (rw (part-rest start k b) at (f .body)) (rowsOf r d n (rest (at + r .width) b) (rest (start + k) b)) (entryFrom (r .width) key n (at + r .width) (start + k) b)
+        (go (keyIs key es) refl room fit (f .fits) (rw (part-rest start k b) at (f .body)) (rowsOf r d n (rest (at + r .width) b) (rest (start + k) b))
+        (entryFrom (r .width) key n (at + r .width) (start + k) b)
         (found-in n (r .next es) (at + r .width) (start + k) sized fit more))
       where
         go : (z : Bool) → keyIs key (rest at b) ≡ z → at + r .width ≤ length b → start + bodyLength r (rest at b) ≤ length b → r .ok s (rest at b) ≡ true
             → w (r .head (rest at b)) (part start (start + bodyLength r (rest at b)) b) ≡ true → (ys : List (H × A)) (f : FoundEntry) → FoundIn ys f →
-            FoundIn ((r .head (rest at b), d (r .head (rest at b)) (part start (start + bodyLength r (rest at b)) b)) ∷ ys) (cond z (At at start (start + bodyLength r (rest at b))) f)
+            FoundIn ((r .head (rest at b), d (r .head (rest at b)) (part start (start + bodyLength r (rest at b)) b)) ∷ ys)
+            (cond z (At at start (start + bodyLength r (rest at b))) f)
         go true e room fit ok body ys f i =
             record { room = room; order = omega arith; inside = fit; low = s; fits = ok; has = e; body = body; is = rw (sym (hit (rest at b)) ∙ e) refl }
-        go false e room fit ok body ys f i = past-one (r .head (rest at b), d (r .head (rest at b)) (part start (start + bodyLength r (rest at b)) b)) ys f (sym (hit (rest at b)) ∙ e) i
+        go false e room fit ok body ys f i =
+            past-one (r .head (rest at b), d (r .head (rest at b)) (part start (start + bodyLength r (rest at b)) b)) ys f (sym (hit (rest at b)) ∙ e) i

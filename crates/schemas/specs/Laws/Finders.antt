@@ -20,14 +20,16 @@ use Rattle.forms.specs.TypeBytes.{whole}
 use Rattle.forms.specs.Laws.Parts.{and-l, and-r}
 use Rattle.forms.specs.Laws.Sure.{sure-yes}
 use Rattle.forms.specs.Laws.Views.{IsRecord, is-record}
-use Rattle.schemas.specs.SchemaBytes.{entityRow, actionRow, functionRow, entityBody, actionBody, functionBody, bodyFits, bodyOf, recordOf, argsFit, argsOf}
-use Rattle.schemas.specs.SchemaBytes.{sectionFits, sectionOf, sectionEnd, entitySection, actionSection, functionSection, sectionsOf, headFits, wholeS, decS, checked}
-use Rattle.schemas.specs.Entries.{entryAt, signatureOf, functionAt, LaidIn, Kept, openAt, attrsAt}
+use Rattle.schemas.specs.SchemaBytes.{entityRow, actionRow, functionRow, bodyTest, bodyFits, bodyOf, recordOf, argsFit, argsOf}
+use Rattle.schemas.specs.SchemaBytes.{sectionFits, sectionOf, sectionEnd, entitySection, actionSection, functionSection, sectionsOf, headFits, wholeS}
+use Rattle.schemas.specs.SchemaBytes.{decS, checked}
+use Rattle.schemas.specs.Entries.{entryAt, signatureOf, functionAt, LaidIn, Sectioned, openAt, bodyAttrs}
 use Rattle.schemas.specs.Laws.Walks.{section-ends}
 use Rattle.schemas.specs.Laws.Bodies.{is-body}
 use Rattle.schemas.specs.Laws.Checks.{Head, head, checked-whole}
 use Rattle.schemas.specs.Laws.SchemaTwin.{whole-schema-twin}
 use Rattle.schemas.specs.Laws.Entries.{lookup, FoundIn, found-in}
+use Rattle.schemas.specs.declared.kinds.SectionKind.the-variants.{Entities, Actions, Functions}
 use Rattle.schemas.specs.declared.sections.Section.{Section}
 use Rattle.schemas.specs.declared.sections.Sections.{Sections}
 use Rattle.schemas.specs.declared.whole.Checked.{Checked}
@@ -40,7 +42,7 @@ use Rattle.schemas.specs.declared.entries.FoundFunction.{FoundFunction}
 use Rattle.schemas.specs.declared.entries.FoundFunction.the-variants as functions
 
 -- Checking a schema keeps it.
-pub kept : (b : List ℕ) (y : Checked) → y ≡ checked b → (x : Sections) → y ≡ checks.Whole x → Kept b x
+pub kept : (b : List ℕ) (y : Checked) → y ≡ checked b → (x : Sections) → y ≡ checks.Whole x → Sectioned b x
 kept b y q x h =
     let t = checked-whole b y q x h in
     record {
@@ -52,9 +54,9 @@ kept b y q x h =
 -- The three sections of a whole schema.
 record Parts (b : List ℕ) : Type 0 where
   pub counts : Head b
-  pub first : sectionFits entityRow (entityBody standard) 0 (entitySection b) b ≡ true
-  pub second : sectionFits actionRow (actionBody standard) (0, 0) (actionSection b) b ≡ true
-  pub third : sectionFits functionRow functionBody 0 (functionSection b) b ≡ true
+  pub first : sectionFits standard Entities (entitySection b) b ≡ true
+  pub second : sectionFits standard Actions (actionSection b) b ≡ true
+  pub third : sectionFits standard Functions (functionSection b) b ≡ true
   pub end₀ : actionSection b .bodies ≤ length b
   pub end₁ : functionSection b .bodies ≤ length b
   pub end₂ : sectionEnd 7 (functionSection b) b ≤ length b
@@ -62,25 +64,17 @@ record Parts (b : List ℕ) : Type 0 where
 parts : (b : List ℕ) → wholeS standard b ≡ true → Parts b
 unfolding wholeS
 parts b h =
-    let f = sectionFits entityRow (entityBody standard) 0 (entitySection b) b in
-    let s = sectionFits actionRow (actionBody standard) (0, 0) (actionSection b) b in
-    let t = sectionFits functionRow functionBody 0 (functionSection b) b in
-    let u = eqb (sectionEnd 7 (functionSection b) b) (length b) in
-    let c = head b (and-l (headFits b) (f && (s && (t && u))) h) in
-    let h₁ = and-r (headFits b) (f && (s && (t && u))) h in
-    let h₂ = and-r f (s && (t && u)) h₁ in
-    let h₃ = and-r s (t && u) h₂ in
-    let e₀ = section-ends entityRow (entityBody standard) 0 (entitySection b) b (and-l f (s && (t && u)) h₁) (c .fit) in
-    let e₁ = section-ends actionRow (actionBody standard) (0, 0) (actionSection b) b (and-l s (t && u) h₂) e₀ in
-    record {
-      counts = c;
-      first = and-l f (s && (t && u)) h₁;
-      second = and-l s (t && u) h₂;
-      third = and-l t u h₃;
-      end₀ = e₀;
-      end₁ = e₁;
-      end₂ = section-ends functionRow functionBody 0 (functionSection b) b (and-l t u h₃) e₁;
-    }
+    let c = head b (and-l (headFits b) _ h) in
+    let h₀ = and-r (headFits b) _ h in
+    let h₁ = and-r (sectionFits standard Entities (entitySection b) b) _ h₀ in
+    let h₂ = and-r (sectionFits standard Actions (actionSection b) b) _ h₁ in
+    let f₀ = and-l (sectionFits standard Entities (entitySection b) b) _ h₀ in
+    let f₁ = and-l (sectionFits standard Actions (actionSection b) b) _ h₁ in
+    let f₂ = and-l (sectionFits standard Functions (functionSection b) b) _ h₂ in
+    let e₀ = section-ends standard Entities (entitySection b) b f₀ (c .fit) in
+    let e₁ = section-ends standard Actions (actionSection b) b f₁ e₀ in
+    let e₂ = section-ends standard Functions (functionSection b) b f₂ e₁ in
+    record { counts = c; first = f₀; second = f₁; third = f₂; end₀ = e₀; end₁ = e₁; end₂ = e₂ }
 
 -- A body that was found: a whole record form within the limits.
 pub record BodyAt (b : List ℕ) (a e : ℕ) : Type 0 where
@@ -94,34 +88,46 @@ pub record BodyAt (b : List ℕ) (a e : ℕ) : Type 0 where
 pub record EntityAt (b : List ℕ) (name a e : ℕ) : Type 0 where
   pub body : BodyAt b a e
   pub enumerated : Bool
-  pub is : entityOf (decS standard b) name ≡ some (record { name = name; enumerated = enumerated; isOpen = openAt (part a e b); attrs = attrsAt (part a e b) })
+  pub is : entityOf (decS standard b)
+      name ≡ some (record { name = name; enumerated = enumerated; isOpen = openAt (part a e b); attrs = bodyAttrs (part a e b) })
 
 pub record ActionAt (b : List ℕ) (k i a e : ℕ) : Type 0 where
   pub body : BodyAt b a e
-  pub is : actionOf (decS standard b) k i ≡ some (record { type = k; id = i; attrs = attrsAt (part a e b) })
+  pub is : actionOf (decS standard b) k i ≡ some (record { type = k; id = i; attrs = bodyAttrs (part a e b) })
 
 pub record FunctionAt (b : List ℕ) (name : ℕ) (f : Signature) : Type 0 where
   pub order : f .start ≤ f .end
   pub inside : f .end ≤ length b
   pub args : argsFit (part (f .start) (f .end) b) ≡ true
-  pub is : functionOf (decS standard b) name ≡ some (record { name = name; returns = cond (f .returns) (some (f .extension)) none; args = argsOf (part (f .start) (f .end) b) })
+  pub is : functionOf (decS standard b)
+      name ≡ some (record { name = name; returns = cond (f .returns) (some (f .extension)) none; args = argsOf (part (f .start) (f .end) b) })
 
 body-at : (b : List ℕ) (a e : ℕ) (closed : Bool) → a ≤ e → e ≤ length b → bodyFits standard closed (part a e b) ≡ true → BodyAt b a e
 body-at b a e closed o i h =
     let v = is-body standard closed (part a e b) h in
-    record { order = o; inside = i; few = v .few; good = v .good; kind-is = v .kind-is; view = is-record (standard .levels) (part a e b) (v .good) (v .kind-is) }
+    record {
+      order =
+          o;
+      inside = i;
+      few = v .few;
+      good = v .good;
+      kind-is = v .kind-is;
+      view = is-record (standard .levels) (part a e b) (v .good) (v .kind-is);
+    }
 
-body-says : {b : List ℕ} {a e : ℕ} → BodyAt b a e → bodyOf standard (part a e b) ≡ (openAt (part a e b), attrsAt (part a e b))
+body-says : {b : List ℕ} {a e : ℕ} → BodyAt b a e → bodyOf standard (part a e b) ≡ (openAt (part a e b), bodyAttrs (part a e b))
 unfolding bodyOf
 body-says v = ap recordOf (v .view .is)
 
 -- Cedar's searches go down the rows, for each section.
-module _ {H A E : Type 0} (q : H → Bool) (make : H × A → E) (find : List (H × A) → Option E) (stop : find [] ≡ none) (step : (x : H × A) (xs : List (H × A)) → find (x ∷ xs) ≡ cond (q (x .0)) (some (make x)) (find xs)) where
+module _ {H A E : Type 0} (q : H → Bool) (make : H × A → E) (find : List (H × A) → Option E) (stop : find [] ≡ none)
+    (step : (x : H × A) (xs : List (H × A)) → find (x ∷ xs) ≡ cond (q (x .0)) (some (make x)) (find xs)) where
   rows-find : (xs : List (H × A)) → find xs ≡ maybe none (λ y. some (make y)) (lookup q xs)
   rows-find [] = stop
   rows-find (x ∷ xs) = step x xs ∙ go (q (x .0)) (find xs) (lookup q xs) (rows-find xs)
     where
-      go : (z : Bool) (o : Option E) (p : Option (H × A)) → o ≡ maybe none (λ y. some (make y)) p → cond z (some (make x)) o ≡ maybe none (λ y. some (make y)) (cond z (some x) p)
+      go : (z : Bool) (o : Option E) (p : Option (H × A)) → o ≡ maybe none (λ y. some (make y)) p →
+          cond z (some (make x)) o ≡ maybe none (λ y. some (make y)) (cond z (some x) p)
       go true o p e = refl
       go false o p e = e
 
@@ -141,13 +147,12 @@ actionRows b = sectionOf actionRow (λ h. bodyOf standard) (actionSection b) b
 abbrev functionRows : List ℕ → List ((ℕ × Option ℕ) × List Arg)
 functionRows b = sectionOf functionRow (λ h. argsOf) (functionSection b) b
 
-module _ {b : List ℕ} {x : Sections} (k : Kept b x) where
+module _ {b : List ℕ} {x : Sections} (k : Sectioned b x) where
   kept-parts : Parts b
   kept-parts = parts b (k .yes)
 
-  -- The schema that cedar reads.
-  pub kept-schema : wholeSchema standard b ≡ some (decS standard b)
-  kept-schema = sure-yes (whole-schema-twin standard b) (rw (le-leb (length b) 32768 (k .few), k .yes) refl)
+  pub kept-counts : Head b
+  kept-counts = kept-parts .counts
 
   -- Where the sections lie.
   entities-is : x .entities ≡ entitySection b
@@ -163,23 +168,25 @@ module _ {b : List ℕ} {x : Sections} (k : Kept b x) where
   functions-is = ap (λ (y : Sections). y .functions) (k .is)
 
   pub entities-laid : LaidIn 5 (x .entities) b
-  entities-laid = subst (λ (y : Section). LaidIn 5 y b) (sym entities-is) (record { wide = omega arith; entries = omega (arith, kept-parts .counts .fit); room = kept-parts .end₀ })
+  entities-laid = subst (λ (y : Section). LaidIn 5 y b) (sym entities-is) (record { entries = omega (arith, kept-parts .counts .fit); room = kept-parts .end₀ })
 
   pub actions-laid : LaidIn 6 (x .actions) b
-  actions-laid = subst (λ (y : Section). LaidIn 6 y b) (sym actions-is) (record { wide = omega arith; entries = omega (arith, kept-parts .counts .fit); room = kept-parts .end₁ })
+  actions-laid = subst (λ (y : Section). LaidIn 6 y b) (sym actions-is) (record { entries = omega (arith, kept-parts .counts .fit); room = kept-parts .end₁ })
 
   pub functions-laid : LaidIn 7 (x .functions) b
-  functions-laid = subst (λ (y : Section). LaidIn 7 y b) (sym functions-is) (record { wide = omega arith; entries = omega (arith, kept-parts .counts .fit); room = kept-parts .end₂ })
+  functions-laid =
+      subst (λ (y : Section). LaidIn 7 y b) (sym functions-is) (record { entries = omega (arith, kept-parts .counts .fit); room = kept-parts .end₂ })
 
   -- An entity type.
   module _ (name : ℕ) (y : FoundEntry) (q : y ≡ entryAt 5 (Name name) (x .entities) b) where
     abbrev EntityFound : FoundEntry → Type 0
-    EntityFound = FoundIn entityRow (entityBody standard) (λ h. bodyOf standard) (Name name) (λ h. eqb name (h .0)) b (entityRows b)
+    EntityFound = FoundIn entityRow (bodyTest standard Entities) (λ h. bodyOf standard) (Name name) (λ h. eqb name (h .0)) b (entityRows b)
 
     entity-found : EntityFound y
     entity-found =
         subst EntityFound (sym (q ∙ ap (λ (z : Section). entryAt 5 (Name name) z b) entities-is))
-        (found-in entityRow (entityBody standard) (λ h. bodyOf standard) (Name name) (λ h. eqb name (h .0)) b (λ es. refl) (rd b 0) 0 6 (entitySection b .bodies) (omega (arith, kept-parts .counts .fit)) (kept-parts .counts .fit) (kept-parts .first))
+        (found-in entityRow (bodyTest standard Entities) (λ h. bodyOf standard) (Name name) (λ h. eqb name (h .0)) b (λ es. refl) (rd b 0) 0 6
+        (entitySection b .bodies) (omega (arith, kept-parts .counts .fit)) (kept-parts .counts .fit) (kept-parts .first))
 
     pub entity-at : (i a e : ℕ) → y ≡ At i a e → EntityAt b name a e
     unfolding decS
@@ -190,24 +197,28 @@ module _ {b : List ℕ} {x : Sections} (k : Kept b x) where
           body = v;
           enumerated = eqb (getD (rest i b) 2 0) 1;
           is =
-              rows-some (λ h. eqb name (h .0)) (λ z. record { name = z .0 .0; enumerated = z .0 .1; isOpen = z .1 .0; attrs = z .1 .1 }) (λ xs. entityIn (entitiesOf xs) name) refl (λ z zs. refl) (entityRows b) _ (f .is)
-              ∙ ap₂ (λ (n : ℕ) (o : Bool × Attrs). some (record { name = n; enumerated = eqb (getD (rest i b) 2 0) 1; isOpen = o .0; attrs = o .1 })) (sym (eqb-true name (rd (rest i b) 0) (f .has))) (body-says v);
+              rows-some (λ h. eqb name (h .0)) (λ z. record { name = z .0 .0; enumerated = z .0 .1; isOpen = z .1 .0; attrs = z .1 .1 })
+              (λ xs. entityIn (entitiesOf xs) name) refl (λ z zs. refl) (entityRows b) _ (f .is)
+              ∙ ap₂ (λ (n : ℕ) (o : Bool × Attrs). some (record { name = n; enumerated = eqb (getD (rest i b) 2 0) 1; isOpen = o .0; attrs = o .1 }))
+              (sym (eqb-true name (rd (rest i b) 0) (f .has))) (body-says v);
         }
 
     pub entity-not : y ≡ Nothing → entityOf (decS standard b) name ≡ none
     unfolding decS
     entity-not h =
-        rows-none (λ h. eqb name (h .0)) (λ z. record { name = z .0 .0; enumerated = z .0 .1; isOpen = z .1 .0; attrs = z .1 .1 }) (λ xs. entityIn (entitiesOf xs) name) refl (λ z zs. refl) (entityRows b) (subst EntityFound h entity-found)
+        rows-none (λ h. eqb name (h .0)) (λ z. record { name = z .0 .0; enumerated = z .0 .1; isOpen = z .1 .0; attrs = z .1 .1 })
+        (λ xs. entityIn (entitiesOf xs) name) refl (λ z zs. refl) (entityRows b) (subst EntityFound h entity-found)
 
   -- An action.
   module _ (t d : ℕ) (y : FoundEntry) (q : y ≡ entryAt 6 (Uid t d) (x .actions) b) where
     abbrev ActionFound : FoundEntry → Type 0
-    ActionFound = FoundIn actionRow (actionBody standard) (λ h. bodyOf standard) (Uid t d) (λ h. eqb t (h .0) && eqb d (h .1)) b (actionRows b)
+    ActionFound = FoundIn actionRow (bodyTest standard Actions) (λ h. bodyOf standard) (Uid t d) (λ h. eqb t (h .0) && eqb d (h .1)) b (actionRows b)
 
     action-found : ActionFound y
     action-found =
         subst ActionFound (sym (q ∙ ap (λ (z : Section). entryAt 6 (Uid t d) z b) actions-is))
-        (found-in actionRow (actionBody standard) (λ h. bodyOf standard) (Uid t d) (λ h. eqb t (h .0) && eqb d (h .1)) b (λ es. refl) (rd b 2) (0, 0) (6 + 5 * rd b 0) (actionSection b .bodies) (omega (arith, kept-parts .counts .fit)) (kept-parts .end₀) (kept-parts .second))
+        (found-in actionRow (bodyTest standard Actions) (λ h. bodyOf standard) (Uid t d) (λ h. eqb t (h .0) && eqb d (h .1)) b (λ es. refl) (rd b 2) (0, 0)
+        (6 + 5 * rd b 0) (actionSection b .bodies) (omega (arith, kept-parts .counts .fit)) (kept-parts .end₀) (kept-parts .second))
 
     pub action-at : (i a e : ℕ) → y ≡ At i a e → ActionAt b t d a e
     unfolding decS
@@ -219,31 +230,35 @@ module _ {b : List ℕ} {x : Sections} (k : Kept b x) where
         record {
           body = v;
           is =
-              rows-some (λ h. eqb t (h .0) && eqb d (h .1)) (λ z. record { type = z .0 .0; id = z .0 .1; attrs = z .1 .1 }) (λ xs. actionIn (actionsOf xs) t d) refl (λ z zs. refl) (actionRows b) _ (f .is)
+              rows-some (λ h. eqb t (h .0) && eqb d (h .1)) (λ z. record { type = z .0 .0; id = z .0 .1; attrs = z .1 .1 }) (λ xs. actionIn (actionsOf xs) t d)
+              refl (λ z zs. refl) (actionRows b) _ (f .is)
               ∙ ap (λ (o : Bool × Attrs). some (record { type = rd (rest i b) 0; id = rd (rest i b) 2; attrs = o .1 })) (body-says v)
-              ∙ ap₂ (λ (l m : ℕ). some (record { type = l; id = m; attrs = attrsAt (part a e b) })) (sym n) (sym j);
+              ∙ ap₂ (λ (l m : ℕ). some (record { type = l; id = m; attrs = bodyAttrs (part a e b) })) (sym n) (sym j);
         }
 
     pub action-not : y ≡ Nothing → actionOf (decS standard b) t d ≡ none
     unfolding decS
     action-not h =
-        rows-none (λ h. eqb t (h .0) && eqb d (h .1)) (λ z. record { type = z .0 .0; id = z .0 .1; attrs = z .1 .1 }) (λ xs. actionIn (actionsOf xs) t d) refl (λ z zs. refl) (actionRows b) (subst ActionFound h action-found)
+        rows-none (λ h. eqb t (h .0) && eqb d (h .1)) (λ z. record { type = z .0 .0; id = z .0 .1; attrs = z .1 .1 }) (λ xs. actionIn (actionsOf xs) t d)
+        refl (λ z zs. refl) (actionRows b) (subst ActionFound h action-found)
 
   -- A function.
   module _ (name : ℕ) where
     abbrev EntryFound : FoundEntry → Type 0
-    EntryFound = FoundIn functionRow functionBody (λ h. argsOf) (Name name) (λ h. eqb name (h .0)) b (functionRows b)
+    EntryFound = FoundIn functionRow (bodyTest standard Functions) (λ h. argsOf) (Name name) (λ h. eqb name (h .0)) b (functionRows b)
 
     entry-found : EntryFound (entryAt 7 (Name name) (x .functions) b)
     entry-found =
         subst EntryFound (sym (ap (λ (z : Section). entryAt 7 (Name name) z b) functions-is))
-        (found-in functionRow functionBody (λ h. argsOf) (Name name) (λ h. eqb name (h .0)) b (λ es. refl) (rd b 4) 0 (6 + 5 * rd b 0 + 6 * rd b 2) (functionSection b .bodies) (omega (arith, kept-parts .counts .fit)) (kept-parts .end₁) (kept-parts .third))
+        (found-in functionRow (bodyTest standard Functions) (λ h. argsOf) (Name name) (λ h. eqb name (h .0)) b (λ es. refl) (rd b 4)
+        0 (6 + 5 * rd b 0 + 6 * rd b 2) (functionSection b .bodies) (omega (arith, kept-parts .counts .fit)) (kept-parts .end₁) (kept-parts .third))
 
     -- The entry is there.
     pub function-room : (y : FoundEntry) → y ≡ entryAt 7 (Name name) (x .functions) b → (i a e : ℕ) → y ≡ At i a e → i + 7 ≤ length b
     function-room y q i a e h = subst EntryFound (sym q ∙ h) entry-found .room
 
-    entry-says : (i a e : ℕ) → EntryFound (At i a e) → FunctionAt b name (record { returns = eqb (getD (rest i b) 2 0) 1; extension = rd (rest i b) 3; start = a; end = e })
+    entry-says : (i a e : ℕ) → EntryFound (At i a e) →
+        FunctionAt b name (record { returns = eqb (getD (rest i b) 2 0) 1; extension = rd (rest i b) 3; start = a; end = e })
     unfolding decS
     entry-says i a e f =
         record {
@@ -251,13 +266,18 @@ module _ {b : List ℕ} {x : Sections} (k : Kept b x) where
           inside = f .inside;
           args = f .body;
           is =
-              rows-some (λ h. eqb name (h .0)) (λ z. record { name = z .0 .0; returns = z .0 .1; args = z .1 }) (λ xs. functionIn (functionsOf xs) name) refl (λ z zs. refl) (functionRows b) _ (f .is)
-              ∙ ap (λ (n : ℕ). some (record { name = n; returns = cond (eqb (getD (rest i b) 2 0) 1) (some (rd (rest i b) 3)) none; args = argsOf (part a e b) })) (sym (eqb-true name (rd (rest i b) 0) (f .has)));
+              rows-some (λ h. eqb name (h .0)) (λ z. record { name = z .0 .0; returns = z .0 .1; args = z .1 }) (λ xs. functionIn (functionsOf xs) name)
+              refl (λ z zs. refl) (functionRows b) _ (f .is)
+              ∙
+              ap (λ (n : ℕ). some (record { name = n; returns = cond (eqb (getD (rest i b) 2 0) 1) (some (rd (rest i b) 3)) none; args = argsOf (part a e b) }))
+              (sym (eqb-true name (rd (rest i b) 0) (f .has)));
         }
 
     none-says : EntryFound Nothing → functionOf (decS standard b) name ≡ none
     unfolding decS
-    none-says v = rows-none (λ h. eqb name (h .0)) (λ z. record { name = z .0 .0; returns = z .0 .1; args = z .1 }) (λ xs. functionIn (functionsOf xs) name) refl (λ z zs. refl) (functionRows b) v
+    none-says v =
+        rows-none (λ h. eqb name (h .0)) (λ z. record { name = z .0 .0; returns = z .0 .1; args = z .1 }) (λ xs. functionIn (functionsOf xs) name)
+        refl (λ z zs. refl) (functionRows b) v
 
     module _ (y : FoundFunction) (q : y ≡ functionAt name (x .functions) b) where
       pub function-at : (f : Signature) → y ≡ functions.At f → FunctionAt b name f

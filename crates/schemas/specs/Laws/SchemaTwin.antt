@@ -1,6 +1,6 @@
 -- The schema form as cedar reads it, and as the code walks it. Assumes nothing.
 use mathlib.Core.Path.{_≡_, refl, ap, ap₂, sym, _∙_}
-use mathlib.Core.List.{List, []}
+use mathlib.Core.List.{List, [], _∷_}
 use mathlib.Core.Bool.{Bool, true, false, not, _&&_, _||_, cond, and-false, and-true, and-assoc}
 use mathlib.Core.Option.{Option, none, some}
 use Prim.Native.Nat.{ℕ, zero, suc, _+_, _*_, _-_, _≤_}
@@ -13,7 +13,8 @@ use lib.Seq.{drop-drop}
 use borrow.Author.Tests.{leb-true, le-leb, lt-leb}
 use Rattle.cedar.specs.Types.{Entity, Action, Function, Schema, isAction, maybe, present, asRec}
 use Rattle.cedar.specs.Limits.{Limits, blockBytes, maxEntities, maxActions, maxFunctions}
-use Rattle.cedar.specs.SchemaForm.{readEntity, readAction, readFunction, ascendingFirst, ascendingAction, readBody, parseArgs, entitiesOf, actionsOf, functionsOf, parseSchema}
+use Rattle.cedar.specs.SchemaForm.{readEntity, readAction, readFunction, ascendingFirst, ascendingAction, readBody, parseArgs, entitiesOf, actionsOf}
+use Rattle.cedar.specs.SchemaForm.{functionsOf, parseSchema}
 use Rattle.cedar.specs.Whole.{wholeType, wholeSchema}
 use Rattle.forms.specs.Parts.{rest, rd}
 use Rattle.forms.specs.Rows.{Row, bodyLength, rowsTo, rowsOf, leftOf, noneLeft}
@@ -23,8 +24,10 @@ use Rattle.forms.specs.Laws.Parts.{and-same, rest-is, rest-0, rest-rest, length
 use Rattle.forms.specs.Laws.Sure.{Sure, sure-same, bind-to, map-to, guard-to, finish-to, word-at, bit-at, ascending-to, eqb-same, leb-and, leb-under, within-to}
 use Rattle.forms.specs.Laws.RowsTwin.{Reads, rows-twin}
 use Rattle.forms.specs.Laws.TypeTwin.{whole-type-twin}
-use Rattle.schemas.specs.SchemaBytes.{entityRow, actionRow, functionRow, recordOf, bodyFits, bodyOf, argsFit, argsOf, entityBody, actionBody, functionBody, any}
-use Rattle.schemas.specs.SchemaBytes.{sectionFits, sectionEnd, entitySection, actionSection, functionSection, wholeS, decS}
+use Rattle.schemas.specs.SchemaBytes.{entityRow, actionRow, functionRow, recordOf, bodyFits, bodyOf, argsFit, argsOf, lowIn, lowest, rowOf, bodyTest, any}
+use Rattle.schemas.specs.SchemaBytes.{sectionFits, sectionEnd, entriesEnd, entitySection, actionSection, functionSection, sectionsFit, wholeS, decS}
+use Rattle.schemas.specs.declared.kinds.SectionKind.{SectionKind}
+use Rattle.schemas.specs.declared.kinds.SectionKind.the-variants.{Entities, Actions, Functions}
 use Rattle.schemas.specs.declared.sections.Section.{Section}
 use Rattle.schemas.specs.Laws.Walks.{section-ends}
 
@@ -186,7 +189,9 @@ module _ (b : List ℕ) where
   es-is₁ = drop-drop (5 * rd b 0) 6 b ∙ sym (rest-is (6 + 5 * rd b 0) b)
 
   es-is₂ : es₂ b ≡ rest (functionSection b .entries) b
-  es-is₂ = ap (λ (l : List ℕ). drop (6 * rd b 2) l) (drop-drop (5 * rd b 0) 6 b) ∙ drop-drop (6 * rd b 2) (6 + 5 * rd b 0) b ∙ sym (rest-is (6 + 5 * rd b 0 + 6 * rd b 2) b)
+  es-is₂ =
+      ap (λ (l : List ℕ). drop (6 * rd b 2) l) (drop-drop (5 * rd b 0) 6 b) ∙ drop-drop (6 * rd b 2) (6 + 5 * rd b 0) b ∙
+      sym (rest-is (6 + 5 * rd b 0 + 6 * rd b 2) b)
 
   bs-is₀ : bs₀ b ≡ rest (entitySection b .bodies) b
   bs-is₀ =
@@ -209,14 +214,17 @@ module _ (b : List ℕ) where
       ∙ leb-and 2 (length b) 6 (length b) 6 (length b) (λ h. (omega arith, h)) (λ g h. h)
 
   -- The entries are there.
-  entries-is : 6 ≤ length b → leb (5 * rd b 0) (length (es₀ b)) && (leb (6 * rd b 2) (length (es₁ b)) && leb (7 * rd b 4) (length (es₂ b))) ≡ leb (entitySection b .bodies) (length b)
+  entries-is : 6 ≤ length b → leb (5 * rd b 0) (length (es₀ b)) && (leb (6 * rd b 2) (length (es₁ b)) && leb (7 * rd b 4) (length (es₂ b))) ≡ leb (entriesEnd b)
+      (length b)
   entries-is h =
       let l₀ = length-drop 6 b in
       let l₁ = length-drop (5 * rd b 0) (es₀ b) in
       let l₂ = length-drop (6 * rd b 2) (es₁ b) in
       ap (λ (z : Bool). leb (5 * rd b 0) (length (es₀ b)) && z)
-      (leb-and (6 * rd b 2) (length (es₁ b)) (7 * rd b 4) (length (es₂ b)) (6 * rd b 2 + 7 * rd b 4) (length (es₁ b)) (λ g. (omega arith, omega arith)) (λ g k. omega arith))
-      ∙ leb-and (5 * rd b 0) (length (es₀ b)) (6 * rd b 2 + 7 * rd b 4) (length (es₁ b)) (entitySection b .bodies) (length b) (λ g. (omega arith, omega arith)) (λ g k. omega arith)
+      (leb-and (6 * rd b 2) (length (es₁ b)) (7 * rd b 4) (length (es₂ b)) (6 * rd b 2 + 7 * rd b 4) (length (es₁ b)) (λ g. (omega arith, omega arith))
+      (λ g k. omega arith))
+      ∙ leb-and (5 * rd b 0) (length (es₀ b)) (6 * rd b 2 + 7 * rd b 4) (length (es₁ b)) (entriesEnd b) (length b) (λ g. (omega arith, omega arith))
+      (λ g k. omega arith)
 
   -- No byte is over.
   end-is : (end : ℕ) → end ≤ length b → noneLeft (rest end b) ≡ eqb end (length b)
@@ -230,44 +238,43 @@ module _ (lim : Limits) (b : List ℕ) where
   abbrev counts : Bool
   counts = leb (rd b 0) maxEntities && (leb (rd b 2) maxActions && leb (rd b 4) maxFunctions)
 
-  abbrev first : List ℕ → List ℕ → Bool
-  first e f = rowsTo entityRow (entityBody lim) any (rd b 0) 0 e f
+  -- The rows of a section.
+  abbrev fit : (k : SectionKind) → ℕ → List ℕ → List ℕ → Bool
+  fit k n es bs = rowsTo (rowOf k) (bodyTest lim k) any n (lowIn k lowest) es bs
 
-  abbrev second : List ℕ → List ℕ → Bool
-  second e f = rowsTo actionRow (actionBody lim) any (rd b 2) (0, 0) e f
-
-  abbrev third : List ℕ → List ℕ → Bool
-  third e f = rowsTo functionRow functionBody any (rd b 4) 0 e f
-
-  sections-is : entitySection b .bodies ≤ length b →
-      first (es₀ b) (bs₀ b) && (second (es₁ b) (bs₁ b) && (third (es₂ b) (bs₂ b) && noneLeft (bs₃ b)))
-      ≡ (sectionFits entityRow (entityBody lim) 0 (entitySection b) b
-      && (sectionFits actionRow (actionBody lim) (0, 0) (actionSection b) b
-      && (sectionFits functionRow functionBody 0 (functionSection b) b
-      && eqb (sectionEnd 7 (functionSection b) b) (length b))))
+  sections-is : entriesEnd b ≤ length b →
+      fit Entities (rd b 0) (es₀ b) (bs₀ b) && (fit Actions (rd b 2) (es₁ b) (bs₁ b) && (fit Functions (rd b 4) (es₂ b) (bs₂ b) && noneLeft (bs₃ b)))
+      ≡ sectionsFit lim (Entities ∷ Actions ∷ Functions ∷ []) (entriesEnd b) b
   sections-is h =
-      rw (ap₂ (λ (e f : List ℕ). first e f) (es-is₀ b) (bs-is₀ b), ap₂ (λ (e f : List ℕ). second e f) (es-is₁ b) (bs-is₁ b), ap₂ (λ (e f : List ℕ). third e f) (es-is₂ b) (bs-is₂ b), bs-is₃ b)
-      (and-same (sectionFits entityRow (entityBody lim) 0 (entitySection b) b) λ p.
-      and-same (sectionFits actionRow (actionBody lim) (0, 0) (actionSection b) b) λ q.
-      and-same (sectionFits functionRow functionBody 0 (functionSection b) b) λ r.
-      let p₁ = section-ends entityRow (entityBody lim) 0 (entitySection b) b p h in
-      let q₁ = section-ends actionRow (actionBody lim) (0, 0) (actionSection b) b q p₁ in
-      end-is b (sectionEnd 7 (functionSection b) b) (section-ends functionRow functionBody 0 (functionSection b) b r q₁))
+      rw (
+        ap₂ (λ (e f : List ℕ). fit Entities (rd b 0) e f) (es-is₀ b) (bs-is₀ b),
+        ap₂ (λ (e f : List ℕ). fit Actions (rd b 2) e f) (es-is₁ b) (bs-is₁ b),
+        ap₂ (λ (e f : List ℕ). fit Functions (rd b 4) e f) (es-is₂ b) (bs-is₂ b),
+        bs-is₃ b,
+      )
+      (and-same (sectionFits lim Entities (entitySection b) b) λ p.
+      and-same (sectionFits lim Actions (actionSection b) b) λ q.
+      and-same (sectionFits lim Functions (functionSection b) b) λ r.
+      let p₁ = section-ends lim Entities (entitySection b) b p h in
+      let q₁ = section-ends lim Actions (actionSection b) b q p₁ in
+      end-is b (sectionEnd 7 (functionSection b) b) (section-ends lim Functions (functionSection b) b r q₁))
 
   tests : leb 2 (length b) && (leb 4 (length b) && (leb 6 (length b) && (counts
-      && ((leb (5 * rd b 0) (length (es₀ b)) && first (es₀ b) (bs₀ b))
-      && ((leb (6 * rd b 2) (length (es₁ b)) && second (es₁ b) (bs₁ b))
-      && ((leb (7 * rd b 4) (length (es₂ b)) && third (es₂ b) (bs₂ b)) && noneLeft (bs₃ b)))))))
+      && ((leb (5 * rd b 0) (length (es₀ b)) && fit Entities (rd b 0) (es₀ b) (bs₀ b))
+      && ((leb (6 * rd b 2) (length (es₁ b)) && fit Actions (rd b 2) (es₁ b) (bs₁ b))
+      && ((leb (7 * rd b 4) (length (es₂ b)) && fit Functions (rd b 4) (es₂ b) (bs₂ b)) && noneLeft (bs₃ b)))))))
       ≡ wholeS lim b
   unfolding wholeS
   tests =
-      lay (leb 2 (length b)) (leb 4 (length b)) (leb 6 (length b)) counts (leb (5 * rd b 0) (length (es₀ b))) (leb (6 * rd b 2) (length (es₁ b))) (leb (7 * rd b 4) (length (es₂ b)))
-      (first (es₀ b) (bs₀ b)) (second (es₁ b) (bs₁ b)) (third (es₂ b) (bs₂ b)) (noneLeft (bs₃ b))
+      lay (leb 2 (length b)) (leb 4 (length b)) (leb 6 (length b)) counts (leb (5 * rd b 0) (length (es₀ b))) (leb (6 * rd b 2) (length (es₁ b)))
+      (leb (7 * rd b 4) (length (es₂ b)))
+      (fit Entities (rd b 0) (es₀ b) (bs₀ b)) (fit Actions (rd b 2) (es₁ b) (bs₁ b)) (fit Functions (rd b 4) (es₂ b) (bs₂ b)) (noneLeft (bs₃ b))
       ∙ and-head _ (head-is b)
       ∙ (and-same (leb 6 (length b)) λ p.
-      (and-same counts λ q. and-head _ (entries-is b (leb-true 6 (length b) p)) ∙ and-same (leb (entitySection b .bodies) (length b)) λ r. sections-is (leb-true (entitySection b .bodies) (length b) r))
-      ∙ sym (and-assoc counts (leb (entitySection b .bodies) (length b)) _))
-      ∙ sym (and-assoc (leb 6 (length b)) (counts && leb (entitySection b .bodies) (length b)) _)
+      (and-same counts λ q. and-head _ (entries-is b (leb-true 6 (length b) p)) ∙ and-same (leb (entriesEnd b) (length b)) λ r.
+      sections-is (leb-true (entriesEnd b) (length b) r))
+      ∙ sym (and-assoc counts (leb (entriesEnd b) (length b)) _))
+      ∙ sym (and-assoc (leb 6 (length b)) (counts && leb (entriesEnd b) (length b)) _)
 
   -- The law: cedar reads a schema just where the bytes are whole, and it is the one decoded.
   pub schema-twin : Sure (parseSchema (λ c. wholeType lim c) b) (wholeS lim b) (decS lim b)
@@ -278,9 +285,12 @@ module _ (lim : Limits) (b : List ℕ) where
       bind-to _ (word-at b 2) λ q₂.
       bind-to _ (word-at b 4) λ q₃.
       bind-to _ (guard-to counts) λ q₄.
-      bind-to _ (rows-twin entityRow (entityBody lim) (λ h. bodyOf lim) readEntity ascendingFirst (λ h. readBody (λ c. wholeType lim c) (h .1)) entity-reads (λ h c. body-twin lim (h .1) c) (rd b 0) 0 (es₀ b) (bs₀ b)) λ q₅.
-      bind-to _ (rows-twin actionRow (actionBody lim) (λ h. bodyOf lim) readAction ascendingAction (λ h. readBody (λ c. wholeType lim c) true) action-reads (λ h c. body-twin lim true c) (rd b 2) (0, 0) (es₁ b) (bs₁ b)) λ q₆.
-      bind-to _ (rows-twin functionRow functionBody (λ h. argsOf) readFunction ascendingFirst (λ h. parseArgs) function-reads (λ h c. args-twin c) (rd b 4) 0 (es₂ b) (bs₂ b)) λ q₇.
+      bind-to _ (rows-twin entityRow (bodyTest lim Entities) (λ h. bodyOf lim) readEntity ascendingFirst (λ h. readBody (λ c. wholeType lim c) (h .1))
+      entity-reads (λ h c. body-twin lim (h .1) c) (rd b 0) 0 (es₀ b) (bs₀ b)) λ q₅.
+      bind-to _ (rows-twin actionRow (bodyTest lim Actions) (λ h. bodyOf lim) readAction ascendingAction (λ h. readBody (λ c. wholeType lim c) true)
+      action-reads (λ h c. body-twin lim true c) (rd b 2) (0, 0) (es₁ b) (bs₁ b)) λ q₆.
+      bind-to _ (rows-twin functionRow (bodyTest lim Functions) (λ h. argsOf) readFunction ascendingFirst (λ h. parseArgs) function-reads (λ h c. args-twin c)
+      (rd b 4) 0 (es₂ b) (bs₂ b)) λ q₇.
       finish-to _ (bs₃ b))
       tests
       (schema-equal

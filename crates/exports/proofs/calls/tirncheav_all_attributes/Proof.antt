@@ -11,9 +11,11 @@ all-attributes-requires c κs = search needs
 
 answer-number-requires : tie.Need-answer-number-requires
 answer-number-requires c κs =
-    let start = c .before .before .before .before .before .before .before .before .before .before .before in
     let all-attributes = c .before .before .before .before in
-    brief (all-attributes .all-attributes .result) (names-call-short (start .args .schema .now) (start .args .t .now) (length (start .args .out .now)) (length (start .args .work .now))) ((all-attributes .all-attributes .ensures) .answer)
+    let start = all-attributes .before .before .before .before .before .before .before in
+    let args = start .args in
+    let by-names-call-short = names-call-short (args .schema .now) (args .t .now) (length (args .out .now)) (length (args .work .now)) in
+    brief (all-attributes .all-attributes .result) by-names-call-short (all-attributes .all-attributes .ensures .answer)
 
 same-length : tie.Need-same-length
 same-length c = search needs

@@ -11,9 +11,11 @@ euid-literal-requires c κs = search needs
 
 answer-number-requires : tie.Need-answer-number-requires
 answer-number-requires c κs =
-    let start = c .before .before .before .before .before .before .before in
     let euid-literal = c .before .before in
-    brief (euid-literal .euid-literal .result) (literal-short (start .args .schema .now) (start .args .v .now) (length (start .args .out .now))) ((euid-literal .euid-literal .ensures) .answer)
+    let start = euid-literal .before .before .before .before .before in
+    let args = start .args in
+    brief (euid-literal .euid-literal .result) (literal-short (args .schema .now) (args .v .now) (length (args .out .now)))
+    (euid-literal .euid-literal .ensures .answer)
 
 same-length : tie.Need-same-length
 same-length c = search needs

@@ -11,9 +11,12 @@ lookup-attribute-type-requires c κs = search needs
 
 answer-number-requires : tie.Need-answer-number-requires
 answer-number-requires c κs =
-    let start = c .before .before .before .before .before .before .before .before .before .before .before in
     let lookup-attribute-type = c .before .before .before .before in
-    brief (lookup-attribute-type .lookup-attribute-type .result) (lookup-short (start .args .schema .now) (start .args .attr) (start .args .t .now) (length (start .args .out .now)) (length (start .args .work .now))) ((lookup-attribute-type .lookup-attribute-type .ensures) .answer)
+    let start = lookup-attribute-type .before .before .before .before .before .before .before in
+    let args = start .args in
+    let lookup-attribute-type-2 = lookup-attribute-type .lookup-attribute-type in
+    let by-lookup-short = lookup-short (args .schema .now) (args .attr) (args .t .now) (length (args .out .now)) (length (args .work .now)) in
+    brief (lookup-attribute-type-2 .result) by-lookup-short (lookup-attribute-type-2 .ensures .answer)
 
 same-length : tie.Need-same-length
 same-length c = search needs

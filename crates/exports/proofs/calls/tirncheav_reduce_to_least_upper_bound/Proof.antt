@@ -11,9 +11,12 @@ reduce-to-least-upper-bound-requires c κs = search needs
 
 answer-number-requires : tie.Need-answer-number-requires
 answer-number-requires c κs =
-    let start = c .before .before .before .before .before .before .before .before .before .before .before in
     let reduce-to-least-upper-bound = c .before .before .before .before in
-    brief (reduce-to-least-upper-bound .reduce-to-least-upper-bound .result) (fold-short (start .args .schema .now) (start .args .mode) (start .args .list .now) (length (start .args .out .now)) (length (start .args .work .now))) ((reduce-to-least-upper-bound .reduce-to-least-upper-bound .ensures) .answer)
+    let start = reduce-to-least-upper-bound .before .before .before .before .before .before .before in
+    let args = start .args in
+    let reduce-to-least-upper-bound-2 = reduce-to-least-upper-bound .reduce-to-least-upper-bound in
+    let by-fold-short = fold-short (args .schema .now) (args .mode) (args .list .now) (length (args .out .now)) (length (args .work .now)) in
+    brief (reduce-to-least-upper-bound-2 .result) by-fold-short (reduce-to-least-upper-bound-2 .ensures .answer)
 
 same-length : tie.Need-same-length
 same-length c = search needs

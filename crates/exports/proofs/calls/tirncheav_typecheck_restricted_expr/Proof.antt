@@ -12,7 +12,8 @@ typecheck-restricted-expr-requires c κs = search needs
 answer-number-requires : tie.Need-answer-number-requires
 answer-number-requires c κs =
     let start = c .before .before .before .before in
-    brief (c .typecheck-restricted-expr .result) (conforms-short (start .args .schema .now) (start .args .t .now) (start .args .v .now)) (c .typecheck-restricted-expr .ensures)
+    let args = start .args in
+    brief (c .typecheck-restricted-expr .result) (conforms-short (args .schema .now) (args .t .now) (args .v .now)) (c .typecheck-restricted-expr .ensures)
 
 returns : tie.Need-returns
 returns c =

@@ -16,9 +16,12 @@ all-attributes-checked-requires c κs = search needs
 
 answer-number-requires : tie.Need-answer-number-requires
 answer-number-requires c κs =
-    let start = c .before .before .before .before .before .before .before .before .before .before .before .before in
     let all-attributes-checked = c .before .before .before .before in
-    brief (all-attributes-checked .all-attributes-checked .result) (names-call-short (start .args .schema .now) (start .args .t .now) (length (start .args .out .now)) (length (start .args .work .now))) ((all-attributes-checked .all-attributes-checked .ensures) .answer)
+    let start = all-attributes-checked .before .before .before .before .before .before .before .before in
+    let args = start .args in
+    let all-attributes-checked-2 = all-attributes-checked .all-attributes-checked in
+    let by-names-call-short = names-call-short (args .schema .now) (args .t .now) (length (args .out .now)) (length (args .work .now)) in
+    brief (all-attributes-checked-2 .result) by-names-call-short (all-attributes-checked-2 .ensures .answer)
 
 same-length : tie.Need-same-length
 same-length c = search needs

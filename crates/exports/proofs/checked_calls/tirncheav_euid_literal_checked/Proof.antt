@@ -16,9 +16,12 @@ euid-literal-checked-requires c κs = search needs
 
 answer-number-requires : tie.Need-answer-number-requires
 answer-number-requires c κs =
-    let start = c .before .before .before .before .before .before .before .before in
     let euid-literal-checked = c .before .before in
-    brief (euid-literal-checked .euid-literal-checked .result) (literal-short (start .args .schema .now) (start .args .v .now) (length (start .args .out .now))) ((euid-literal-checked .euid-literal-checked .ensures) .answer)
+    let start = euid-literal-checked .before .before .before .before .before .before in
+    let args = start .args in
+    let euid-literal-checked-2 = euid-literal-checked .euid-literal-checked in
+    brief (euid-literal-checked-2 .result) (literal-short (args .schema .now) (args .v .now) (length (args .out .now)))
+    (euid-literal-checked-2 .ensures .answer)
 
 same-length : tie.Need-same-length
 same-length c = search needs

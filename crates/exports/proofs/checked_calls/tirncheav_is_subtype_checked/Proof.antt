@@ -15,7 +15,8 @@ is-subtype-checked-requires c κs = search needs
 answer-number-requires : tie.Need-answer-number-requires
 answer-number-requires c κs =
     let start = c .before .before .before .before .before in
-    brief (c .is-subtype-checked .result) (subtype-short (start .args .schema .now) (start .args .mode) (start .args .t0 .now) (start .args .t1 .now)) (c .is-subtype-checked .ensures)
+    let args = start .args in
+    brief (c .is-subtype-checked .result) (subtype-short (args .schema .now) (args .mode) (args .t0 .now) (args .t1 .now)) (c .is-subtype-checked .ensures)
 
 returns : tie.Need-returns
 returns c =

@@ -16,9 +16,12 @@ least-upper-bound-checked-requires c κs = search needs
 
 answer-number-requires : tie.Need-answer-number-requires
 answer-number-requires c κs =
-    let start = c .before .before .before .before .before .before .before .before .before in
     let least-upper-bound-checked = c .before .before in
-    brief (least-upper-bound-checked .least-upper-bound-checked .result) (bound-short (start .args .schema .now) (start .args .mode) (start .args .t0 .now) (start .args .t1 .now) (length (start .args .out .now))) ((least-upper-bound-checked .least-upper-bound-checked .ensures) .answer)
+    let start = least-upper-bound-checked .before .before .before .before .before .before .before in
+    let args = start .args in
+    let least-upper-bound-checked-2 = least-upper-bound-checked .least-upper-bound-checked in
+    let by-bound-short = bound-short (args .schema .now) (args .mode) (args .t0 .now) (args .t1 .now) (length (args .out .now)) in
+    brief (least-upper-bound-checked-2 .result) by-bound-short (least-upper-bound-checked-2 .ensures .answer)
 
 same-length : tie.Need-same-length
 same-length c = search needs

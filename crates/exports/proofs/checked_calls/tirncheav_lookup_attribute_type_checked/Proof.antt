@@ -16,9 +16,12 @@ lookup-attribute-type-checked-requires c κs = search needs
 
 answer-number-requires : tie.Need-answer-number-requires
 answer-number-requires c κs =
-    let start = c .before .before .before .before .before .before .before .before .before .before .before .before in
     let lookup-attribute-type-checked = c .before .before .before .before in
-    brief (lookup-attribute-type-checked .lookup-attribute-type-checked .result) (lookup-short (start .args .schema .now) (start .args .attr) (start .args .t .now) (length (start .args .out .now)) (length (start .args .work .now))) ((lookup-attribute-type-checked .lookup-attribute-type-checked .ensures) .answer)
+    let start = lookup-attribute-type-checked .before .before .before .before .before .before .before .before in
+    let args = start .args in
+    let lookup-attribute-type-checked-2 = lookup-attribute-type-checked .lookup-attribute-type-checked in
+    let by-lookup-short = lookup-short (args .schema .now) (args .attr) (args .t .now) (length (args .out .now)) (length (args .work .now)) in
+    brief (lookup-attribute-type-checked-2 .result) by-lookup-short (lookup-attribute-type-checked-2 .ensures .answer)
 
 same-length : tie.Need-same-length
 same-length c = search needs

@@ -17,7 +17,8 @@ may-have-attr-checked-requires c κs = search needs
 answer-number-requires : tie.Need-answer-number-requires
 answer-number-requires c κs =
     let start = c .before .before .before .before in
-    brief (c .may-have-attr-checked .result) (may-have-short (start .args .schema .now) (start .args .attr) (start .args .t .now)) (c .may-have-attr-checked .ensures)
+    let args = start .args in
+    brief (c .may-have-attr-checked .result) (may-have-short (args .schema .now) (args .attr) (args .t .now)) (c .may-have-attr-checked .ensures)
 
 returns : tie.Need-returns
 returns c =

@@ -17,9 +17,11 @@ own-attribute-part-checked-requires c κs = search needs
 
 part-number-requires : tie.Need-part-number-requires
 part-number-requires c κs =
-    let start = c .before .before .before .before in
     let known = c .before .before in
-    narrow (start .args .schema .now) (start .args .attr) (start .args .t) (λ i. omega (arith, known .shared-slice-known2 .given i)) (c .own-attribute-part-checked .result) (c .own-attribute-part-checked .ensures)
+    let start = known .before .before in
+    let args = start .args in
+    narrow (args .schema .now) (args .attr) (args .t) (λ i. omega (arith, known .shared-slice-known2 .given i)) (c .own-attribute-part-checked .result)
+    (c .own-attribute-part-checked .ensures)
 
 returns : tie.Need-returns
 returns c =

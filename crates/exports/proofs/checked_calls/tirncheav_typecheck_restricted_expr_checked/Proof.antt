@@ -17,7 +17,9 @@ typecheck-restricted-expr-checked-requires c κs = search needs
 answer-number-requires : tie.Need-answer-number-requires
 answer-number-requires c κs =
     let start = c .before .before .before .before .before in
-    brief (c .typecheck-restricted-expr-checked .result) (conforms-short (start .args .schema .now) (start .args .t .now) (start .args .v .now)) (c .typecheck-restricted-expr-checked .ensures)
+    let args = start .args in
+    brief (c .typecheck-restricted-expr-checked .result) (conforms-short (args .schema .now) (args .t .now) (args .v .now))
+    (c .typecheck-restricted-expr-checked .ensures)
 
 returns : tie.Need-returns
 returns c =

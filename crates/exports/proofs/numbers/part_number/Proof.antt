@@ -25,27 +25,31 @@ enum-known-p-2 c = search needs
 
 mul-place : tie.Need-mul-place
 mul-place c =
-    let start = c .before .before .before in
     let p2 = c .before in
-    omega (arith, at-narrow (start .args .p) (p2 .p2 .given .0 .0) (p2 .p2 .given .0 .1 .0) (p2 .p2 .given .0 .1 .1 .0) (start .pre) (p2 .p2 .given .1) .0, at-narrow (start .args .p) (p2 .p2 .given .0 .0) (p2 .p2 .given .0 .1 .0) (p2 .p2 .given .0 .1 .1 .0) (start .pre) (p2 .p2 .given .1) .1)
+    let start = p2 .before .before in
+    let by-at-narrow = at-narrow (start .args .p) (p2 .p2 .given .0 .0) (p2 .p2 .given .0 .1 .0) (p2 .p2 .given .0 .1 .1 .0) (start .pre) (p2 .p2 .given .1) in
+    omega (arith, by-at-narrow .0, by-at-narrow .1)
 
 add-place : tie.Need-add-place
 add-place c =
-    let start = c .before .before .before in
     let p2 = c .before in
-    omega (arith, at-narrow (start .args .p) (p2 .p2 .given .0 .0) (p2 .p2 .given .0 .1 .0) (p2 .p2 .given .0 .1 .1 .0) (start .pre) (p2 .p2 .given .1) .0, at-narrow (start .args .p) (p2 .p2 .given .0 .0) (p2 .p2 .given .0 .1 .0) (p2 .p2 .given .0 .1 .1 .0) (start .pre) (p2 .p2 .given .1) .1)
+    let start = p2 .before .before in
+    let by-at-narrow = at-narrow (start .args .p) (p2 .p2 .given .0 .0) (p2 .p2 .given .0 .1 .0) (p2 .p2 .given .0 .1 .1 .0) (start .pre) (p2 .p2 .given .1) in
+    omega (arith, by-at-narrow .0, by-at-narrow .1)
 
 mul-result-2 : tie.Need-mul-result-2
 mul-result-2 c =
-    let start = c .before .before .before .before in
     let p2 = c .before .before in
-    omega (arith, at-narrow (start .args .p) (p2 .p2 .given .0 .0) (p2 .p2 .given .0 .1 .0) (p2 .p2 .given .0 .1 .1 .0) (start .pre) (p2 .p2 .given .1) .0, at-narrow (start .args .p) (p2 .p2 .given .0 .0) (p2 .p2 .given .0 .1 .0) (p2 .p2 .given .0 .1 .1 .0) (start .pre) (p2 .p2 .given .1) .1)
+    let start = p2 .before .before in
+    let by-at-narrow = at-narrow (start .args .p) (p2 .p2 .given .0 .0) (p2 .p2 .given .0 .1 .0) (p2 .p2 .given .0 .1 .1 .0) (start .pre) (p2 .p2 .given .1) in
+    omega (arith, by-at-narrow .0, by-at-narrow .1)
 
 add-result-2 : tie.Need-add-result-2
 add-result-2 c =
-    let start = c .before .before .before .before in
     let p2 = c .before .before in
-    omega (arith, at-narrow (start .args .p) (p2 .p2 .given .0 .0) (p2 .p2 .given .0 .1 .0) (p2 .p2 .given .0 .1 .1 .0) (start .pre) (p2 .p2 .given .1) .0, at-narrow (start .args .p) (p2 .p2 .given .0 .0) (p2 .p2 .given .0 .1 .0) (p2 .p2 .given .0 .1 .1 .0) (start .pre) (p2 .p2 .given .1) .1)
+    let start = p2 .before .before in
+    let by-at-narrow = at-narrow (start .args .p) (p2 .p2 .given .0 .0) (p2 .p2 .given .0 .1 .0) (p2 .p2 .given .0 .1 .1 .0) (start .pre) (p2 .p2 .given .1) in
+    omega (arith, by-at-narrow .0, by-at-narrow .1)
 
 returns : tie.Need-returns
 returns c =
@@ -55,15 +59,17 @@ returns c =
 
 mul-result-3 : tie.Need-mul-result-3
 mul-result-3 c =
-    let start = c .before .before .before .before in
     let p2 = c .before .before in
-    omega (arith, at-narrow (start .args .p) (p2 .p2 .given .0 .0) (p2 .p2 .given .0 .1 .0) (p2 .p2 .given .0 .1 .1 .0) (start .pre) (p2 .p2 .given .1) .0, at-narrow (start .args .p) (p2 .p2 .given .0 .0) (p2 .p2 .given .0 .1 .0) (p2 .p2 .given .0 .1 .1 .0) (start .pre) (p2 .p2 .given .1) .1)
+    let start = p2 .before .before in
+    let by-at-narrow = at-narrow (start .args .p) (p2 .p2 .given .0 .0) (p2 .p2 .given .0 .1 .0) (p2 .p2 .given .0 .1 .1 .0) (start .pre) (p2 .p2 .given .1) in
+    omega (arith, by-at-narrow .0, by-at-narrow .1)
 
 add-result-3 : tie.Need-add-result-3
 add-result-3 c =
-    let start = c .before .before .before .before in
     let p2 = c .before .before in
-    omega (arith, at-narrow (start .args .p) (p2 .p2 .given .0 .0) (p2 .p2 .given .0 .1 .0) (p2 .p2 .given .0 .1 .1 .0) (start .pre) (p2 .p2 .given .1) .0, at-narrow (start .args .p) (p2 .p2 .given .0 .0) (p2 .p2 .given .0 .1 .0) (p2 .p2 .given .0 .1 .1 .0) (start .pre) (p2 .p2 .given .1) .1)
+    let start = p2 .before .before in
+    let by-at-narrow = at-narrow (start .args .p) (p2 .p2 .given .0 .0) (p2 .p2 .given .0 .1 .0) (p2 .p2 .given .0 .1 .1 .0) (start .pre) (p2 .p2 .given .1) in
+    omega (arith, by-at-narrow .0, by-at-narrow .1)
 
 returns-2 : tie.Need-returns-2
 returns-2 c =

@@ -17,13 +17,21 @@ loop-holds : tie.Need-loop-holds Inv-loop μ-loop
 loop-holds c = record { same = refl }
 
 returns : tie.Need-returns Inv-loop μ-loop
-returns c = args-short ((c .before .before) .loop .inv) ((c .before) .loop-test .taken) (c .if1 .taken)
+returns c =
+    let at-loop = c .before .before in
+    args-short (at-loop .loop .inv) (c .before .loop-test .taken) (c .if1 .taken)
 
 argument-within-requires : tie.Need-argument-within-requires Inv-loop μ-loop
 argument-within-requires c κs = search needs
 
 returns-2 : tie.Need-returns-2 Inv-loop μ-loop
-returns-2 c = args-not ((c .before .before .before .before) .loop .inv) ((c .before .before .before) .loop-test .taken) ((c .before .before) .if1 .left) ((c .before) .argument-within .result) ((c .before) .argument-within .ensures) (c .if2 .taken)
+returns-2 c =
+    let after-argument-within = c .before in
+    let else1 = after-argument-within .before in
+    let in-loop = else1 .before in
+    let at-loop = in-loop .before in
+    args-not (at-loop .loop .inv) (in-loop .loop-test .taken) (else1 .if1 .left) (after-argument-within .argument-within .result)
+    (after-argument-within .argument-within .ensures) (c .if2 .taken)
 
 sub-a : tie.Need-sub-a Inv-loop μ-loop
 sub-a c = search needs
@@ -35,10 +43,18 @@ part-a-end : tie.Need-part-a-end Inv-loop μ-loop
 part-a-end c = search needs
 
 loop-less : tie.Need-loop-less Inv-loop μ-loop
-loop-less c = omega (arith, length-rest 3 ((c .before .before .before .before .before) .loop .a .now))
+loop-less c =
+    let at-loop = c .before .before .before .before .before in
+    omega (arith, length-rest 3 (at-loop .loop .a .now))
 
 loop-again : tie.Need-loop-again Inv-loop μ-loop
-loop-again c = args-again ((c .before .before .before .before .before) .loop .inv) ((c .before .before .before .before) .loop-test .taken) ((c .before .before .before) .if1 .left) ((c .before .before) .argument-within .result) ((c .before .before) .argument-within .ensures) ((c .before) .if2 .left)
+loop-again c =
+    let after-argument-within = c .before .before in
+    let else1 = after-argument-within .before in
+    let in-loop = else1 .before in
+    let at-loop = in-loop .before in
+    args-again (at-loop .loop .inv) (in-loop .loop-test .taken) (else1 .if1 .left) (after-argument-within .argument-within .result)
+    (after-argument-within .argument-within .ensures) (c .before .if2 .left)
 
 returns-3 : tie.Need-returns-3 Inv-loop μ-loop
 returns-3 c = args-end ((c .before) .loop .inv) (c .loop-test .left)

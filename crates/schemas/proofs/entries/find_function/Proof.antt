@@ -15,25 +15,63 @@ enum-told : tie.Need-enum-told
 enum-told c = search needs
 
 returns : tie.Need-returns
-returns c = signature-not ((c .before .before .before .before) .args .s .now) ((c .before .before) .find-entry .result) _ ((c .before .before) .find-entry .ensures) (c .enum-told .given .1)
+returns c =
+    let after-find-entry = c .before .before in
+    let start = after-find-entry .before .before in
+    signature-not (start .args .s .now) (after-find-entry .find-entry .result) _ (after-find-entry .find-entry .ensures) (c .enum-told .given .1)
 
 sub-e : tie.Need-sub-e
-sub-e c = omega (arith, function-room ((c .before .before .before .before .before) .pre) ((c .before .before .before .before .before) .args .name) ((c .before .before .before) .find-entry .result) ((c .before .before .before) .find-entry .ensures) ((c .before) .i .given .0 .0) ((c .before) .i .given .0 .1 .0) ((c .before) .i .given .0 .1 .1 .0) ((c .before) .i .given .1))
+sub-e c =
+    let after-i = c .before in
+    let after-find-entry = after-i .before .before in
+    let start = after-find-entry .before .before in
+    let by-function-room = function-room (start .pre) (start .args .name) (after-find-entry .find-entry .result) (after-find-entry .find-entry .ensures)
+    (after-i .i .given .0 .0) (after-i .i .given .0 .1 .0) (after-i .i .given .0 .1 .1 .0) (after-i .i .given .1) in
+    omega (arith, by-function-room)
 
 part-e-start : tie.Need-part-e-start
-part-e-start c = omega (arith, function-room ((c .before .before .before .before .before) .pre) ((c .before .before .before .before .before) .args .name) ((c .before .before .before) .find-entry .result) ((c .before .before .before) .find-entry .ensures) ((c .before) .i .given .0 .0) ((c .before) .i .given .0 .1 .0) ((c .before) .i .given .0 .1 .1 .0) ((c .before) .i .given .1))
+part-e-start c =
+    let after-i = c .before in
+    let after-find-entry = after-i .before .before in
+    let start = after-find-entry .before .before in
+    let by-function-room = function-room (start .pre) (start .args .name) (after-find-entry .find-entry .result) (after-find-entry .find-entry .ensures)
+    (after-i .i .given .0 .0) (after-i .i .given .0 .1 .0) (after-i .i .given .0 .1 .1 .0) (after-i .i .given .1) in
+    omega (arith, by-function-room)
 
 part-e-end : tie.Need-part-e-end
-part-e-end c = omega (arith, function-room ((c .before .before .before .before .before) .pre) ((c .before .before .before .before .before) .args .name) ((c .before .before .before) .find-entry .result) ((c .before .before .before) .find-entry .ensures) ((c .before) .i .given .0 .0) ((c .before) .i .given .0 .1 .0) ((c .before) .i .given .0 .1 .1 .0) ((c .before) .i .given .1))
+part-e-end c =
+    let after-i = c .before in
+    let after-find-entry = after-i .before .before in
+    let start = after-find-entry .before .before in
+    let by-function-room = function-room (start .pre) (start .args .name) (after-find-entry .find-entry .result) (after-find-entry .find-entry .ensures)
+    (after-i .i .given .0 .0) (after-i .i .given .0 .1 .0) (after-i .i .given .0 .1 .1 .0) (after-i .i .given .1) in
+    omega (arith, by-function-room)
 
-shared-slice-read-t14 : tie.Need-shared-slice-read-t14
-shared-slice-read-t14 c = omega (arith, function-room ((c .before .before .before .before .before .before .before) .pre) ((c .before .before .before .before .before .before .before) .args .name) ((c .before .before .before .before .before) .find-entry .result) ((c .before .before .before .before .before) .find-entry .ensures) ((c .before .before .before) .i .given .0 .0) ((c .before .before .before) .i .given .0 .1 .0) ((c .before .before .before) .i .given .0 .1 .1 .0) ((c .before .before .before) .i .given .1), length-rest ((c .before .before .before) .i .given .0 .0) ((c .before .before .before .before .before .before .before) .args .s .now))
+shared-slice-read-t15 : tie.Need-shared-slice-read-t15
+shared-slice-read-t15 c =
+    let after-i = c .before .before .before in
+    let after-find-entry = after-i .before .before in
+    let start = after-find-entry .before .before in
+    let by-function-room = function-room (start .pre) (start .args .name) (after-find-entry .find-entry .result) (after-find-entry .find-entry .ensures)
+    (after-i .i .given .0 .0) (after-i .i .given .0 .1 .0) (after-i .i .given .0 .1 .1 .0) (after-i .i .given .1) in
+    omega (arith, by-function-room, length-rest (after-i .i .given .0 .0) (start .args .s .now))
 
 u16-at-requires : tie.Need-u16-at-requires
-u16-at-requires c κs = omega (arith, function-room ((c .before .before .before .before .before .before .before) .pre) ((c .before .before .before .before .before .before .before) .args .name) ((c .before .before .before .before .before) .find-entry .result) ((c .before .before .before .before .before) .find-entry .ensures) ((c .before .before .before) .i .given .0 .0) ((c .before .before .before) .i .given .0 .1 .0) ((c .before .before .before) .i .given .0 .1 .1 .0) ((c .before .before .before) .i .given .1), length-rest ((c .before .before .before) .i .given .0 .0) ((c .before .before .before .before .before .before .before) .args .s .now))
+u16-at-requires c κs =
+    let after-i = c .before .before .before in
+    let after-find-entry = after-i .before .before in
+    let start = after-find-entry .before .before in
+    let by-function-room = function-room (start .pre) (start .args .name) (after-find-entry .find-entry .result) (after-find-entry .find-entry .ensures)
+    (after-i .i .given .0 .0) (after-i .i .given .0 .1 .0) (after-i .i .given .0 .1 .1 .0) (after-i .i .given .1) in
+    omega (arith, by-function-room, length-rest (after-i .i .given .0 .0) (start .args .s .now))
 
 returns-2 : tie.Need-returns-2
-returns-2 c = signature-at ((c .before .before .before .before .before .before .before .before) .args .s .now) ((c .before .before .before .before .before .before) .find-entry .result) _ ((c .before .before .before .before .before .before) .find-entry .ensures) ((c .before .before .before .before) .i .given .0 .0) ((c .before .before .before .before) .i .given .0 .1 .0) ((c .before .before .before .before) .i .given .0 .1 .1 .0) ((c .before .before .before .before) .i .given .1) (c .u16-at .result) (c .u16-at .ensures .0)
+returns-2 c =
+    let after-i = c .before .before .before .before in
+    let after-find-entry = after-i .before .before in
+    let start = after-find-entry .before .before in
+    signature-at (start .args .s .now) (after-find-entry .find-entry .result) _ (after-find-entry .find-entry .ensures) (after-i .i .given .0 .0)
+    (after-i .i .given .0 .1 .0) (after-i .i .given .0 .1 .1 .0) (after-i .i .given .1) (c .u16-at .result) (c .u16-at .ensures .0)
 
 pub find-function-spec : {M : Type 1} → statement M
 find-function-spec =
@@ -46,6 +84,6 @@ find-function-spec =
     sub-e
     part-e-start
     part-e-end
-    shared-slice-read-t14
+    shared-slice-read-t15
     u16-at-requires
     returns-2)

@@ -1,96 +1,138 @@
-use borrow.Author.Tests.{not-false}
-use mathlib.Core.Path.{sym, _∙_}
-use native.Mathlib.Omega.{arith}
-use Rattle.schemas.specs.Laws.Checks.{check-over, check-head, head, counted, first-is, entities-inside, entities-broken, one, second-is, actions-inside, actions-broken, two, functions-inside, functions-broken, end-over, end-whole}
 use borrow.Author.Needs.{needs}
+use borrow.Author.Tests.{not-false}
+use mathlib.Core.List.{List, [], _∷_}
+use mathlib.Core.Bool.{true}
+use mathlib.Core.Path.{_≡_, sym, _∙_}
+use Prim.Native.Nat.{ℕ}
+use Rattle.schemas.specs.SchemaBytes.{headFits}
+use Rattle.schemas.specs.Laws.Checks.{Ahead, Past, check-over, check-head, head, ahead, ahead-inside, ahead-broken, past, ahead-over, ahead-whole}
+use Rattle.schemas.specs.declared.kinds.SectionKind.the-variants.{Entities, Actions, Functions}
 use Rattle.schemas.proofs.whole.check_schema.Statement.{statement}
 use Rattle.schemas.proofs.whole.check_schema.Tie as tie
 
+-- Where a section that ended was entered; the bytes, where the entries end.
+abbrev entered₀ : tie.After-known-told → tie.After-section-at
+entered₀ c =
+    let place-4 = c .before .before .before .before in
+    place-4
+
+abbrev entered₁ : tie.After-known-told2 → tie.After-section-at2
+entered₁ c =
+    let place-4 = c .before .before .before .before in
+    place-4
+
+abbrev entered₂ : tie.After-known-told3 → tie.After-section-at3
+entered₂ c =
+    let place-4 = c .before .before .before .before in
+    place-4
+
+abbrev bytes : tie.After-entries-end → List ℕ
+bytes c =
+    let start = c .before .before .before .before .before in
+    start .args .s .now
+
+abbrev bytes₁ : tie.After-known-told → List ℕ
+bytes₁ c = bytes (entered₀ c .before)
+
+abbrev bytes₂ : tie.After-known-told2 → List ℕ
+bytes₂ c = bytes₁ (entered₁ c .before)
+
+abbrev bytes₃ : tie.After-known-told3 → List ℕ
+bytes₃ c = bytes₂ (entered₂ c .before)
+
+-- What is known after the counts, and after each section.
+counted : (c : tie.Else2) → headFits (c .before .before .before .before .args .s .now) ≡ true
+counted c = let counts = c .before in sym (counts .counts-within .ensures) ∙ not-false (counts .counts-within .result) (c .if2 .left)
+
+all : (c : tie.After-entries-end) → Ahead (bytes c) (Entities ∷ Actions ∷ Functions ∷ []) (c .entries-end .result)
+all c = ahead (bytes c) (counted (c .before)) (c .entries-end .result) (c .entries-end .ensures)
+
+one : (c : tie.After-known-told) →
+    Past (bytes₁ c) Entities (Actions ∷ Functions ∷ []) (entered₀ c .before .entries-end .result) (c .before .second .given .0 .0)
+one c =
+    let after-second = c .before in
+    let after-section-within = after-second .before .before in
+    let x = entered₀ c .section-at in
+    let w = after-section-within .section-within in
+    past (all (entered₀ c .before)) (x .result) (x .ensures) (w .result) (w .ensures) (after-second .second .given .0 .0) (after-second .second .given .1)
+
+two : (c : tie.After-known-told2) → Past (bytes₂ c) Actions (Functions ∷ []) (entered₁ c .before .before .second .given .0 .0) (c .before .third .given .0 .0)
+two c =
+    let after-third = c .before in
+    let after-section-within2 = after-third .before .before in
+    let x = entered₁ c .section-at2 in
+    let w = after-section-within2 .section-within2 in
+    past (one (entered₁ c .before) .ahead) (x .result) (x .ensures) (w .result) (w .ensures) (after-third .third .given .0 .0) (after-third .third .given .1)
+
+three : (c : tie.After-known-told3) → Past (bytes₃ c) Functions [] (entered₂ c .before .before .third .given .0 .0) (c .before .end .given .0 .0)
+three c =
+    let after-end = c .before in
+    let after-section-within3 = after-end .before .before in
+    let x = entered₂ c .section-at3 in
+    let w = after-section-within3 .section-within3 in
+    past (two (entered₂ c .before) .ahead) (x .result) (x .ensures) (w .result) (w .ensures) (after-end .end .given .0 .0) (after-end .end .given .1)
+
 returns : tie.Need-returns
-returns c = check-over ((c .before .before) .args .s .now) (c .if1 .taken)
+returns c =
+    let start = c .before .before in
+    check-over (start .args .s .now) (c .if1 .taken)
 
 counts-within-requires : tie.Need-counts-within-requires
 counts-within-requires c κs = search needs
 
 returns-2 : tie.Need-returns-2
-returns-2 c = check-head ((c .before .before .before .before) .args .s .now) ((c .before) .counts-within .result) ((c .before) .counts-within .ensures) (c .if2 .taken)
+returns-2 c =
+    let counts = c .before in
+    check-head (counts .before .before .before .args .s .now) (counts .counts-within .result) (counts .counts-within .ensures) (c .if2 .taken)
 
-u16-at-requires : tie.Need-u16-at-requires
-u16-at-requires c κs = omega (arith, head ((c .before .before .before .before) .args .s .now) (sym ((c .before) .counts-within .ensures) ∙ not-false ((c .before) .counts-within .result) (c .if2 .left)) .some)
+entries-end-requires : tie.Need-entries-end-requires
+entries-end-requires c κs =
+    let start = c .before .before .before .before in
+    head (start .args .s .now) (counted c) .some
 
-u16-at-requires-2 : tie.Need-u16-at-requires-2
-u16-at-requires-2 c κs = omega (arith, head ((c .before .before .before .before .before) .args .s .now) (sym ((c .before .before) .counts-within .ensures) ∙ not-false ((c .before .before) .counts-within .result) ((c .before) .if2 .left)) .some)
+section-at-requires : tie.Need-section-at-requires
+section-at-requires c κs = all c .counts .some
 
-u16-at-requires-3 : tie.Need-u16-at-requires-3
-u16-at-requires-3 c κs = omega (arith, head ((c .before .before .before .before .before .before) .args .s .now) (sym ((c .before .before .before) .counts-within .ensures) ∙ not-false ((c .before .before .before) .counts-within .result) ((c .before .before) .if2 .left)) .some)
+section-within-requires : tie.Need-section-within-requires
+section-within-requires c κs = ahead-inside (all (c .before)) (c .section-at .result) (c .section-at .ensures)
 
-mul-second : tie.Need-mul-second
-mul-second c = search needs
-
-add-second : tie.Need-add-second
-add-second c = search needs
-
-mul-third : tie.Need-mul-third
-mul-third c = search needs
-
-add-third : tie.Need-add-third
-add-third c = search needs
-
-mul-new : tie.Need-mul-new
-mul-new c = search needs
-
-add-new : tie.Need-add-new
-add-new c = search needs
-
-new-requires : tie.Need-new-requires
-new-requires c κs = search needs
-
-entities-within-requires : tie.Need-entities-within-requires
-entities-within-requires c κs =
-    let k = counted ((c .before .before .before .before .before .before .before .before) .args .s .now) ((c .before .before .before) .u16-at .result) ((c .before .before) .u16-at2 .result) ((c .before) .u16-at3 .result) ((c .before .before .before) .u16-at .ensures .0) ((c .before .before) .u16-at2 .ensures .0) ((c .before) .u16-at3 .ensures .0) ((c .before .before .before .before .before) .counts-within .result) ((c .before .before .before .before .before) .counts-within .ensures) ((c .before .before .before .before) .if2 .left) in
-    entities-inside k (c .new .result) (c .new .ensures)
-
-enum-known-p : tie.Need-enum-known-p
-enum-known-p c = search needs
+enum-known-second : tie.Need-enum-known-second
+enum-known-second c = search needs
 
 enum-told : tie.Need-enum-told
 enum-told c = search needs
 
 returns-3 : tie.Need-returns-3
 returns-3 c =
-    let k = counted ((c .before .before .before .before .before .before .before .before .before .before .before) .args .s .now) ((c .before .before .before .before .before .before) .u16-at .result) ((c .before .before .before .before .before) .u16-at2 .result) ((c .before .before .before .before) .u16-at3 .result) ((c .before .before .before .before .before .before) .u16-at .ensures .0) ((c .before .before .before .before .before) .u16-at2 .ensures .0) ((c .before .before .before .before) .u16-at3 .ensures .0) ((c .before .before .before .before .before .before .before .before) .counts-within .result) ((c .before .before .before .before .before .before .before .before) .counts-within .ensures) ((c .before .before .before .before .before .before .before) .if2 .left) in
-    entities-broken k ((c .before .before .before) .new .result) ((c .before .before .before) .new .ensures) ((c .before .before) .entities-within .result) ((c .before .before) .entities-within .ensures) (c .enum-told .given .1)
+    let within = c .before .before in
+    let at = within .before in
+    let w = within .section-within in
+    ahead-broken (all (at .before)) (at .section-at .result) (at .section-at .ensures) (w .result) (w .ensures) (c .enum-told .given .1)
 
-new-requires-2 : tie.Need-new-requires-2
-new-requires-2 c κs = search needs
+section-at-requires-2 : tie.Need-section-at-requires-2
+section-at-requires-2 c κs = one c .ahead .counts .some
 
-actions-within-requires : tie.Need-actions-within-requires
-actions-within-requires c κs =
-    let k = counted ((c .before .before .before .before .before .before .before .before .before .before .before .before .before) .args .s .now) ((c .before .before .before .before .before .before .before .before) .u16-at .result) ((c .before .before .before .before .before .before .before) .u16-at2 .result) ((c .before .before .before .before .before .before) .u16-at3 .result) ((c .before .before .before .before .before .before .before .before) .u16-at .ensures .0) ((c .before .before .before .before .before .before .before) .u16-at2 .ensures .0) ((c .before .before .before .before .before .before) .u16-at3 .ensures .0) ((c .before .before .before .before .before .before .before .before .before .before) .counts-within .result) ((c .before .before .before .before .before .before .before .before .before .before) .counts-within .ensures) ((c .before .before .before .before .before .before .before .before .before) .if2 .left) in
-    let o = one k ((c .before .before .before .before .before) .new .result) ((c .before .before .before .before .before) .new .ensures) ((c .before .before .before .before) .entities-within .result) ((c .before .before .before .before) .entities-within .ensures) ((c .before .before) .p .given .0 .0) ((c .before .before) .p .given .1) in
-    actions-inside o (c .new2 .result) (c .new2 .ensures)
+section-within-requires-2 : tie.Need-section-within-requires-2
+section-within-requires-2 c κs = ahead-inside (one (c .before) .ahead) (c .section-at2 .result) (c .section-at2 .ensures)
 
-enum-known-q : tie.Need-enum-known-q
-enum-known-q c = search needs
+enum-known-third : tie.Need-enum-known-third
+enum-known-third c = search needs
 
 enum-told-2 : tie.Need-enum-told-2
 enum-told-2 c = search needs
 
 returns-4 : tie.Need-returns-4
 returns-4 c =
-    let k = counted ((c .before .before .before .before .before .before .before .before .before .before .before .before .before .before .before .before) .args .s .now) ((c .before .before .before .before .before .before .before .before .before .before .before) .u16-at .result) ((c .before .before .before .before .before .before .before .before .before .before) .u16-at2 .result) ((c .before .before .before .before .before .before .before .before .before) .u16-at3 .result) ((c .before .before .before .before .before .before .before .before .before .before .before) .u16-at .ensures .0) ((c .before .before .before .before .before .before .before .before .before .before) .u16-at2 .ensures .0) ((c .before .before .before .before .before .before .before .before .before) .u16-at3 .ensures .0) ((c .before .before .before .before .before .before .before .before .before .before .before .before .before) .counts-within .result) ((c .before .before .before .before .before .before .before .before .before .before .before .before .before) .counts-within .ensures) ((c .before .before .before .before .before .before .before .before .before .before .before .before) .if2 .left) in
-    let o = one k ((c .before .before .before .before .before .before .before .before) .new .result) ((c .before .before .before .before .before .before .before .before) .new .ensures) ((c .before .before .before .before .before .before .before) .entities-within .result) ((c .before .before .before .before .before .before .before) .entities-within .ensures) ((c .before .before .before .before .before) .p .given .0 .0) ((c .before .before .before .before .before) .p .given .1) in
-    actions-broken o ((c .before .before .before) .new2 .result) ((c .before .before .before) .new2 .ensures) ((c .before .before) .actions-within .result) ((c .before .before) .actions-within .ensures) (c .enum-told2 .given .1)
+    let within = c .before .before in
+    let at = within .before in
+    let w = within .section-within2 in
+    ahead-broken (one (at .before) .ahead) (at .section-at2 .result) (at .section-at2 .ensures) (w .result) (w .ensures) (c .enum-told2 .given .1)
 
-new-requires-3 : tie.Need-new-requires-3
-new-requires-3 c κs = search needs
+section-at-requires-3 : tie.Need-section-at-requires-3
+section-at-requires-3 c κs = two c .ahead .counts .some
 
-functions-within-requires : tie.Need-functions-within-requires
-functions-within-requires c κs =
-    let k = counted ((c .before .before .before .before .before .before .before .before .before .before .before .before .before .before .before .before .before .before) .args .s .now) ((c .before .before .before .before .before .before .before .before .before .before .before .before .before) .u16-at .result) ((c .before .before .before .before .before .before .before .before .before .before .before .before) .u16-at2 .result) ((c .before .before .before .before .before .before .before .before .before .before .before) .u16-at3 .result) ((c .before .before .before .before .before .before .before .before .before .before .before .before .before) .u16-at .ensures .0) ((c .before .before .before .before .before .before .before .before .before .before .before .before) .u16-at2 .ensures .0) ((c .before .before .before .before .before .before .before .before .before .before .before) .u16-at3 .ensures .0) ((c .before .before .before .before .before .before .before .before .before .before .before .before .before .before .before) .counts-within .result) ((c .before .before .before .before .before .before .before .before .before .before .before .before .before .before .before) .counts-within .ensures) ((c .before .before .before .before .before .before .before .before .before .before .before .before .before .before) .if2 .left) in
-    let o = one k ((c .before .before .before .before .before .before .before .before .before .before) .new .result) ((c .before .before .before .before .before .before .before .before .before .before) .new .ensures) ((c .before .before .before .before .before .before .before .before .before) .entities-within .result) ((c .before .before .before .before .before .before .before .before .before) .entities-within .ensures) ((c .before .before .before .before .before .before .before) .p .given .0 .0) ((c .before .before .before .before .before .before .before) .p .given .1) in
-    let t = two o ((c .before .before .before .before .before) .new2 .result) ((c .before .before .before .before .before) .new2 .ensures) ((c .before .before .before .before) .actions-within .result) ((c .before .before .before .before) .actions-within .ensures) ((c .before .before) .q .given .0 .0) ((c .before .before) .q .given .1) in
-    functions-inside t (c .new3 .result) (c .new3 .ensures)
+section-within-requires-3 : tie.Need-section-within-requires-3
+section-within-requires-3 c κs = ahead-inside (two (c .before) .ahead) (c .section-at3 .result) (c .section-at3 .ensures)
 
 enum-known-end : tie.Need-enum-known-end
 enum-known-end c = search needs
@@ -100,24 +142,25 @@ enum-told-3 c = search needs
 
 returns-5 : tie.Need-returns-5
 returns-5 c =
-    let k = counted ((c .before .before .before .before .before .before .before .before .before .before .before .before .before .before .before .before .before .before .before .before .before) .args .s .now) ((c .before .before .before .before .before .before .before .before .before .before .before .before .before .before .before .before) .u16-at .result) ((c .before .before .before .before .before .before .before .before .before .before .before .before .before .before .before) .u16-at2 .result) ((c .before .before .before .before .before .before .before .before .before .before .before .before .before .before) .u16-at3 .result) ((c .before .before .before .before .before .before .before .before .before .before .before .before .before .before .before .before) .u16-at .ensures .0) ((c .before .before .before .before .before .before .before .before .before .before .before .before .before .before .before) .u16-at2 .ensures .0) ((c .before .before .before .before .before .before .before .before .before .before .before .before .before .before) .u16-at3 .ensures .0) ((c .before .before .before .before .before .before .before .before .before .before .before .before .before .before .before .before .before .before) .counts-within .result) ((c .before .before .before .before .before .before .before .before .before .before .before .before .before .before .before .before .before .before) .counts-within .ensures) ((c .before .before .before .before .before .before .before .before .before .before .before .before .before .before .before .before .before) .if2 .left) in
-    let o = one k ((c .before .before .before .before .before .before .before .before .before .before .before .before .before) .new .result) ((c .before .before .before .before .before .before .before .before .before .before .before .before .before) .new .ensures) ((c .before .before .before .before .before .before .before .before .before .before .before .before) .entities-within .result) ((c .before .before .before .before .before .before .before .before .before .before .before .before) .entities-within .ensures) ((c .before .before .before .before .before .before .before .before .before .before) .p .given .0 .0) ((c .before .before .before .before .before .before .before .before .before .before) .p .given .1) in
-    let t = two o ((c .before .before .before .before .before .before .before .before) .new2 .result) ((c .before .before .before .before .before .before .before .before) .new2 .ensures) ((c .before .before .before .before .before .before .before) .actions-within .result) ((c .before .before .before .before .before .before .before) .actions-within .ensures) ((c .before .before .before .before .before) .q .given .0 .0) ((c .before .before .before .before .before) .q .given .1) in
-    functions-broken t ((c .before .before .before) .new3 .result) ((c .before .before .before) .new3 .ensures) ((c .before .before) .functions-within .result) ((c .before .before) .functions-within .ensures) (c .enum-told3 .given .1)
+    let within = c .before .before in
+    let at = within .before in
+    let w = within .section-within3 in
+    ahead-broken (two (at .before) .ahead) (at .section-at3 .result) (at .section-at3 .ensures) (w .result) (w .ensures) (c .enum-told3 .given .1)
 
 returns-6 : tie.Need-returns-6
-returns-6 c =
-    let k = counted ((c .before .before .before .before .before .before .before .before .before .before .before .before .before .before .before .before .before .before .before .before .before .before .before) .args .s .now) ((c .before .before .before .before .before .before .before .before .before .before .before .before .before .before .before .before .before .before) .u16-at .result) ((c .before .before .before .before .before .before .before .before .before .before .before .before .before .before .before .before .before) .u16-at2 .result) ((c .before .before .before .before .before .before .before .before .before .before .before .before .before .before .before .before) .u16-at3 .result) ((c .before .before .before .before .before .before .before .before .before .before .before .before .before .before .before .before .before .before) .u16-at .ensures .0) ((c .before .before .before .before .before .before .before .before .before .before .before .before .before .before .before .before .before) .u16-at2 .ensures .0) ((c .before .before .before .before .before .before .before .before .before .before .before .before .before .before .before .before) .u16-at3 .ensures .0) ((c .before .before .before .before .before .before .before .before .before .before .before .before .before .before .before .before .before .before .before .before) .counts-within .result) ((c .before .before .before .before .before .before .before .before .before .before .before .before .before .before .before .before .before .before .before .before) .counts-within .ensures) ((c .before .before .before .before .before .before .before .before .before .before .before .before .before .before .before .before .before .before .before) .if2 .left) in
-    let o = one k ((c .before .before .before .before .before .before .before .before .before .before .before .before .before .before .before) .new .result) ((c .before .before .before .before .before .before .before .before .before .before .before .before .before .before .before) .new .ensures) ((c .before .before .before .before .before .before .before .before .before .before .before .before .before .before) .entities-within .result) ((c .before .before .before .before .before .before .before .before .before .before .before .before .before .before) .entities-within .ensures) ((c .before .before .before .before .before .before .before .before .before .before .before .before) .p .given .0 .0) ((c .before .before .before .before .before .before .before .before .before .before .before .before) .p .given .1) in
-    let t = two o ((c .before .before .before .before .before .before .before .before .before .before) .new2 .result) ((c .before .before .before .before .before .before .before .before .before .before) .new2 .ensures) ((c .before .before .before .before .before .before .before .before .before) .actions-within .result) ((c .before .before .before .before .before .before .before .before .before) .actions-within .ensures) ((c .before .before .before .before .before .before .before) .q .given .0 .0) ((c .before .before .before .before .before .before .before) .q .given .1) in
-    end-over t ((c .before .before .before .before .before) .new3 .result) ((c .before .before .before .before .before) .new3 .ensures) ((c .before .before .before .before) .functions-within .result) ((c .before .before .before .before) .functions-within .ensures) ((c .before .before) .end .given .0 .0) ((c .before .before) .end .given .1) (c .if3 .taken)
+returns-6 c = ahead-over (three (c .before) .ahead) (c .if3 .taken)
 
 returns-7 : tie.Need-returns-7
 returns-7 c =
-    let k = counted ((c .before .before .before .before .before .before .before .before .before .before .before .before .before .before .before .before .before .before .before .before .before .before .before) .args .s .now) ((c .before .before .before .before .before .before .before .before .before .before .before .before .before .before .before .before .before .before) .u16-at .result) ((c .before .before .before .before .before .before .before .before .before .before .before .before .before .before .before .before .before) .u16-at2 .result) ((c .before .before .before .before .before .before .before .before .before .before .before .before .before .before .before .before) .u16-at3 .result) ((c .before .before .before .before .before .before .before .before .before .before .before .before .before .before .before .before .before .before) .u16-at .ensures .0) ((c .before .before .before .before .before .before .before .before .before .before .before .before .before .before .before .before .before) .u16-at2 .ensures .0) ((c .before .before .before .before .before .before .before .before .before .before .before .before .before .before .before .before) .u16-at3 .ensures .0) ((c .before .before .before .before .before .before .before .before .before .before .before .before .before .before .before .before .before .before .before .before) .counts-within .result) ((c .before .before .before .before .before .before .before .before .before .before .before .before .before .before .before .before .before .before .before .before) .counts-within .ensures) ((c .before .before .before .before .before .before .before .before .before .before .before .before .before .before .before .before .before .before .before) .if2 .left) in
-    let o = one k ((c .before .before .before .before .before .before .before .before .before .before .before .before .before .before .before) .new .result) ((c .before .before .before .before .before .before .before .before .before .before .before .before .before .before .before) .new .ensures) ((c .before .before .before .before .before .before .before .before .before .before .before .before .before .before) .entities-within .result) ((c .before .before .before .before .before .before .before .before .before .before .before .before .before .before) .entities-within .ensures) ((c .before .before .before .before .before .before .before .before .before .before .before .before) .p .given .0 .0) ((c .before .before .before .before .before .before .before .before .before .before .before .before) .p .given .1) in
-    let t = two o ((c .before .before .before .before .before .before .before .before .before .before) .new2 .result) ((c .before .before .before .before .before .before .before .before .before .before) .new2 .ensures) ((c .before .before .before .before .before .before .before .before .before) .actions-within .result) ((c .before .before .before .before .before .before .before .before .before) .actions-within .ensures) ((c .before .before .before .before .before .before .before) .q .given .0 .0) ((c .before .before .before .before .before .before .before) .q .given .1) in
-    end-whole t ((c .before .before .before .before .before) .new3 .result) ((c .before .before .before .before .before) .new3 .ensures) ((c .before .before .before .before) .functions-within .result) ((c .before .before .before .before) .functions-within .ensures) ((c .before .before) .end .given .0 .0) ((c .before .before) .end .given .1) ((c .before .before .before .before .before .before .before .before .before .before .before .before .before .before .before .before .before .before .before .before .before) .if1 .left) (c .if3 .left) ((c .before .before .before .before .before .before .before .before .before .before .before .before .before .before .before) .new .result) ((c .before .before .before .before .before .before .before .before .before .before) .new2 .result) (first-is k ((c .before .before .before .before .before .before .before .before .before .before .before .before .before .before .before) .new .result) ((c .before .before .before .before .before .before .before .before .before .before .before .before .before .before .before) .new .ensures)) (second-is o ((c .before .before .before .before .before .before .before .before .before .before) .new2 .result) ((c .before .before .before .before .before .before .before .before .before .before) .new2 .ensures))
+    let functions = entered₂ (c .before) in
+    let actions = entered₁ (functions .before) in
+    let entities = entered₀ (actions .before) in
+    let ends = entities .before in
+    let short = ends .before .before .before .if1 .left in
+    ahead-whole (three (c .before) .ahead) short (c .if3 .left) (ends .entries-end .result) (actions .before .before .second .given .0 .0)
+    (functions .before .before .third .given .0 .0) (ends .entries-end .ensures) (one (actions .before) .ends) (two (functions .before) .ends)
+    (entities .section-at .result) (actions .section-at2 .result) (functions .section-at3 .result)
+    (entities .section-at .ensures) (actions .section-at2 .ensures) (functions .section-at3 .ensures)
 
 pub check-schema-spec : {M : Type 1} → statement M
 check-schema-spec =
@@ -126,27 +169,19 @@ check-schema-spec =
     returns
     counts-within-requires
     returns-2
-    u16-at-requires
-    u16-at-requires-2
-    u16-at-requires-3
-    mul-second
-    add-second
-    mul-third
-    add-third
-    mul-new
-    add-new
-    new-requires
-    entities-within-requires
-    enum-known-p
+    entries-end-requires
+    section-at-requires
+    section-within-requires
+    enum-known-second
     enum-told
     returns-3
-    new-requires-2
-    actions-within-requires
-    enum-known-q
+    section-at-requires-2
+    section-within-requires-2
+    enum-known-third
     enum-told-2
     returns-4
-    new-requires-3
-    functions-within-requires
+    section-at-requires-3
+    section-within-requires-3
     enum-known-end
     enum-told-3
     returns-5

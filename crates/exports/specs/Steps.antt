@@ -1,0 +1,10 @@
+-- What the upper part of a number is multiplied by. Assumes nothing: these are definitions.
+use Prim.Native.Nat.{ℕ}
+
+-- What stands above a kind.
+abbrev pub kindStep : ℕ
+kindStep = 256
+
+-- The second of two offsets.
+abbrev pub packedStep : ℕ
+packedStep = 65536

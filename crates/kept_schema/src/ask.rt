@@ -1,0 +1,104 @@
+// Each call on a schema that was checked before, and its line.
+use crate::print::print_both;
+use crate::print::print_line;
+use crate::print::print_part;
+use crate::print::print_result;
+use schemas::whole::Checked;
+use trial::Form;
+use trial::result;
+use trial::workspace;
+use validator::all_attributes::all_attributes_checked;
+use validator::euid_literal::euid_literal_checked;
+use validator::is_subtype::is_subtype_checked;
+use validator::least_upper_bound::least_upper_bound_checked;
+use validator::lookup_attribute_type::lookup_attribute_type_checked;
+use validator::may_have_attr::may_have_attr_checked;
+use validator::own_attribute_type::own_attribute_type_checked;
+use validator::reduce_to_least_upper_bound::reduce_to_least_upper_bound_checked;
+use validator::typecheck_restricted_expr::typecheck_restricted_expr_checked;
+ghost use mathlib.Core.Path.{_≡_};
+ghost use Rattle.schemas.specs.SchemaBytes.{checked};
+
+// The calls that only answer.
+fn ask_tests(schema: &[u8], check: Checked)
+    requires { ⌜ check ≡ checked (now schema) ⌝ }
+{
+    let below = is_subtype_checked(schema, check, 1, &Form::ENTITY_2, &Form::BOTH);
+    print_line(b"is_subtype ", below);
+    let may = may_have_attr_checked(schema, check, 1, &Form::ENTITY_2);
+    print_line(b"may_have_attr ", may);
+    let conforms = typecheck_restricted_expr_checked(schema, check, &Form::ENTITY_2, &Form::UID_2);
+    print_line(b"typecheck_restricted_expr ", conforms);
+}
+
+fn ask_bound(schema: &[u8], check: Checked, t0: &[u8], t1: &[u8])
+    requires { ⌜ check ≡ checked (now schema) ⌝ }
+{
+    let mut out = result();
+    let answer = least_upper_bound_checked(schema, check, 1, t0, t1, &mut out);
+    print_result(b"least_upper_bound ", answer, &out);
+}
+
+fn ask_fold(schema: &[u8], check: Checked)
+    requires { ⌜ check ≡ checked (now schema) ⌝ }
+{
+    let mut out = result();
+    let mut work = workspace();
+    let answer = reduce_to_least_upper_bound_checked(
+        schema,
+        check,
+        1,
+        &Form::LIST,
+        &mut out,
+        &mut work,
+    );
+    print_both(b"reduce_to_least_upper_bound ", answer, &out, &work);
+}
+
+fn ask_lookup(schema: &[u8], check: Checked)
+    requires { ⌜ check ≡ checked (now schema) ⌝ }
+{
+    let mut out = result();
+    let mut work = workspace();
+    let answer = lookup_attribute_type_checked(schema, check, 1, &Form::BOTH, &mut out, &mut work);
+    print_both(b"lookup_attribute_type ", answer, &out, &work);
+}
+
+fn ask_own(schema: &[u8], check: Checked)
+    requires { ⌜ check ≡ checked (now schema) ⌝ }
+{
+    let mut told = 0u8;
+    let part = own_attribute_type_checked(schema, check, 1, &Form::RECORD, &mut told);
+    print_part(b"own_attribute_type ", told, part);
+}
+
+fn ask_names(schema: &[u8], check: Checked)
+    requires { ⌜ check ≡ checked (now schema) ⌝ }
+{
+    let mut out = result();
+    let mut work = workspace();
+    let answer = all_attributes_checked(schema, check, &Form::BOTH, &mut out, &mut work);
+    print_both(b"all_attributes ", answer, &out, &work);
+}
+
+fn ask_literal(schema: &[u8], check: Checked)
+    requires { ⌜ check ≡ checked (now schema) ⌝ }
+{
+    let mut out = result();
+    let answer = euid_literal_checked(schema, check, &Form::UID_3, &mut out);
+    print_result(b"euid_literal ", answer, &out);
+}
+
+// The bound is the same both ways round, so its second question has a second type that is not whole.
+pub fn ask_all(schema: &[u8], check: Checked)
+    requires { ⌜ check ≡ checked (now schema) ⌝ }
+{
+    ask_tests(schema, check);
+    ask_bound(schema, check, &Form::ENTITY_2, &Form::ENTITY_4);
+    ask_bound(schema, check, &Form::LONG, &Form::BROKEN);
+    ask_fold(schema, check);
+    ask_lookup(schema, check);
+    ask_own(schema, check);
+    ask_names(schema, check);
+    ask_literal(schema, check);
+}

@@ -1,0 +1,38 @@
+// The line of a call: the call, its answer, and between brackets the bytes of each buffer that it was lent.
+use streams::write_output;
+use trial::print_answer;
+use trial::print_bytes;
+use trial::print_hex;
+use validator::answers::Answer;
+
+// Prints the line of a call that takes no buffer.
+pub fn print_line(call: &[u8], answer: Answer) {
+    write_output(call);
+    print_answer(answer);
+    write_output(b"\n");
+}
+
+// Prints the line of a call that takes a result buffer.
+pub fn print_result(call: &[u8], answer: Answer, out: &[u8]) {
+    write_output(call);
+    print_answer(answer);
+    print_bytes(out);
+    write_output(b"\n");
+}
+
+// Prints the line of a call that takes a result buffer and a workspace.
+pub fn print_both(call: &[u8], answer: Answer, out: &[u8], work: &[u8]) {
+    write_output(call);
+    print_answer(answer);
+    print_bytes(out);
+    print_bytes(work);
+    write_output(b"\n");
+}
+
+// Prints the line of the call that hands back a part: the byte that tells which, and the part.
+pub fn print_part(call: &[u8], told: u8, part: &[u8]) {
+    write_output(call);
+    print_hex(told as u64, 2);
+    print_bytes(part);
+    write_output(b"\n");
+}

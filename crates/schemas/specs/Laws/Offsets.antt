@@ -1,0 +1,73 @@
+-- What is kept of a check, and the check of it. Assumes nothing.
+use Prim.Native.Nat.{ℕ, _≤_}
+use native.Mathlib.Omega.{arith}
+use mathlib.Core.List.{List}
+use mathlib.Core.Path.{_≡_, refl, ap, sym, _∙_}
+use lib.ListN.{length}
+use Rattle.cedar.specs.Limits.{blockBytes}
+use Rattle.schemas.specs.SchemaBytes.{entriesEnd, sectionAt, sectionsOf, checked}
+use Rattle.schemas.specs.Offsets.{offsetsOf}
+use Rattle.schemas.specs.Laws.Checks.{sections-are}
+use Rattle.schemas.specs.Laws.Finders.{kept, kept-counts, actions-laid, functions-laid}
+use Rattle.schemas.specs.declared.kinds.SectionKind.the-variants.{Entities, Actions, Functions}
+use Rattle.schemas.specs.declared.offsets.Offsets.{Offsets}
+use Rattle.schemas.specs.declared.sections.Section.{Section}
+use Rattle.schemas.specs.declared.sections.Sections.{Sections}
+use Rattle.schemas.specs.declared.whole.Checked.{Checked}
+use Rattle.schemas.specs.declared.whole.Checked.the-variants.{Whole, Broken}
+
+-- The offsets of a whole schema stand behind its counts and within its bytes.
+pub record Stands (b : List ℕ) (o : Offsets) : Type 0 where
+  pub few : length b ≤ blockBytes
+  pub room : 6 ≤ length b
+  pub first : o .entities ≡ entriesEnd b
+  pub behind : o .entities ≤ o .actions
+  pub second : o .actions ≤ length b
+  pub third : o .functions ≤ length b
+
+pub stands : (b : List ℕ) (x : Sections) → checked b ≡ Whole x → Stands b (offsetsOf (Whole x))
+unfolding sectionsOf
+stands b x e =
+    let k = kept b (checked b) refl x e in
+    let p = ap (λ (y : Sections). y .entities .bodies) (k .is) in
+    let q = ap (λ (y : Sections). y .actions .bodies) (k .is) in
+    record {
+      few = k .few;
+      room = kept-counts k .some;
+      first = p;
+      behind = omega (arith, p, q);
+      second = omega (arith, actions-laid k .room);
+      third = omega (arith, functions-laid k .room);
+    }
+
+-- Offsets that are a schema's own, by the outcome of its check.
+module _ (b : List ℕ) (o : Offsets) (own : o ≡ offsetsOf (checked b)) where
+  pub check-broken : o .entities ≡ 0 → Broken ≡ checked b
+  check-broken z = go (checked b) refl own
+    where
+      go : (y : Checked) → checked b ≡ y → o ≡ offsetsOf y → Broken ≡ y
+      go Broken e n = refl
+      go (Whole x) e n = absurd (omega (arith, ap (λ (p : Offsets). p .entities) n, stands b x e .first))
+
+  module _ (nz : o .entities ≡ 0 → ⊥) where
+    whole-is : (x : Sections) × (checked b ≡ Whole x) × (o ≡ offsetsOf (Whole x))
+    whole-is = go (checked b) refl own
+      where
+        go : (y : Checked) → checked b ≡ y → o ≡ offsetsOf y → (x : Sections) × (y ≡ Whole x) × (o ≡ offsetsOf (Whole x))
+        go Broken e n = absurd (nz (ap (λ (p : Offsets). p .entities) n))
+        go (Whole x) e n = (x, refl, n)
+
+    -- The counts can be read.
+    pub check-room : 6 ≤ length b
+    check-room = let (x, e, n) = whole-is in stands b x e .room
+
+    pub check-whole : (u v w : Section) → u ≡ sectionAt Entities (o .entities) b → v ≡ sectionAt Actions (o .actions) b →
+        w ≡ sectionAt Functions (o .functions) b → Whole (record { entities = u; actions = v; functions = w }) ≡ checked b
+    unfolding sectionsOf
+    check-whole u v w ue ve we =
+        let (x, e, n) = whole-is in
+        let is = kept b (checked b) refl x e .is in
+        let p = ap (λ (y : Offsets). y .entities) n ∙ ap (λ (y : Sections). y .entities .bodies) is in
+        let q = ap (λ (y : Offsets). y .actions) n ∙ ap (λ (y : Sections). y .actions .bodies) is in
+        let r = ap (λ (y : Offsets). y .functions) n ∙ ap (λ (y : Sections). y .functions .bodies) is in
+        ap Whole (sections-are b (o .entities) (o .actions) (o .functions) p q r u v w ue ve we ∙ sym is) ∙ sym e
