@@ -4,5 +4,3 @@ pub mod EntityAttribute
 pub mod Ahead
 pub mod MayHave
 pub mod Literal
-pub mod Lookup
-pub mod Names

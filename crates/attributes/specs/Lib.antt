@@ -1,6 +1,5 @@
 pub mod Place
+pub mod EntityAttribute
 pub mod MayHave
 pub mod Literal
-pub mod Lookup
-pub mod Names
 pub mod Laws

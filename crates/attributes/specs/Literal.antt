@@ -9,14 +9,14 @@ use Rattle.cedar.specs.Limits.{standard}
 use Rattle.cedar.specs.Literal.{literal}
 use Rattle.forms.specs.Parts.{part}
 use Rattle.schemas.specs.SchemaBytes.{decS}
-use Rattle.schemas.specs.Entries.{attrsAt}
+use Rattle.schemas.specs.Entries.{bodyAttrs}
 use Rattle.schemas.specs.Laws.Finders.{BodyAt}
 use Rattle.attributes.specs.declared.euid_literal.Literal.{Literal}
 use Rattle.attributes.specs.declared.euid_literal.Literal.the-variants.{Action, Entity, Nothing}
 
 -- The type that is found, of the uid's entity type k.
 abbrev pub literalType : List ℕ → ℕ → Literal → Option Ty
-literalType b k (Action s e) = some (act k (attrsAt (part s e b)))
+literalType b k (Action s e) = some (act k (bodyAttrs (part s e b)))
 literalType b k Entity = some (ent (k ∷ []))
 literalType b k Nothing = none
 

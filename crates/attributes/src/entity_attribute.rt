@@ -1,26 +1,55 @@
-// The attribute of an entity type, found in its entry's body.
+// The attributes of an entity type, found in its entry's body: nothing else looks into a body.
 use crate::own_attribute::Place;
 use crate::own_attribute::own_attribute;
+use forms::kinds::Openness;
 use forms::limits::Limits;
+use forms::numbers::u16_at;
+use forms::offsets::Offset;
 use schemas::entries::FoundEntry;
 use schemas::entries::find_entity;
 use schemas::sections::Sections;
-ghost use Rattle.cedar.specs.Limits.{standard};
-ghost use Rattle.cedar.specs.Attribute.{attrOf};
-ghost use Rattle.schemas.specs.SchemaBytes.{decS};
-ghost use Rattle.schemas.specs.Entries.{Kept};
-ghost use Rattle.attributes.specs.Place.{PlacedIn};
+ghost use Rattle.schemas.specs.Entries.{Sectioned};
+ghost use Rattle.attributes.specs.EntityAttribute.{AttributeIn, EntriesIn};
 
-// Where the attribute stands in the schema; a type missing from the schema has none.
-pub fn entity_attribute(schema: &[u8], at: Sections, entity: usize, name: usize) -> Place
-    requires { ⌜ Kept (now schema) «at» ⌝ }
-    ensures { λ r. ⌜ PlacedIn (now (schema .entry)) (attrOf (decS standard (now (schema .entry))) name entity) r ⌝ }
+// An attribute of an entity type: where its type starts and ends in the schema, and whether it is required; absent from a body that is
+// open or closed; or the schema lacks the entity type.
+pub enum EntityAttribute {
+    At(usize, usize, bool),
+    Absent(bool),
+    Missing,
+}
+
+// The attribute of a name.
+pub fn entity_attribute(schema: &[u8], at: Sections, entity: usize, name: usize) -> EntityAttribute
+    requires { ⌜ Sectioned (now schema) «at» ⌝ }
+    ensures { λ r. ⌜ AttributeIn (now (schema .entry)) entity name r ⌝ }
 {
     let FoundEntry::At(_, start, end) = find_entity(schema, at, entity) else {
-        return Place::Nothing;
+        return EntityAttribute::Missing;
     };
-    let Place::At(s, e, required) = own_attribute(&schema[start..end], name, Limits::LEVELS) else {
-        return Place::Nothing;
+    let body = &schema[start..end];
+    let Place::At(s, e, required) = own_attribute(body, name, Limits::LEVELS) else {
+        return EntityAttribute::Absent(body[Offset::OPEN] == Openness::OPEN);
     };
-    Place::At(start + s, start + e, required)
+    EntityAttribute::At(start + s, start + e, required)
+}
+
+// Where the entries of an entity type's attributes start, and how many they are.
+pub enum EntityEntries {
+    From(usize, usize),
+    Missing,
+}
+
+// The entries of its attributes.
+pub fn entity_entries(schema: &[u8], at: Sections, entity: usize) -> EntityEntries
+    requires { ⌜ Sectioned (now schema) «at» ⌝ }
+    ensures { λ r. ⌜ EntriesIn (now (schema .entry)) entity r ⌝ }
+{
+    let FoundEntry::At(_, start, end) = find_entity(schema, at, entity) else {
+        return EntityEntries::Missing;
+    };
+    EntityEntries::From(
+        start + Offset::RECORD_ENTRIES,
+        u16_at(&schema[start..end], Offset::RECORD_COUNT),
+    )
 }

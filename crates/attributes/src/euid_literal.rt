@@ -1,7 +1,4 @@
 // The type of a uid.
-use bounds::writers::copy;
-use bounds::writers::put_entity;
-use bounds::writers::put_kind;
 use forms::kinds::Kind;
 use forms::offsets::Offset;
 use schemas::entries::FoundEntry;
@@ -9,11 +6,14 @@ use schemas::entries::find_action;
 use schemas::entries::find_entity;
 use schemas::order::is_action;
 use schemas::sections::Sections;
+use writing::writers::copy;
+use writing::writers::put_entity;
+use writing::writers::put_kind;
 ghost use mathlib.Core.Path.{_≡_};
 ghost use Prim.Native.Nat.{_≤_, _<_};
 ghost use lib.ListN.{length};
 ghost use Rattle.cedar.specs.Outcome.{over};
-ghost use Rattle.schemas.specs.Entries.{Kept};
+ghost use Rattle.schemas.specs.Entries.{Sectioned};
 ghost use Rattle.attributes.specs.Literal.{literalLength, literalForm, Standing, LiteralAt};
 
 // What a uid's type is: an action, with the start and end of the body that lists its attributes; an entity; or nothing.
@@ -25,7 +25,7 @@ pub enum Literal {
 
 // The type of the uid of an entity type and an id.
 pub fn find_literal(schema: &[u8], at: Sections, entity: usize, id: usize) -> Literal
-    requires { ⌜ Kept (now schema) «at» ⌝ }
+    requires { ⌜ Sectioned (now schema) «at» ⌝ }
     ensures { λ r. ⌜ LiteralAt (now (schema .entry)) entity id r ⌝ }
 {
     if is_action(entity) {

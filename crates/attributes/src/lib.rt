@@ -1,7 +1,5 @@
-// The type of a literal, lookup of attributes, may-have and attribute names.
-pub mod all_attributes;
+// Attributes found in a form or in a schema, may-have, and the type of a literal.
 pub mod entity_attribute;
 pub mod euid_literal;
-pub mod lookup_attribute_type;
 pub mod may_have_attr;
 pub mod own_attribute;

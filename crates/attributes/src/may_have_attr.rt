@@ -1,4 +1,6 @@
 // Whether a value of a type might have an attribute.
+use crate::entity_attribute::EntityAttribute;
+use crate::entity_attribute::entity_attribute;
 use crate::own_attribute::Place;
 use crate::own_attribute::own_attribute;
 use forms::kinds::Kind;
@@ -7,20 +9,19 @@ use forms::limits::Limits;
 use forms::numbers::u16_at;
 use forms::offsets::Offset;
 use forms::widths::Width;
-use schemas::entries::FoundEntry;
-use schemas::entries::find_entity;
 use schemas::sections::Sections;
 ghost use mathlib.Core.Path.{_≡_};
 ghost use mathlib.Core.Bool.{true};
 ghost use Prim.Native.Nat.{_*_, _≤_};
 ghost use lib.ListN.{length};
 ghost use Rattle.cedar.specs.Types.{present};
+ghost use Rattle.cedar.specs.TypeForm.{recordCode};
 ghost use Rattle.cedar.specs.Limits.{standard};
 ghost use Rattle.cedar.specs.Attribute.{ownAttr, mayHaveType, mayHaveNames, mayHave};
 ghost use Rattle.forms.specs.Parts.{kind};
-ghost use Rattle.forms.specs.TypeBytes.{whole, dec, namesOf};
+ghost use Rattle.forms.specs.TypeBytes.{whole, dec, namesBy};
 ghost use Rattle.schemas.specs.SchemaBytes.{decS};
-ghost use Rattle.schemas.specs.Entries.{Kept};
+ghost use Rattle.schemas.specs.Entries.{Sectioned};
 ghost use Rattle.attributes.specs.MayHave.{recordMayHave};
 
 // Whether a record or an action lists the attribute.
@@ -37,7 +38,7 @@ fn lists_attribute(t: &[u8], name: usize, levels: usize) -> bool
 // Whether a record is open or lists the attribute.
 fn record_may_have(t: &[u8], name: usize, levels: usize) -> bool
     requires { ⌜ whole levels (now t) ≡ true ⌝ }
-    requires { ⌜ kind (now t) ≡ 8 ⌝ }
+    requires { ⌜ kind (now t) ≡ recordCode ⌝ }
     ensures { λ r. ⌜ r ≡ recordMayHave name (dec levels (now (t .entry))) ⌝ }
 {
     if t[Offset::OPEN] == Openness::OPEN {
@@ -48,20 +49,21 @@ fn record_may_have(t: &[u8], name: usize, levels: usize) -> bool
 
 // Whether an entity type is missing from the schema, is open, or lists the attribute.
 fn entity_type_may_have(schema: &[u8], at: Sections, entity: usize, name: usize) -> bool
-    requires { ⌜ Kept (now schema) «at» ⌝ }
+    requires { ⌜ Sectioned (now schema) «at» ⌝ }
     ensures { λ r. ⌜ r ≡ mayHaveType (decS standard (now (schema .entry))) name entity ⌝ }
 {
-    let FoundEntry::At(_, start, end) = find_entity(schema, at, entity) else {
-        return true; // the schema says nothing against it
-    };
-    record_may_have(&schema[start..end], name, Limits::LEVELS)
+    match entity_attribute(schema, at, entity, name) {
+        EntityAttribute::At(_, _, _) => true,
+        EntityAttribute::Absent(is_open) => is_open,
+        EntityAttribute::Missing => true, // the schema says nothing against it
+    }
 }
 
 // Whether one of n entity types may have the attribute.
 fn entity_may_have(schema: &[u8], at: Sections, types: &[u8], n: usize, name: usize) -> bool
-    requires { ⌜ Kept (now schema) «at» ⌝ }
+    requires { ⌜ Sectioned (now schema) «at» ⌝ }
     requires { ⌜ 2 * n ≤ length (now types) ⌝ }
-    ensures { λ r. ⌜ r ≡ mayHaveNames (decS standard (now (schema .entry))) name (namesOf n (now (types .entry))) ⌝ }
+    ensures { λ r. ⌜ r ≡ mayHaveNames (decS standard (now (schema .entry))) name (namesBy 2 n (now (types .entry))) ⌝ }
 {
     let mut e = types;
     let mut left = n;
@@ -77,7 +79,7 @@ fn entity_may_have(schema: &[u8], at: Sections, types: &[u8], n: usize, name: us
 
 // Whether a value of the type might have the attribute.
 pub fn may_have_attr(schema: &[u8], at: Sections, t: &[u8], name: usize) -> bool
-    requires { ⌜ Kept (now schema) «at» ⌝ }
+    requires { ⌜ Sectioned (now schema) «at» ⌝ }
     requires { ⌜ whole (standard .levels) (now t) ≡ true ⌝ }
     ensures { λ r. ⌜ r ≡ mayHave (decS standard (now (schema .entry))) name (dec (standard .levels) (now (t .entry))) ⌝ }
 {

@@ -14,8 +14,8 @@ ghost use Rattle.cedar.specs.Attribute.{ownAttr};
 ghost use Rattle.cedar.specs.BodyPlace.{bodyFrom, bodyPlace};
 ghost use Rattle.forms.specs.Parts.{rd};
 ghost use Rattle.forms.specs.TypeBytes.{whole, dec};
-ghost use Rattle.lengths.specs.Pairs.{attrsAt};
-ghost use Rattle.attributes.specs.Place.{Listed, Placed, spanOf};
+ghost use Rattle.forms.specs.Tables.{attrsAt, Tabled};
+ghost use Rattle.attributes.specs.Place.{Placed, spanOf};
 
 // Where an attribute's type starts and ends in the form that lists it, and whether it is required.
 pub enum Place {
@@ -25,7 +25,7 @@ pub enum Place {
 
 // The attribute of a list whose count stands at `at`.
 fn listed_attribute(t: &[u8], at: usize, name: usize, levels: usize) -> Place
-    requires { ⌜ Listed levels «at» (now t) ⌝ }
+    requires { ⌜ Tabled levels «at» (now t) ⌝ }
     ensures { λ r. ⌜ Placed levels (now (t .entry)) (findIn name (attrsAt levels «at» (now (t .entry)))) r ⌝ }
     ensures { λ r. ⌜ spanOf r ≡ bodyFrom («at» + 2 + 5 * rd (now (t .entry)) «at») name (attrsAt levels «at» (now (t .entry))) ⌝ }
 {

@@ -2,14 +2,14 @@
 use crate::answers::Answer;
 use crate::rooms::answer_fits;
 use crate::workspaces::clear;
-use attributes::all_attributes::Names;
-use attributes::all_attributes::all_names;
-use bounds::writers::copy;
 use forms::limits::Limits;
 use forms::refusals::Refusal;
 use forms::types::whole_type;
+use lookups::all_attributes::Names;
+use lookups::all_attributes::all_names;
 use schemas::whole::Checked;
 use schemas::whole::check_schema;
+use writing::writers::copy;
 ghost use mathlib.Core.Path.{_≡_};
 ghost use lib.ListN.{length};
 ghost use Rattle.cedar.specs.Limits.{standard};

@@ -1,4 +1,4 @@
-// Whether no entity is of both types.
+// Whether both types name entity types, and none in common.
 use crate::answers::Answer;
 use crate::answers::yes_or_no;
 use forms::refusals::Refusal;

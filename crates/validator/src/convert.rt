@@ -1,12 +1,12 @@
 // `TryFrom<Type>` into `CoreSchemaType`.
 use crate::answers::Answer;
 use crate::rooms::answer_fits;
-use conversions::core_types::core_extent;
+use conversions::core_types::core_length;
 use conversions::core_types::write_core;
 use forms::limits::Limits;
 use forms::refusals::Refusal;
 use forms::types::whole_type;
-use lengths::extents::Extent;
+use writing::form_lengths::FormLength;
 ghost use lib.ListN.{length};
 ghost use Rattle.cedar.specs.Limits.{standard};
 ghost use Rattle.cedar.specs.Calls.{convertCall};
@@ -19,14 +19,14 @@ pub fn convert(t: &[u8], out: &mut [u8]) -> Answer
     if !whole_type(t) {
         return Answer::Refused(Refusal::FIRST);
     }
-    match core_extent(t, Limits::LEVELS) {
-        Extent::Of(n) => {
+    match core_length(t, Limits::LEVELS) {
+        FormLength::Of(n) => {
             if !answer_fits(n, out.len()) {
                 return Answer::Refused(Refusal::RESULT);
             }
             write_core(t, Limits::LEVELS, out);
             Answer::Wrote(n)
         }
-        Extent::Not(e) => Answer::Refused(e),
+        FormLength::Not(e) => Answer::Refused(e),
     }
 }

@@ -2,9 +2,10 @@
 use crate::answers::Answer;
 use crate::answers::yes_or_no;
 use forms::limits::Limits;
+use forms::modes::KnownMode;
+use forms::modes::Mode;
 use forms::refusals::Refusal;
 use forms::types::whole_type;
-use relations::modes::is_mode;
 use schemas::whole::Checked;
 use schemas::whole::check_schema;
 ghost use mathlib.Core.Path.{_≡_};
@@ -18,9 +19,9 @@ pub fn is_subtype_checked(schema: &[u8], check: Checked, mode: u8, t0: &[u8], t1
     requires { ⌜ check ≡ checked (now schema) ⌝ }
     ensures { λ r. ⌜ r ≡ answerOf (subtypeCall standard mode (now (schema .entry)) (now (t0 .entry)) (now (t1 .entry))) ⌝ }
 {
-    if !is_mode(mode) {
+    let KnownMode::Of(m) = Mode::from_number(mode) else {
         return Answer::Refused(Refusal::MODE);
-    }
+    };
     let Checked::Whole(_) = check else {
         return Answer::Refused(Refusal::SCHEMA);
     };
@@ -30,7 +31,7 @@ pub fn is_subtype_checked(schema: &[u8], check: Checked, mode: u8, t0: &[u8], t1
     if !whole_type(t1) {
         return Answer::Refused(Refusal::SECOND);
     }
-    yes_or_no(relations::is_subtype::is_subtype(mode, t0, t1, Limits::LEVELS))
+    yes_or_no(relations::is_subtype::is_subtype(m, t0, t1, Limits::LEVELS))
 }
 
 pub fn is_subtype(mode: u8, schema: &[u8], t0: &[u8], t1: &[u8]) -> Answer

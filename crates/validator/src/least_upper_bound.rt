@@ -1,15 +1,16 @@
 // The least upper bound of two types.
 use crate::answers::Answer;
 use crate::rooms::answer_fits;
+use bound_lengths::bound_length::bound_length;
 use bounds::bound_writes::write_bound;
 use forms::limits::Limits;
+use forms::modes::KnownMode;
+use forms::modes::Mode;
 use forms::refusals::Refusal;
 use forms::types::whole_type;
-use lengths::bound_extents::bound_extent;
-use lengths::extents::Extent;
-use relations::modes::is_mode;
 use schemas::whole::Checked;
 use schemas::whole::check_schema;
+use writing::form_lengths::FormLength;
 ghost use mathlib.Core.Path.{_≡_};
 ghost use lib.ListN.{length};
 ghost use Rattle.cedar.specs.Limits.{standard};
@@ -29,9 +30,9 @@ pub fn least_upper_bound_checked(
     requires { ⌜ check ≡ checked (now schema) ⌝ }
     ensures { λ r. ⌜ Answered (boundCall standard mode (now (schema .entry)) (now (t0 .entry)) (now (t1 .entry)) (length (now (out .entry)))) (now (out .entry)) (now (out .exit)) r ⌝ }
 {
-    if !is_mode(mode) {
+    let KnownMode::Of(m) = Mode::from_number(mode) else {
         return Answer::Refused(Refusal::MODE);
-    }
+    };
     let Checked::Whole(_) = check else {
         return Answer::Refused(Refusal::SCHEMA);
     };
@@ -41,15 +42,15 @@ pub fn least_upper_bound_checked(
     if !whole_type(t1) {
         return Answer::Refused(Refusal::SECOND);
     }
-    match bound_extent(mode, t0, t1, Limits::LEVELS) {
-        Extent::Of(n) => {
+    match bound_length(m, t0, t1, Limits::LEVELS) {
+        FormLength::Of(n) => {
             if !answer_fits(n, out.len()) {
                 return Answer::Refused(Refusal::RESULT);
             }
-            write_bound(mode, t0, t1, Limits::LEVELS, out);
+            write_bound(m, t0, t1, Limits::LEVELS, out);
             Answer::Wrote(n)
         }
-        Extent::Not(e) => Answer::Refused(e),
+        FormLength::Not(e) => Answer::Refused(e),
     }
 }
 

@@ -2,14 +2,14 @@
 use crate::answers::Answer;
 use crate::rooms::answer_fits;
 use crate::workspaces::clear;
-use attributes::lookup_attribute_type::Looked;
-use attributes::lookup_attribute_type::look_up;
-use bounds::writers::copy;
 use forms::limits::Limits;
 use forms::refusals::Refusal;
 use forms::types::whole_type;
+use lookups::lookup_attribute_type::Looked;
+use lookups::lookup_attribute_type::look_up;
 use schemas::whole::Checked;
 use schemas::whole::check_schema;
+use writing::writers::copy;
 ghost use mathlib.Core.Path.{_≡_};
 ghost use lib.ListN.{length};
 ghost use Rattle.cedar.specs.Limits.{standard};

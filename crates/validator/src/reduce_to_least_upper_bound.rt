@@ -2,15 +2,16 @@
 use crate::answers::Answer;
 use crate::rooms::answer_fits;
 use crate::workspaces::clear;
-use bounds::writers::copy;
 use folds::lists::Folded;
 use folds::lists::fold_types;
 use forms::limits::Limits;
 use forms::lists::whole_list;
+use forms::modes::KnownMode;
+use forms::modes::Mode;
 use forms::refusals::Refusal;
-use relations::modes::is_mode;
 use schemas::whole::Checked;
 use schemas::whole::check_schema;
+use writing::writers::copy;
 ghost use mathlib.Core.Path.{_≡_};
 ghost use lib.ListN.{length};
 ghost use Rattle.cedar.specs.Limits.{standard};
@@ -30,9 +31,9 @@ fn reduced(
     requires { ⌜ check ≡ checked (now schema) ⌝ }
     ensures { λ r. ⌜ Answered (foldCall standard mode (now (schema .entry)) (now (list .entry)) (length (now (out .entry))) (length (now (work .entry)))) (now (out .entry)) (now (out .exit)) r ⌝ }
 {
-    if !is_mode(mode) {
+    let KnownMode::Of(m) = Mode::from_number(mode) else {
         return Answer::Refused(Refusal::MODE);
-    }
+    };
     let Checked::Whole(_) = check else {
         return Answer::Refused(Refusal::SCHEMA);
     };
@@ -40,7 +41,7 @@ fn reduced(
         return Answer::Refused(Refusal::FIRST);
     }
     let mut last = [0u8; Limits::BYTES];
-    match fold_types(mode, list, &mut last, work) {
+    match fold_types(m, list, &mut last, work) {
         Folded::To(n) => {
             if !answer_fits(n, out.len()) {
                 return Answer::Refused(Refusal::RESULT);

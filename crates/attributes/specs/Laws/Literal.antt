@@ -17,9 +17,9 @@ use Rattle.forms.specs.Parts.{part, rest}
 use Rattle.forms.specs.TypeBytes.{dec}
 use Rattle.forms.specs.Laws.Parts.{rest-is, length-rest, length-part}
 use Rattle.schemas.specs.SchemaBytes.{decS}
-use Rattle.schemas.specs.Entries.{openAt, attrsAt}
+use Rattle.schemas.specs.Entries.{openAt, bodyAttrs}
 use Rattle.schemas.specs.Laws.Finders.{BodyAt, EntityAt, ActionAt}
-use Rattle.bounds.specs.Laws.Writing.{back, over-at, room-at}
+use Rattle.writing.specs.Laws.Writing.{back, over-at, room-at}
 use Rattle.attributes.specs.declared.euid_literal.Literal.{Literal}
 use Rattle.attributes.specs.declared.euid_literal.Literal.the-variants.{Action, Entity, Nothing}
 use Rattle.attributes.specs.Literal.{literalType, literalForm, literalLength, Standing, LiteralAt}
@@ -45,37 +45,46 @@ standing-body b x s e h p = subst (λ (y : Literal). Standing b y) h p
 
 -- An action's form: the body behind its open byte, behind the action's name.
 module _ (b : List ℕ) (s e : ℕ) (bytes : Bytes b) (v : BodyAt b s e) where
-  body-form : enc (rec (openAt (part s e b)) (attrsAt (part s e b))) ≡ part s e b
+  body-form : enc (rec (openAt (part s e b)) (bodyAttrs (part s e b))) ≡ part s e b
   body-form = ap enc (sym (v .view .is)) ∙ enc-dec 16 (part s e b) (Bytes-part s e b bytes) (v .good)
 
-  pub action-form : (k : ℕ) → enc (act k (attrsAt (part s e b))) ≡ 11 ∷ u16 k ++ rest 2 (part s e b)
+  pub action-form : (k : ℕ) → enc (act k (bodyAttrs (part s e b))) ≡ 11 ∷ u16 k ++ rest 2 (part s e b)
   unfolding enc
   action-form k = ap (λ (z : List ℕ). 11 ∷ u16 k ++ z) (sym (rest-is 2 (part s e b) ∙ ap (drop 2) (sym body-form)))
 
-  pub action-length : (k : ℕ) → length (enc (act k (attrsAt (part s e b)))) ≡ e - s + 1
-  action-length k = ap length (action-form k) ∙ omega (arith, length-append (u16 k) (rest 2 (part s e b)), length-rest 2 (part s e b), length-part s e b (v .inside), v .view .some)
+  pub action-length : (k : ℕ) → length (enc (act k (bodyAttrs (part s e b)))) ≡ e - s + 1
+  action-length k =
+      ap length (action-form k) ∙ omega (
+        arith,
+        length-append (u16 k) (rest 2 (part s e b)),
+        length-rest 2 (part s e b),
+        length-part s e b (v .inside),
+        v .view .some,
+      )
 
   -- The room that its parts find.
-  pub action-room : (x : Literal) → x ≡ Action s e → (o : List ℕ) → literalLength x ≤ length o → (e - s + 1 ≤ length o) × (4 ≤ e - s) × (length (part s e b) ≡ e - s)
-  action-room x h o l = let m : literalLength x ≡ e - s + 1 = ap literalLength h in let n = length-part s e b (v .inside) in (omega arith, omega (arith, v .view .some), n)
+  pub action-room : (x : Literal) → x ≡ Action s e → (o : List ℕ) → literalLength x ≤ length o → (e - s + 1 ≤ length o) × (4 ≤ e - s) ×
+      (length (part s e b) ≡ e - s)
+  action-room x h o l =
+      let m : literalLength x ≡ e - s + 1 = ap literalLength h in let n = length-part s e b (v .inside) in (omega arith, omega (arith, v .view .some), n)
 
-  pub copy-room : (k : ℕ) (x : Literal) → x ≡ Action s e → (o xs : List ℕ) → literalLength x ≤ length o → xs ≡ over (11 ∷ u16 k) o → (3 ≤ length xs) × (length (rest 2 (part s e b)) ≤ length (rest 3 xs))
+  pub copy-room : (k : ℕ) (x : Literal) → x ≡ Action s e → (o xs : List ℕ) → literalLength x ≤ length o → xs ≡ over (11 ∷ u16 k) o →
+      (3 ≤ length xs) × (length (rest 2 (part s e b)) ≤ length (rest 3 xs))
   copy-room k x h o xs l f =
       let r = action-room x h o l in
       let q = room-at o (11 ∷ u16 k) xs 3 f refl (omega (arith, r .0, r .1)) in
       (q .0, omega (arith, r .0, r .1, r .2, q .1, length-rest 2 (part s e b)))
 
-  pub action-written : (k : ℕ) (x : Literal) → x ≡ Action s e → (o xs ys : List ℕ) → xs ≡ over (11 ∷ u16 k) o → ys ≡ over (rest 2 (part s e b)) (rest 3 xs) → literalLength x ≤ length o → back 3 xs ys ≡ over (literalForm b k x) o
+  pub action-written : (k : ℕ) (x : Literal) → x ≡ Action s e → (o xs ys : List ℕ) → xs ≡ over (11 ∷ u16 k) o → ys ≡ over (rest 2 (part s e b)) (rest 3 xs) →
+      literalLength x ≤ length o → back 3 xs ys ≡ over (literalForm b k x) o
   action-written k x h o xs ys f g l =
-      over-at o (11 ∷ u16 k) (rest 2 (part s e b)) xs ys 3 f refl g (let m : literalLength x ≡ e - s + 1 = ap literalLength h in omega (arith, length-rest 2 (part s e b), length-part s e b (v .inside), v .view .some))
+      over-at o (11 ∷ u16 k) (rest 2 (part s e b)) xs ys 3 f refl g (let m : literalLength x ≡ e - s + 1 = ap literalLength h in
+      omega (arith, length-rest 2 (part s e b), length-part s e b (v .inside), v .view .some))
       ∙ rw (h, action-form k) refl
 
 pub entity-written : (b : List ℕ) (k : ℕ) (x : Literal) → x ≡ Entity → (o xs : List ℕ) → xs ≡ over (10 ∷ u16 1 ++ u16 k) o → xs ≡ over (literalForm b k x) o
 unfolding enc
 entity-written b k x h o xs q = q ∙ rw h refl
-
-pub nothing-written : (b : List ℕ) (k : ℕ) (x : Literal) → x ≡ Nothing → (o : List ℕ) → o ≡ over (literalForm b k x) o
-nothing-written b k x h o = rw h refl
 
 -- How long the form is.
 pub literal-sized : (b : List ℕ) → Bytes b → (k : ℕ) (x : Literal) → Standing b x → length (literalForm b k x) ≡ literalLength x

@@ -11,16 +11,19 @@ use borrow.Author.Tests.{eq-eqb, ne-eqb}
 use Rattle.cedar.specs.Types.{Atom, never, anyent, Ty, atom, Schema, present, is}
 use Rattle.cedar.specs.Limits.{standard}
 use Rattle.cedar.specs.TypeForm.{Kind, one, setKind, recKind, entKind, actKind, extKind, noKind, kindOf}
-use Rattle.cedar.specs.Attribute.{entityOf, ownAttr, mayHaveType, mayHaveNames, mayHave}
+use Rattle.cedar.specs.Attribute.{ownAttr, mayHaveType, mayHaveNames, mayHave}
 use Rattle.forms.specs.Parts.{part, rest, rd, kind}
-use Rattle.forms.specs.TypeBytes.{whole, dec, namesOf}
+use Rattle.forms.specs.TypeBytes.{whole, dec, namesBy}
 use Rattle.forms.specs.Laws.Views.{is-record, is-action, is-entity, is-atom, see, seen-set, seen-record, seen-entity, seen-action, seen-extension, seen-atom}
 use Rattle.schemas.specs.SchemaBytes.{decS}
 use Rattle.attributes.specs.declared.own_attribute.Place.{Place}
 use Rattle.attributes.specs.declared.own_attribute.Place.the-variants.{At, Nothing}
 use Rattle.attributes.specs.Place.{Placed}
 use Rattle.attributes.specs.MayHave.{recordMayHave}
-use Rattle.schemas.specs.Laws.Finders.{EntityAt}
+use Rattle.attributes.specs.declared.entity_attribute.EntityAttribute.{EntityAttribute}
+use Rattle.attributes.specs.declared.entity_attribute.EntityAttribute.the-variants.{At as AttributeAt, Absent, Missing}
+use Rattle.attributes.specs.EntityAttribute.{AttributeIn}
+use Rattle.attributes.specs.Laws.EntityAttribute.{attribute-at, attribute-absent, attribute-missing}
 use Rattle.attributes.specs.Laws.Place.{place-at, place-none}
 use Rattle.attributes.specs.Laws.Ahead.{Ahead, ahead-end, ahead-first, ahead-next}
 
@@ -40,12 +43,16 @@ module _ (name l : ℕ) (b : List ℕ) (w : whole l b ≡ true) (k : kind b ≡ 
   pub closed-may-have : (r : Bool) → (getD b 1 0 ≡ 1 → ⊥) → r ≡ present (ownAttr name (dec l b)) → r ≡ recordMayHave name (dec l b)
   closed-may-have r e q = q ∙ rw (is-record l b w k .is, ne-eqb (getD b 1 0) 1 e) refl
 
--- An entity type, by its entry.
-pub missing-may-have : (name : ℕ) (b : List ℕ) (n : ℕ) → entityOf (decS standard b) n ≡ none → true ≡ mayHaveType (decS standard b) name n
-missing-may-have name b n h = rw h refl
+-- An entity type, by what is found of it.
+module _ (b : List ℕ) (n name : ℕ) (r : EntityAttribute) (p : AttributeIn b n name r) where
+  pub found-may-have : (s e : ℕ) (q : Bool) → r ≡ AttributeAt s e q → true ≡ mayHaveType (decS standard b) name n
+  found-may-have s e q h = sym (attribute-at b n name r p s e q h .2)
 
-pub body-may-have : (name : ℕ) (b : List ℕ) (n s e : ℕ) → EntityAt b n s e → (r : Bool) → r ≡ recordMayHave name (dec 16 (part s e b)) → r ≡ mayHaveType (decS standard b) name n
-body-may-have name b n s e a r q = q ∙ rw (a .body .view .is, a .is) refl
+  pub absent-may-have : (o : Bool) → r ≡ Absent o → o ≡ mayHaveType (decS standard b) name n
+  absent-may-have o h = sym (attribute-absent b n name r p o h .1)
+
+  pub missing-may-have : r ≡ Missing → true ≡ mayHaveType (decS standard b) name n
+  missing-may-have h = rw (attribute-missing b n name r p h) refl
 
 -- The loop over an entity's types.
 module _ (s : Schema) (name : ℕ) {all : Bool} {left : ℕ} {ns : List ℕ} (i : Ahead all (mayHaveNames s name) left ns) where
@@ -93,7 +100,7 @@ module _ (s : Schema) (name l : ℕ) (b : List ℕ) (w : whole l b ≡ true) whe
   pub action-is : kind b ≡ 11 → (r : Bool) → r ≡ present (ownAttr name (dec l b)) → r ≡ mayHave s name (dec l b)
   action-is k r q = q ∙ rw (is-action l b w k .is) refl
 
-  pub entity-is : kind b ≡ 10 → (n : ℕ) → n ≡ rd b 1 → (r : Bool) → r ≡ mayHaveNames s name (namesOf n (rest 3 b)) → r ≡ mayHave s name (dec l b)
+  pub entity-is : kind b ≡ 10 → (n : ℕ) → n ≡ rd b 1 → (r : Bool) → r ≡ mayHaveNames s name (namesBy 2 n (rest 3 b)) → r ≡ mayHave s name (dec l b)
   entity-is k n e r q = q ∙ rw (is-entity l b w k .is, e) refl
 
   pub entity-names : kind b ≡ 10 → (n : ℕ) → n ≡ rd b 1 → 2 * n ≤ length b - 3
@@ -113,7 +120,8 @@ module _ (s : Schema) (name l : ℕ) (b : List ℕ) (w : whole l b ≡ true) whe
   pub any-entity-is : kind b ≡ 9 → true ≡ mayHave s name (dec l b)
   any-entity-is k = rw (any-is anyent 9 k refl (λ z. omega arith) (λ z. omega arith) (λ z. omega arith) (λ z. omega arith) (λ z. omega arith)) refl
 
-  pub other-is : (((((Unit {0} × (kind b ≡ 0 → ⊥)) × (kind b ≡ 9 → ⊥)) × (kind b ≡ 8 → ⊥)) × (kind b ≡ 10 → ⊥)) × (kind b ≡ 11 → ⊥)) → false ≡ mayHave s name (dec l b)
+  pub other-is : (((((Unit {0} × (kind b ≡ 0 → ⊥)) × (kind b ≡ 9 → ⊥)) × (kind b ≡ 8 → ⊥)) × (kind b ≡ 10 → ⊥)) × (kind b ≡ 11 → ⊥)) →
+      false ≡ mayHave s name (dec l b)
   other-is n = elim (see l b w) [
     | seen-set k v ↦ rw (v .is) refl
     | seen-record k v ↦ absurd (n .0 .0 .1 k)

@@ -54,20 +54,24 @@ bound-unnamed lim mode schema t₀ t₁ room ns e =
     type-unnamed lim room (bound m a b) ns e₄
 
 -- A call that answers with no name list: what it wrote is what the caller copies.
-written-copies : (o : Outcome) → ((ns : List ℕ) → o ≡ named ns → ⊥) → (before after : List ℕ) (r : Answer) → Answered o before after r → written o ≡ copies r after
+written-copies : (o : Outcome) → ((ns : List ℕ) → o ≡ named ns → ⊥) → (before after : List ℕ) (r : Answer) → Answered o before after r →
+    written o ≡ copies r after
 written-copies (refused n) u before after r h = sym (ap (λ (z : Answer). copies z after) (h .answer))
 written-copies (said true) u before after r h = sym (ap (λ (z : Answer). copies z after) (h .answer))
 written-copies (said false) u before after r h = sym (ap (λ (z : Answer). copies z after) (h .answer))
 written-copies nothing u before after r h = sym (ap (λ (z : Answer). copies z after) (h .answer))
 written-copies (typed t) u before after r h =
-    sym (ap (λ (z : Answer). copies z after) (h .answer) ∙ ap (λ (l : List ℕ). some (take (length (enc t)) l)) (h .result) ∙ ap (λ (l : List ℕ). some l) (take-append-seam (enc t) _))
+    sym (ap (λ (z : Answer). copies z after) (h .answer) ∙ ap (λ (l : List ℕ). some (take (length (enc t)) l)) (h .result) ∙
+    ap (λ (l : List ℕ). some l) (take-append-seam (enc t) _))
 written-copies (attribute q t) u before after r h = sym (ap (λ (z : Answer). copies z after) (h .answer))
 written-copies (named ns) u before after r h = absurd (u ns refl)
 
-module _ (lim : Limits) (mode : ℕ) (schema t₀ t₁ before after : List ℕ) (r : Answer) (h : Answered (boundCall lim mode schema t₀ t₁ (length before)) before after r) where
+module _ (lim : Limits) (mode : ℕ) (schema t₀ t₁ before after : List ℕ) (r : Answer)
+    (h : Answered (boundCall lim mode schema t₀ t₁ (length before)) before after r) where
   -- Bound: what the theorem's run copies is what the caller copies:
   pub bound-copies : written (boundCall lim mode schema t₀ t₁ (length before)) ≡ copies r after
-  bound-copies = written-copies (boundCall lim mode schema t₀ t₁ (length before)) (λ ns e. bound-unnamed lim mode schema t₀ t₁ (length before) ns e) before after r h
+  bound-copies =
+      written-copies (boundCall lim mode schema t₀ t₁ (length before)) (λ ns e. bound-unnamed lim mode schema t₀ t₁ (length before) ns e) before after r h
 
   -- after `Wrote n`, the first n bytes of the buffer;
   pub bound-wrote : (n : ℕ) → r ≡ Wrote n → written (boundCall lim mode schema t₀ t₁ (length before)) ≡ some (take n after)
@@ -93,8 +97,11 @@ pub lookup-finds : (lim : Limits) (schema : List ℕ) (a : ℕ) (t before after 
     → (y : Ty) × LooksUp lim schema a t q y × (enc y ≡ take n after)
 lookup-finds lim schema a t before after work workAfter r q n h e =
     attribute-seen (lookupCall lim schema a t (length before) (length work)) q n (sym (h .answer) ∙ e) λ y p l.
-    let f : after ≡ resultAfter (attribute q y) before = h .result ∙ ap (λ (o : Outcome). resultAfter o before) p in
-    (y, inl (length before, length work, p), sym (ap (take n) f ∙ ap (λ (m : ℕ). take m (resultAfter (attribute q y) before)) (sym l) ∙ take-append-seam (enc y) _))
+    let f : after ≡ resultAfter (attribute q y) before = h .result ∙ ap (λ (o : Outcome). resultAfter o before) p in (
+      y,
+      inl (length before, length work, p),
+      sym (ap (take n) f ∙ ap (λ (m : ℕ). take m (resultAfter (attribute q y) before)) (sym l) ∙ take-append-seam (enc y) _),
+    )
 
 -- The letter that is told beside a part.
 abbrev letter : Bool → ℕ
@@ -116,16 +123,19 @@ abbrev owned : Option Schema → Option Ty → (Ty → Option (Bool × Ty)) → 
 owned p o f = ask badSchema p (λ s. ask badFirst o (λ u. maybe nothing (λ y. attribute (y .0) (y .1)) (f u)))
 
 -- It refuses with 2 or 3 alone, so a letter is an attribute's.
-letter-seen : (p : Option Schema) (o : Option Ty) (f : Ty → Option (Bool × Ty)) (q : Bool) → letter q ≡ toldOf (owned p o f) → (y : Ty) × (owned p o f ≡ attribute q y)
+letter-seen : (p : Option Schema) (o : Option Ty) (f : Ty → Option (Bool × Ty)) (q : Bool) → letter q ≡ toldOf (owned p o f) →
+    (y : Ty) × (owned p o f ≡ attribute q y)
 letter-seen none o f q e = no-letter q 2 e (omega arith)
 letter-seen (some s) none f q e = no-letter q 3 e (omega arith)
 letter-seen (some s) (some u) f q e = go (f u) e
   where
-    go : (x : Option (Bool × Ty)) → letter q ≡ toldOf (maybe nothing (λ y. attribute (y .0) (y .1)) x) → (y : Ty) × (maybe nothing (λ y. attribute (y .0) (y .1)) x ≡ attribute q y)
+    go : (x : Option (Bool × Ty)) → letter q ≡ toldOf (maybe nothing (λ y. attribute (y .0) (y .1)) x) →
+        (y : Ty) × (maybe nothing (λ y. attribute (y .0) (y .1)) x ≡ attribute q y)
     go none h = no-letter q 0 h (omega arith)
     go (some (b, t)) h = (t, ap (λ (z : Bool). attribute z t) (letter-flag q b t h))
 
-module _ (lim : Limits) (schema : List ℕ) (a : ℕ) (t : List ℕ) (place : Option (ℕ × ℕ)) (own part : RefT (List ℕ)) (told : ℕ) (h : Handed (ownAttributeCall lim schema a t) place own part told) where
+module _ (lim : Limits) (schema : List ℕ) (a : ℕ) (t : List ℕ) (place : Option (ℕ × ℕ)) (own part : RefT (List ℕ)) (told : ℕ)
+    (h : Handed (ownAttributeCall lim schema a t) place own part told) where
   part-finds : (q : Bool) → told ≡ letter q → (y : Ty) × LooksUp lim schema a t q y × (enc y ≡ now part)
   part-finds q e =
       let (y, p) = letter-seen (wholeSchema lim schema) (wholeType lim t) (ownAttr a) q (sym e ∙ h .which) in
@@ -162,7 +172,8 @@ pub disjoint-yes : (lim : Limits) (t₀ t₁ : List ℕ) (r : Answer) → r ≡ 
 disjoint-yes lim t₀ t₁ r h = ((λ e. yes-said (disjointCall lim t₀ t₁) (sym h ∙ e)), (λ e. h ∙ ap answerOf e))
 
 -- May-have: No is its no.
-pub may-have-no : (lim : Limits) (schema : List ℕ) (a : ℕ) (t : List ℕ) (r : Answer) → r ≡ answerOf (mayHaveCall lim schema a t) → (r ≡ No) ↔ (mayHaveCall lim schema a t ≡ said false)
+pub may-have-no : (lim : Limits) (schema : List ℕ) (a : ℕ) (t : List ℕ) (r : Answer) → r ≡ answerOf (mayHaveCall lim schema a t) →
+    (r ≡ No) ↔ (mayHaveCall lim schema a t ≡ said false)
 may-have-no lim schema a t r h = ((λ e. no-said (mayHaveCall lim schema a t) (sym h ∙ e)), (λ e. h ∙ ap answerOf e))
 
 -- Conformance: Yes is conforming.

@@ -2,12 +2,11 @@
 use Prim.Native.Nat.{ℕ, zero, suc, _<_}
 use native.Mathlib.Omega.{arith}
 use mathlib.Core.List.{List}
-use mathlib.Core.Bool.{Bool, true, false, not}
+use mathlib.Core.Bool.{true}
 use mathlib.Core.Option.{Option, none, some}
 use mathlib.Core.Path.{_≡_, refl, sym, ap, _∙_}
-use borrow.Author.Tests.{not-false}
 use lib.ListN.{length, getD}
-use Rattle.cedar.specs.Types.{Mode, Ty, Schema, present}
+use Rattle.cedar.specs.Types.{Mode, Ty, Schema}
 use Rattle.cedar.specs.Laws.Shape.{Ordered}
 use Rattle.cedar.specs.Bytes.{Bytes}
 use Rattle.cedar.specs.Limits.{standard}
@@ -20,14 +19,8 @@ use Rattle.cedar.specs.Calls.{modeOf, writeType, boundCall}
 use Rattle.cedar.specs.Laws.Whole.{wholeType-reads}
 use Rattle.cedar.specs.Laws.Direct.{direct-bound}
 use Rattle.forms.specs.TypeBytes.{dec}
-use Rattle.forms.specs.Modes.{asMode}
-use Rattle.relations.specs.Laws.Under.{mode-is}
 use Rattle.forms.specs.Laws.Bytes.{Bytes-index}
 use Rattle.validator.specs.Laws.Questions.{there}
-
--- A mode's number, read.
-pub mode-as : (n : ℕ) (r : Bool) → r ≡ present (modeOf n) → not r ≡ false → modeOf n ≡ some (asMode n)
-mode-as n r q h = mode-is n (sym q ∙ not-false r h)
 
 -- A whole type is in order.
 ordered : (b : List ℕ) (a : Ty) → ((i : ℕ) → getD b i 0 < 256) → wholeType standard b ≡ some a → Ordered a
@@ -37,7 +30,7 @@ module _ (mode : ℕ) (s t₀ t₁ : List ℕ) (room : ℕ) where
   pub bound-mode : modeOf mode ≡ none → boundCall standard mode s t₀ t₁ room ≡ refused 1
   bound-mode e = rw e refl
 
-  module _ (em : modeOf mode ≡ some (asMode mode)) where
+  module _ (m : Mode) (em : modeOf mode ≡ some m) where
     pub bound-schema : wholeSchema standard s ≡ none → boundCall standard mode s t₀ t₁ room ≡ refused 2
     bound-schema e = rw (em, e) refl
 
@@ -51,9 +44,9 @@ module _ (mode : ℕ) (s t₀ t₁ : List ℕ) (room : ℕ) where
 
         -- The bound that the direct walk gives.
         pub bound-direct : ((i : ℕ) → getD t₀ i 0 < 256) → ((i : ℕ) → getD t₁ i 0 < 256) → wholeType standard t₁ ≡ some (dec 16 t₁)
-            → boundCall standard mode s t₀ t₁ room ≡ writeType standard room (direct (asMode mode) (dec 16 t₀) (dec 16 t₁))
+            → boundCall standard mode s t₀ t₁ room ≡ writeType standard room (direct m (dec 16 t₀) (dec 16 t₁))
         bound-direct k₀ k₁ eb =
-            calls ∙ ap (writeType standard room) (sym (direct-bound (dec 16 t₀) (asMode mode) (dec 16 t₁) (ordered t₀ (dec 16 t₀) k₀ ea) (ordered t₁ (dec 16 t₁) k₁ eb)))
+            calls ∙ ap (writeType standard room) (sym (direct-bound (dec 16 t₀) m (dec 16 t₁) (ordered t₀ (dec 16 t₀) k₀ ea) (ordered t₁ (dec 16 t₁) k₁ eb)))
           where
-            calls : boundCall standard mode s t₀ t₁ room ≡ writeType standard room (bound (asMode mode) (dec 16 t₀) (dec 16 t₁))
+            calls : boundCall standard mode s t₀ t₁ room ≡ writeType standard room (bound m (dec 16 t₀) (dec 16 t₁))
             calls = rw (em, es, ea, eb) refl

@@ -46,7 +46,8 @@ afterAllCalled lim schema xs [] ks = xs
 afterAllCalled lim schema xs (c ∷ cs) ks = afterAllCalled lim schema (afterCalled (ks .0)) cs (ks .1)
 
 module _ (lim : Limits) (schema : List ℕ) where
-  copied-called : (xs : List Listed) (c : Step) (k : Called lim schema xs c) → written (boundCall lim (c .mode) schema (k .first .form) (k .second .form) (c .room)) ≡ copies (k .told) (k .after)
+  copied-called : (xs : List Listed) (c : Step) (k : Called lim schema xs c) →
+      written (boundCall lim (c .mode) schema (k .first .form) (k .second .form) (c .room)) ≡ copies (k .told) (k .after)
   copied-called xs c k =
       ap (λ (n : ℕ). written (boundCall lim (c .mode) schema (k .first .form) (k .second .form) n)) (sym (k .roomy))
       ∙ bound-copies lim (c .mode) schema (k .first .form) (k .second .form) (k .before) (k .after) (k .told) (k .contract)

@@ -41,5 +41,6 @@ module _ (schema t v : List ℕ) where
       conforms-no-value g = rw (e, f, g) refl
 
       -- The walk's verdict.
-      pub conforms-said : (x : Value) → wholeValue standard v ≡ some x → (d : Verdict) → d ≡ verdictOf (conforms shorter s a x) → (w : Verdict) → d ≡ w → answerTo w ≡ answerOf (conformsCall standard schema t v)
+      pub conforms-said : (x : Value) → wholeValue standard v ≡ some x → (d : Verdict) → d ≡ verdictOf (conforms shorter s a x) → (w : Verdict) → d ≡ w →
+          answerTo w ≡ answerOf (conformsCall standard schema t v)
       conforms-said x g d q w z = ap answerTo (sym z ∙ q) ∙ answered (conforms shorter s a x) ∙ rw (e, f, g) refl

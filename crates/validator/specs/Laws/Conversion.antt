@@ -11,7 +11,7 @@ use Rattle.cedar.specs.Result.{ok}
 use Rattle.cedar.specs.Outcome.{refused}
 use Rattle.cedar.specs.Calls.{ask, writeType, convertCall}
 use Rattle.forms.specs.TypeBytes.{dec}
-use Rattle.lengths.specs.Extents.{orRefuse}
+use Rattle.writing.specs.FormLengths.{orRefuse}
 use Rattle.conversions.specs.CoreTypes.{core}
 
 pub convert-not : (b : List ℕ) (room : ℕ) → wholeType standard b ≡ none → convertCall standard b room ≡ refused 3

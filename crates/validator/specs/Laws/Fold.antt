@@ -8,7 +8,7 @@ use mathlib.Core.Path.{_≡_, refl, ap, sym, subst, _∙_}
 use lib.Dec.{leb}
 use lib.ListN.{length}
 use borrow.Author.Tests.{leb-true, not-true, not-false}
-use Rattle.cedar.specs.Types.{Ty, Schema, present}
+use Rattle.cedar.specs.Types.{Mode, Ty, Schema, present}
 use Rattle.cedar.specs.TypeForm.{enc}
 use Rattle.cedar.specs.Limits.{standard, blockBytes}
 use Rattle.cedar.specs.Result.{Result}
@@ -22,7 +22,6 @@ use Rattle.forms.specs.ListBytes.{listFits, listOf}
 use Rattle.forms.specs.Laws.Parts.{and-r, length-part}
 use Rattle.forms.specs.Laws.Sure.{sure-present, sure-yes}
 use Rattle.forms.specs.Laws.Lists.{whole-list-twin}
-use Rattle.forms.specs.Modes.{asMode}
 use Rattle.folds.specs.declared.lists.Folded.{Folded}
 use Rattle.folds.specs.declared.lists.Folded.the-variants.{To, Not}
 use Rattle.folds.specs.Lists.{Opened, FoldsTo}
@@ -84,7 +83,7 @@ module _ (mode : ℕ) (s list o : List ℕ) (work : ℕ) where
   pub fold-mode : modeOf mode ≡ none → Answered outcome o o (Refused 1)
   fold-mode e = refuses 1 (rw e refl)
 
-  module _ (em : modeOf mode ≡ some (asMode mode)) where
+  module _ (m : Mode) (em : modeOf mode ≡ some m) where
     pub fold-schema : wholeSchema standard s ≡ none → Answered outcome o o (Refused 2)
     fold-schema e = refuses 2 (rw (em, e) refl)
 
@@ -94,7 +93,7 @@ module _ (mode : ℕ) (s list o : List ℕ) (work : ℕ) where
 
       module _ (el : wholeList standard list ≡ some (listOf 16 list)) where
         abbrev folded : Result Ty
-        folded = foldTypes (stepFits standard work) (asMode mode) (listOf 16 list)
+        folded = foldTypes (stepFits standard work) m (listOf 16 list)
 
         goes-on : outcome ≡ writeType standard (length o) folded
         goes-on = rw (em, es, el) refl
@@ -102,7 +101,8 @@ module _ (mode : ℕ) (s list o : List ℕ) (work : ℕ) where
         pub fold-refused : (e : ℕ) → writeType standard (length o) folded ≡ refused e → Answered outcome o o (Refused e)
         fold-refused e q = refuses e (goes-on ∙ q)
 
-        pub fold-writes : (n : ℕ) (last : List ℕ) → writeType standard (length o) folded ≡ typed (dec 16 (part 0 n last)) → enc (dec 16 (part 0 n last)) ≡ part 0 n last → length (enc (dec 16 (part 0 n last))) ≡ n →
+        pub fold-writes : (n : ℕ) (last : List ℕ) → writeType standard (length o) folded ≡ typed (dec 16 (part 0 n last)) →
+            enc (dec 16 (part 0 n last)) ≡ part 0 n last → length (enc (dec 16 (part 0 n last))) ≡ n →
             (xs : List ℕ) → xs ≡ over (part 0 n last) o → Answered outcome o xs (Wrote n)
         fold-writes n last q exact l xs w =
             subst (λ (z : Outcome). Answered z o xs (Wrote n)) (sym (goes-on ∙ q))

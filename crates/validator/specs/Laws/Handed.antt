@@ -47,7 +47,8 @@ module _ (schema : List ℕ) (a : ℕ) (b : List ℕ) where
       part-nothing o = rw (f, e, o) refl
 
       -- The attribute found from s to z, with its flag.
-      pub part-at : (q : Bool) (y : Ty) → ownAttr a u ≡ some (q, y) → (r : Place) (s z : ℕ) → r ≡ places.At s z q → placeSpan r ≡ bodyPlace a u → At s z q ≡ partHere
+      pub part-at : (q : Bool) (y : Ty) → ownAttr a u ≡ some (q, y) → (r : Place) (s z : ℕ) → r ≡ places.At s z q → placeSpan r ≡ bodyPlace a u →
+          At s z q ≡ partHere
       part-at q y o r s z at p = let here : bodyPlace a u ≡ some (s, z) = sym p ∙ ap placeSpan at in rw (f, e, o, here) refl
 
 -- What the call comes to on bytes: a refusal; none; an attribute, whose type's form stands at its place.
@@ -66,7 +67,8 @@ comes schema a b h = go (wholeSchema standard schema) refl (wholeType standard b
         let r = (wholeType-reads standard) .into b u h f in
         has (y .0) (y .1) (rw (e, f, g) refl) (body-in-stands standard a b u f h y g) (subst (λ (l : List ℕ). length l ≤ 4096) (r .0) (r .1 .1))
 
-    go : (x : Option Schema) → wholeSchema standard schema ≡ x → (t : Option Ty) → wholeType standard b ≡ t → Comes b (ownAttributeCall standard schema a b) (bodyIn standard a b)
+    go : (x : Option Schema) → wholeSchema standard schema ≡ x → (t : Option Ty) → wholeType standard b ≡ t →
+        Comes b (ownAttributeCall standard schema a b) (bodyIn standard a b)
     go none e t f = refuses 2 (rw e refl)
     go (some w) e none f = refuses 3 (rw (e, f) refl)
     go (some w) e (some u) f = own w e u f (ownAttr a u) refl
@@ -93,7 +95,8 @@ module _ (t : RefT (List ℕ)) (o : Outcome) (place : Option (ℕ × ℕ)) (c : 
 
   -- The empty part before the first byte.
   front : {r : RefT (List ℕ)} → ptr r ≡ ptr t → now r ≡ [] → (x : OwnPart) → spanOf x ≡ (0, 0) → IsPart (spanOf x) t r
-  front {r} i j x z = subst (λ (s : ℕ × ℕ). IsPart s t r) (sym z) record { block = ap (λ (k : ℕ × ℕ). k .0) i; offset = ap (λ (k : ℕ × ℕ). k .1) i ∙ omega arith; bytes = j }
+  front {r} i j x z =
+      subst (λ (s : ℕ × ℕ). IsPart s t r) (sym z) record { block = ap (λ (k : ℕ × ℕ). k .0) i; offset = ap (λ (k : ℕ × ℕ). k .1) i ∙ omega arith; bytes = j }
 
   clash : {A : Type 0} {x y : OwnPart} → p ≡ x → p ≡ y → (x ≡ y → A) → A
   clash i j f = f (sym i ∙ j)

@@ -19,8 +19,8 @@ use Rattle.cedar.specs.Literal.{literal}
 use Rattle.cedar.specs.Calls.{writeType, literalCall}
 use Rattle.forms.specs.Laws.Parts.{length-part}
 use Rattle.schemas.specs.SchemaBytes.{decS}
-use Rattle.lengths.specs.declared.extents.Extent.the-variants.{Of}
-use Rattle.lengths.specs.Extents.{cap, extentOf}
+use Rattle.writing.specs.declared.form_lengths.FormLength.the-variants.{Of}
+use Rattle.writing.specs.FormLengths.{cap, formLengthOf}
 use Rattle.attributes.specs.declared.euid_literal.Literal.{Literal}
 use Rattle.attributes.specs.declared.euid_literal.Literal.the-variants as literals
 use Rattle.attributes.specs.Literal.{literalType, literalForm, literalLength, Standing, LiteralAt}
@@ -64,7 +64,8 @@ module _ (schema v o : List ℕ) where
           found = go x (λ z. p (l ∙ z)) (at .stands)
             where
               go : (y : Literal) → (literalLength y ≡ 0 → ⊥) → Standing schema y → (t : Ty) × ((literalType schema k y ≡ some t) × (length (enc t) ≤ 4097))
-              go (literals.Action s e) h v = (_, (refl, omega (arith, literal-sized schema bytes k (literals.Action s e) v, v .few, length-part s e schema (v .inside))))
+              go (literals.Action s e) h v =
+                  (_, (refl, omega (arith, literal-sized schema bytes k (literals.Action s e) v, v .few, length-part s e schema (v .inside))))
               go literals.Entity h v = (_, (refl, omega (arith, literal-sized schema bytes k literals.Entity v)))
               go literals.Nothing h v = absurd (h refl)
 
@@ -74,7 +75,7 @@ module _ (schema v o : List ℕ) where
           sized : n ≡ length form
           sized = l ∙ sym (literal-sized schema bytes k x (at .stands)) ∙ ap (λ (t : Option Ty). length (maybe [] enc t)) (found .1 .0)
 
-          told : Of n ≡ extentOf enc (ok (found .0))
+          told : Of n ≡ formLengthOf enc (ok (found .0))
           told = ap Of (omega (arith, sized, found .1 .1))
 
           goes-to : outcome ≡ writeType standard (length o) (ok (found .0))

@@ -19,9 +19,9 @@ use Rattle.cedar.specs.Calls.{stepFits, writeAttribute, lookupCall}
 use Rattle.forms.specs.Parts.{part}
 use Rattle.forms.specs.TypeBytes.{dec}
 use Rattle.forms.specs.Laws.Parts.{length-part}
-use Rattle.attributes.specs.declared.lookup_attribute_type.Looked.{Looked}
-use Rattle.attributes.specs.declared.lookup_attribute_type.Looked.the-variants as looks
-use Rattle.attributes.specs.Lookup.{LookedUp}
+use Rattle.lookups.specs.declared.lookup_attribute_type.Looked.{Looked}
+use Rattle.lookups.specs.declared.lookup_attribute_type.Looked.the-variants as looks
+use Rattle.lookups.specs.Lookup.{LookedUp}
 use Rattle.validator.specs.declared.answers.Answer.{Answer}
 use Rattle.validator.specs.declared.answers.Answer.the-variants.{Refused, Nothing, Attribute}
 use Rattle.validator.specs.Answers.{Answered}
@@ -49,7 +49,8 @@ module _ (schema : List ℕ) (a : ℕ) (t o : List ℕ) (work : ℕ) where
       comes-to y e = goes-on ∙ ap (writeAttribute standard (length o)) e
 
       pub lookup-nothing : r ≡ looks.Nothing → Answered outcome o o Nothing
-      lookup-nothing e = subst (λ (c : Outcome). Answered c o o Nothing) (sym (comes-to (ok none) (ends looks.Nothing e))) record { answer = refl; result = refl }
+      lookup-nothing e =
+          subst (λ (c : Outcome). Answered c o o Nothing) (sym (comes-to (ok none) (ends looks.Nothing e))) record { answer = refl; result = refl }
 
       pub lookup-too-long : r ≡ looks.TooLong → Answered outcome o o (Refused 9)
       lookup-too-long e = refuses 9 (comes-to (err 9) (ends looks.TooLong e))
@@ -77,6 +78,7 @@ module _ (schema : List ℕ) (a : ℕ) (t o : List ℕ) (work : ℕ) where
 
             pub lookup-writes : (xs : List ℕ) → xs ≡ over (part 0 n last) o → Answered outcome o xs (Attribute q n)
             lookup-writes xs w =
-                let c : outcome ≡ attribute q (dec 15 (part 0 n last)) = comes-to (ok (some (q, dec 15 (part 0 n last)))) (ends (looks.Found q n) e .0) ∙ rw (fits-as y fits, not-false y k) refl in
+                let c : outcome ≡ attribute q (dec 15 (part 0 n last)) = comes-to (ok (some (q, dec 15 (part 0 n last)))) (ends (looks.Found q n) e .0) ∙
+                rw (fits-as y fits, not-false y k) refl in
                 subst (λ (z : Outcome). Answered z o xs (Attribute q n)) (sym c)
                 record { answer = ap (Attribute q) (sym (ap length exact ∙ sized)); result = w ∙ ap (λ (z : List ℕ). over z o) (sym exact) }

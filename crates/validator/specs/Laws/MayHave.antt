@@ -22,5 +22,6 @@ module _ (a : ℕ) (schema t : List ℕ) where
     pub may-have-no-type : wholeType standard t ≡ none → Refused 3 ≡ answerOf (mayHaveCall standard schema a t)
     may-have-no-type f = rw (e, f) refl
 
-    pub may-have-said : (u : Ty) → wholeType standard t ≡ some u → (r : Answer) (y : Bool) → r ≡ answerOf (said y) → y ≡ mayHave s a u → r ≡ answerOf (mayHaveCall standard schema a t)
+    pub may-have-said : (u : Ty) → wholeType standard t ≡ some u → (r : Answer) (y : Bool) → r ≡ answerOf (said y) → y ≡ mayHave s a u →
+        r ≡ answerOf (mayHaveCall standard schema a t)
     may-have-said u f r y p q = p ∙ ap (λ (z : Bool). answerOf (said z)) q ∙ rw (e, f) refl

@@ -17,11 +17,11 @@ use Rattle.cedar.specs.Outcome.{Outcome, named, over}
 use Rattle.cedar.specs.Attribute.{allNames}
 use Rattle.cedar.specs.Calls.{stepFits, writeNames, namesCall}
 use Rattle.forms.specs.Parts.{part}
-use Rattle.bounds.specs.Written.{Written}
-use Rattle.attributes.specs.declared.all_attributes.Names.{Names}
-use Rattle.attributes.specs.declared.all_attributes.Names.the-variants.{Of, TooLong}
-use Rattle.attributes.specs.Names.{NamedBy}
-use Rattle.folds.specs.Laws.Steps.{front-is}
+use Rattle.writing.specs.Written.{Written}
+use Rattle.lookups.specs.declared.all_attributes.Names.{Names}
+use Rattle.lookups.specs.declared.all_attributes.Names.the-variants.{Of, TooLong}
+use Rattle.lookups.specs.Names.{NamedBy}
+use Rattle.writing.specs.Laws.Writing.{over-front}
 use Rattle.validator.specs.declared.answers.Answer.the-variants.{Refused, Wrote}
 use Rattle.validator.specs.Answers.{Answered}
 use Rattle.validator.specs.Laws.Writing.{refuses}
@@ -37,43 +37,44 @@ module _ (schema t o : List ℕ) (work : ℕ) where
     pub names-no-type : wholeType standard t ≡ none → Answered outcome o o (Refused 3)
     names-no-type e = refuses 3 (rw (f, e) refl)
 
-    module _ (u : Ty) (g : wholeType standard t ≡ some u) (before kept : List ℕ) (r : Names) (h : NamedBy (allNames (stepFits standard work) s u) before kept r) where
-      ends : (x : Names) → r ≡ x → NamedBy (allNames (stepFits standard work) s u) before kept x
-      ends x e = subst (λ (y : Names). NamedBy (allNames (stepFits standard work) s u) before kept y) e h
+    module _ (u : Ty) (g : wholeType standard t ≡ some u) (before kept : List ℕ) (r : Names) (h : NamedBy (allNames (stepFits standard work) s u) before kept r)
+      where
+        ends : (x : Names) → r ≡ x → NamedBy (allNames (stepFits standard work) s u) before kept x
+        ends x e = subst (λ (y : Names). NamedBy (allNames (stepFits standard work) s u) before kept y) e h
 
-      comes-to : (y : Result (List ℕ)) → allNames (stepFits standard work) s u ≡ y → outcome ≡ writeNames standard (length o) y
-      comes-to y e = rw (f, g) (ap (writeNames standard (length o)) e)
+        comes-to : (y : Result (List ℕ)) → allNames (stepFits standard work) s u ≡ y → outcome ≡ writeNames standard (length o) y
+        comes-to y e = rw (f, g) (ap (writeNames standard (length o)) e)
 
-      pub names-too-long : r ≡ TooLong → Answered outcome o o (Refused 9)
-      names-too-long e = refuses 9 (comes-to (err 9) (ends TooLong e))
+        pub names-too-long : r ≡ TooLong → Answered outcome o o (Refused 9)
+        names-too-long e = refuses 9 (comes-to (err 9) (ends TooLong e))
 
-      module _ (n : ℕ) (e : r ≡ Of n) where
-        all : List ℕ
-        all = ends (Of n) e .0
+        module _ (n : ℕ) (e : r ≡ Of n) where
+          all : List ℕ
+          all = ends (Of n) e .0
 
-        told : (allNames (stepFits standard work) s u ≡ ok all) × Written (encNames all) before kept n
-        unfolding all
-        told = ends (Of n) e .1
+          told : (allNames (stepFits standard work) s u ≡ ok all) × Written (encNames all) before kept n
+          unfolding all
+          told = ends (Of n) e .1
 
-        names-form : part 0 n kept ≡ encNames all
-        names-form = front-is (encNames all) before kept n (told .1 .bytes) (told .1 .many)
+          names-form : part 0 n kept ≡ encNames all
+          names-form = over-front (encNames all) before kept n (told .1 .bytes) (told .1 .many)
 
-        fits-as : (y : Bool) → y ≡ leb n (min (length o) 4096) → leb (length (encNames all)) (min (length o) 4096) ≡ y
-        fits-as y f = ap (λ (k : ℕ). leb k (min (length o) 4096)) (sym (told .1 .many)) ∙ sym f
+          fits-as : (y : Bool) → y ≡ leb n (min (length o) 4096) → leb (length (encNames all)) (min (length o) 4096) ≡ y
+          fits-as y f = ap (λ (k : ℕ). leb k (min (length o) 4096)) (sym (told .1 .many)) ∙ sym f
 
-        module _ (y : Bool) (fits : y ≡ leb n (min (length o) 4096)) where
-          pub names-over : not y ≡ true → Answered outcome o o (Refused 10)
-          names-over k = refuses 10 (comes-to (ok all) (told .0) ∙ rw (fits-as y fits, not-true y k) refl)
+          module _ (y : Bool) (fits : y ≡ leb n (min (length o) 4096)) where
+            pub names-over : not y ≡ true → Answered outcome o o (Refused 10)
+            names-over k = refuses 10 (comes-to (ok all) (told .0) ∙ rw (fits-as y fits, not-true y k) refl)
 
-          module _ (k : not y ≡ false) where
-            pub names-small : n ≤ min (length o) 4096
-            names-small = leb-true n (min (length o) 4096) (sym fits ∙ not-false y k)
+            module _ (k : not y ≡ false) where
+              pub names-small : n ≤ min (length o) 4096
+              names-small = leb-true n (min (length o) 4096) (sym fits ∙ not-false y k)
 
-            pub names-fit : length (part 0 n kept) ≤ length o
-            names-fit = omega (arith, names-small, ap length names-form, told .1 .many)
+              pub names-fit : length (part 0 n kept) ≤ length o
+              names-fit = omega (arith, names-small, ap length names-form, told .1 .many)
 
-            pub names-write : (xs : List ℕ) → xs ≡ over (part 0 n kept) o → Answered outcome o xs (Wrote n)
-            names-write xs w =
-                let c : outcome ≡ named all = comes-to (ok all) (told .0) ∙ rw (fits-as y fits, not-false y k) refl in
-                subst (λ (z : Outcome). Answered z o xs (Wrote n)) (sym c)
-                record { answer = ap Wrote (told .1 .many); result = w ∙ ap (λ (z : List ℕ). over z o) names-form }
+              pub names-write : (xs : List ℕ) → xs ≡ over (part 0 n kept) o → Answered outcome o xs (Wrote n)
+              names-write xs w =
+                  let c : outcome ≡ named all = comes-to (ok all) (told .0) ∙ rw (fits-as y fits, not-false y k) refl in
+                  subst (λ (z : Outcome). Answered z o xs (Wrote n)) (sym c)
+                  record { answer = ap Wrote (told .1 .many); result = w ∙ ap (λ (z : List ℕ). over z o) names-form }

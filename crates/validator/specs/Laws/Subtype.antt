@@ -30,5 +30,6 @@ module _ (mode : ℕ) (schema t₀ t₁ : List ℕ) where
         pub subtype-second : wholeType standard t₁ ≡ none → Refused 4 ≡ answerOf (subtypeCall standard mode schema t₀ t₁)
         subtype-second e = rw (em, es, ea, e) refl
 
-        pub subtype-said : (b : Ty) → wholeType standard t₁ ≡ some b → (r : Answer) (y : Bool) → r ≡ answerOf (said y) → y ≡ sub m a b → r ≡ answerOf (subtypeCall standard mode schema t₀ t₁)
+        pub subtype-said : (b : Ty) → wholeType standard t₁ ≡ some b → (r : Answer) (y : Bool) → r ≡ answerOf (said y) → y ≡ sub m a b →
+            r ≡ answerOf (subtypeCall standard mode schema t₀ t₁)
         subtype-said b eb r y p q = p ∙ ap (λ (z : Bool). answerOf (said z)) q ∙ rw (em, es, ea, eb) refl

@@ -48,7 +48,9 @@ module _ (b : List ℕ) (both : leb (length b) 4096 && wholeV 16 b ≡ true) whe
   uid-when : (y : Bool) → y ≡ eqb (kind b) 4 → y ≡ present (asUid (decV 16 b))
   unfolding decV
   uid-when true e = rw (eqb-true (kind b) 4 (sym e)) refl
-  uid-when false e = rw (not-uid (decV 15) b (kind b) (λ z. absurd (let f : _≡_ {A = Bool} false true = e ∙ eq-eqb (kind b) 4 z in let g : _≡_ {A = ℕ} 0 1 = cc in omega arith))) refl
+  uid-when false e =
+      rw (not-uid (decV 15) b (kind b)
+      (λ z. absurd (let f : _≡_ {A = Bool} false true = e ∙ eq-eqb (kind b) 4 z in let g : _≡_ {A = ℕ} 0 1 = cc in omega arith))) refl
 
   by-kind : eqb (kind b) 4 ≡ present (uidOf b)
   by-kind = uid-when (eqb (kind b) 4) refl ∙ rw there refl

@@ -19,11 +19,11 @@ use Rattle.forms.specs.TypeBytes.{whole, dec}
 use Rattle.forms.specs.Laws.Parts.{and-r}
 use Rattle.forms.specs.Laws.Sure.{sure-present, sure-yes}
 use Rattle.forms.specs.Laws.TypeTwin.{whole-type-twin}
-use Rattle.lengths.specs.declared.extents.Extent.{Extent}
-use Rattle.lengths.specs.declared.extents.Extent.the-variants.{Of, Not}
-use Rattle.bounds.specs.Written.{Written}
-use Rattle.lengths.specs.Extents.{cap, extentOf, formOf, Ready}
-use Rattle.lengths.specs.Laws.Extents.{of-ok, not-err, ready}
+use Rattle.writing.specs.declared.form_lengths.FormLength.{FormLength}
+use Rattle.writing.specs.declared.form_lengths.FormLength.the-variants.{Of, Not}
+use Rattle.writing.specs.Written.{Written}
+use Rattle.writing.specs.FormLengths.{cap, formLengthOf, formOf, Ready}
+use Rattle.writing.specs.Laws.FormLengths.{of-ok, not-err, ready}
 use Rattle.validator.specs.declared.answers.Answer.{Answer}
 use Rattle.validator.specs.declared.answers.Answer.the-variants.{Refused, Wrote}
 use Rattle.validator.specs.Answers.{Answered}
@@ -51,7 +51,7 @@ refuses n e = rw e record { answer = refl; result = refl }
 fills : {c : Outcome} {o xs : List ℕ} (t : Ty) (n : ℕ) → c ≡ typed t → length (enc t) ≡ n → xs ≡ over (enc t) o → Answered c o xs (Wrote n)
 fills t n e l q = rw e record { answer = ap Wrote (sym l); result = q }
 
-module _ (r : Result Ty) (o : List ℕ) (c : Outcome) (e : c ≡ writeType standard (length o) r) (x : Extent) (told : x ≡ extentOf enc r) where
+module _ (r : Result Ty) (o : List ℕ) (c : Outcome) (e : c ≡ writeType standard (length o) r) (x : FormLength) (told : x ≡ formLengthOf enc r) where
   pub writes-not : (d : ℕ) → x ≡ Not d → Answered c o o (Refused d)
   writes-not d q = refuses d (e ∙ rw (not-err enc r x d told q) refl)
 
@@ -75,5 +75,6 @@ module _ (r : Result Ty) (o : List ℕ) (c : Outcome) (e : c ≡ writeType stand
       writes xs k w =
           let t = of-type .0 in
           let l : length (enc t) ≡ n = omega (arith, of-type .1 .1, small) in
-          let y : c ≡ typed t = e ∙ ap (writeType standard (length o)) (of-type .1 .0) ∙ rw (le-leb (length (enc t)) (min (length o) 4096) (omega (arith, small))) refl in
+          let y : c ≡ typed t = e ∙ ap (writeType standard (length o)) (of-type .1 .0) ∙
+          rw (le-leb (length (enc t)) (min (length o) 4096) (omega (arith, small))) refl in
           fills t n y l (w .bytes ∙ ap (λ (z : Result Ty). over (formOf enc z) o) (of-type .1 .0))

@@ -1,6 +1,7 @@
+-- `attributes::entity_attribute::entity_attribute` meets its contract. Assumes nothing.
 use native.Mathlib.Omega.{arith}
 use Rattle.schemas.specs.Laws.Finders.{entity-at, entity-not}
-use Rattle.attributes.specs.Laws.EntityAttribute.{no-entity, entity-lacks, entity-sums, entity-has}
+use Rattle.attributes.specs.Laws.EntityAttribute.{entity-lacks, entity-sums, entity-has}
 use borrow.Author.Needs.{needs}
 use Rattle.attributes.proofs.entity_attribute.entity_attribute.Statement.{statement}
 use Rattle.attributes.proofs.entity_attribute.entity_attribute.Tie as tie
@@ -15,19 +16,38 @@ enum-told : tie.Need-enum-told
 enum-told c = search needs
 
 returns : tie.Need-returns
-returns c = no-entity ((c .before .before .before .before) .args .schema .now) ((c .before .before .before .before) .args .name) ((c .before .before .before .before) .args .entity) (entity-not ((c .before .before .before .before) .pre) ((c .before .before .before .before) .args .entity) ((c .before .before) .find-entity .result) ((c .before .before) .find-entity .ensures) (c .enum-told .given .1))
+returns c =
+    let start = c .before .before .before .before in
+    let found = c .before .before .find-entity in
+    entity-not (start .pre) (start .args .entity) (found .result) (found .ensures) (c .enum-told .given .1)
 
-sub-own-attribute : tie.Need-sub-own-attribute
-sub-own-attribute c = omega (arith, (entity-at ((c .before .before .before .before .before) .pre) ((c .before .before .before .before .before) .args .entity) ((c .before .before .before) .find-entity .result) ((c .before .before .before) .find-entity .ensures) ((c .before) .start .given .0 .0) ((c .before) .start .given .0 .1 .0) ((c .before) .start .given .0 .1 .1 .0) ((c .before) .start .given .1)) .body .order, (entity-at ((c .before .before .before .before .before) .pre) ((c .before .before .before .before .before) .args .entity) ((c .before .before .before) .find-entity .result) ((c .before .before .before) .find-entity .ensures) ((c .before) .start .given .0 .0) ((c .before) .start .given .0 .1 .0) ((c .before) .start .given .0 .1 .1 .0) ((c .before) .start .given .1)) .body .inside)
+sub-body : tie.Need-sub-body
+sub-body c =
+    let start = c .before .before .before .before .before in
+    let found = c .before .before .before .find-entity in
+    let given = c .before .start .given in
+    let entry = entity-at (start .pre) (start .args .entity) (found .result) (found .ensures) (given .0 .0) (given .0 .1 .0) (given .0 .1 .1 .0) (given .1) in
+    omega (arith, entry .body .order, entry .body .inside)
 
-part-own-attribute-start : tie.Need-part-own-attribute-start
-part-own-attribute-start c = omega (arith, (entity-at ((c .before .before .before .before .before) .pre) ((c .before .before .before .before .before) .args .entity) ((c .before .before .before) .find-entity .result) ((c .before .before .before) .find-entity .ensures) ((c .before) .start .given .0 .0) ((c .before) .start .given .0 .1 .0) ((c .before) .start .given .0 .1 .1 .0) ((c .before) .start .given .1)) .body .order, (entity-at ((c .before .before .before .before .before) .pre) ((c .before .before .before .before .before) .args .entity) ((c .before .before .before) .find-entity .result) ((c .before .before .before) .find-entity .ensures) ((c .before) .start .given .0 .0) ((c .before) .start .given .0 .1 .0) ((c .before) .start .given .0 .1 .1 .0) ((c .before) .start .given .1)) .body .inside)
+part-body-start : tie.Need-part-body-start
+part-body-start c = sub-body c
 
-part-own-attribute-end : tie.Need-part-own-attribute-end
-part-own-attribute-end c = omega (arith, (entity-at ((c .before .before .before .before .before) .pre) ((c .before .before .before .before .before) .args .entity) ((c .before .before .before) .find-entity .result) ((c .before .before .before) .find-entity .ensures) ((c .before) .start .given .0 .0) ((c .before) .start .given .0 .1 .0) ((c .before) .start .given .0 .1 .1 .0) ((c .before) .start .given .1)) .body .order, (entity-at ((c .before .before .before .before .before) .pre) ((c .before .before .before .before .before) .args .entity) ((c .before .before .before) .find-entity .result) ((c .before .before .before) .find-entity .ensures) ((c .before) .start .given .0 .0) ((c .before) .start .given .0 .1 .0) ((c .before) .start .given .0 .1 .1 .0) ((c .before) .start .given .1)) .body .inside)
+part-body-end : tie.Need-part-body-end
+part-body-end c =
+    let start = c .before .before .before .before .before in
+    let found = c .before .before .before .find-entity in
+    let given = c .before .start .given in
+    let entry = entity-at (start .pre) (start .args .entity) (found .result) (found .ensures) (given .0 .0) (given .0 .1 .0) (given .0 .1 .1 .0) (given .1) in
+    omega (arith, entry .body .order, entry .body .inside)
 
 own-attribute-requires : tie.Need-own-attribute-requires
-own-attribute-requires c κs = (entity-at ((c .before .before .before .before .before .before) .pre) ((c .before .before .before .before .before .before) .args .entity) ((c .before .before .before .before) .find-entity .result) ((c .before .before .before .before) .find-entity .ensures) ((c .before .before) .start .given .0 .0) ((c .before .before) .start .given .0 .1 .0) ((c .before .before) .start .given .0 .1 .1 .0) ((c .before .before) .start .given .1)) .body .good
+own-attribute-requires c κs =
+    let start-step = c .before .before .start in
+    let found = c .before .before .before .before .find-entity in
+    let start = c .before .before .before .before .before .before in
+    let given = start-step .given in
+    let entry = entity-at (start .pre) (start .args .entity) (found .result) (found .ensures) (given .0 .0) (given .0 .1 .0) (given .0 .1 .1 .0) (given .1) in
+    entry .body .good
 
 enum-known-s : tie.Need-enum-known-s
 enum-known-s c = search needs
@@ -35,17 +55,57 @@ enum-known-s c = search needs
 enum-told-2 : tie.Need-enum-told-2
 enum-told-2 c = search needs
 
+shared-slice-read-t17 : tie.Need-shared-slice-read-t17
+shared-slice-read-t17 c =
+    let start-step = c .before .before .before .before .before .before .start in
+    let found = c .before .before .before .before .before .before .before .before .find-entity in
+    let start = c .before .before .before .before .before .before .before .before .before .before in
+    let given = start-step .given in
+    let entry = entity-at (start .pre) (start .args .entity) (found .result) (found .ensures) (given .0 .0) (given .0 .1 .0) (given .0 .1 .1 .0) (given .1) in
+    omega (arith, entry .body .view .some)
+
 returns-2 : tie.Need-returns-2
-returns-2 c = entity-lacks (entity-at ((c .before .before .before .before .before .before .before .before .before) .pre) ((c .before .before .before .before .before .before .before .before .before) .args .entity) ((c .before .before .before .before .before .before .before) .find-entity .result) ((c .before .before .before .before .before .before .before) .find-entity .ensures) ((c .before .before .before .before .before) .start .given .0 .0) ((c .before .before .before .before .before) .start .given .0 .1 .0) ((c .before .before .before .before .before) .start .given .0 .1 .1 .0) ((c .before .before .before .before .before) .start .given .1)) ((c .before .before .before .before .before .before .before .before .before) .args .name) ((c .before .before) .own-attribute .result) ((c .before .before) .own-attribute .ensures .0) (c .enum-told2 .given .1)
+returns-2 c =
+    let own = c .before .before .before .own-attribute in
+    let start-step = c .before .before .before .before .before .before .start in
+    let found = c .before .before .before .before .before .before .before .before .find-entity in
+    let start = c .before .before .before .before .before .before .before .before .before .before in
+    let given = start-step .given in
+    let entry = entity-at (start .pre) (start .args .entity) (found .result) (found .ensures) (given .0 .0) (given .0 .1 .0) (given .0 .1 .1 .0) (given .1) in
+    entity-lacks entry (start .args .name) (own .result) (own .ensures .0) (c .before .enum-told2 .given .1)
 
 add-t13 : tie.Need-add-t13
-add-t13 c = omega (arith, entity-sums (entity-at ((c .before .before .before .before .before .before .before .before .before .before) .pre) ((c .before .before .before .before .before .before .before .before .before .before) .args .entity) ((c .before .before .before .before .before .before .before .before) .find-entity .result) ((c .before .before .before .before .before .before .before .before) .find-entity .ensures) ((c .before .before .before .before .before .before) .start .given .0 .0) ((c .before .before .before .before .before .before) .start .given .0 .1 .0) ((c .before .before .before .before .before .before) .start .given .0 .1 .1 .0) ((c .before .before .before .before .before .before) .start .given .1)) ((c .before .before .before .before .before .before .before .before .before .before) .args .name) ((c .before .before .before) .own-attribute .result) ((c .before .before .before) .own-attribute .ensures .0) ((c .before) .s .given .0 .0) ((c .before) .s .given .0 .1 .0) ((c .before) .s .given .0 .1 .1 .0) ((c .before) .s .given .1) .0)
+add-t13 c =
+    let own = c .before .before .before .own-attribute in
+    let start-step = c .before .before .before .before .before .before .start in
+    let found = c .before .before .before .before .before .before .before .before .find-entity in
+    let start = c .before .before .before .before .before .before .before .before .before .before in
+    let given = start-step .given in
+    let entry = entity-at (start .pre) (start .args .entity) (found .result) (found .ensures) (given .0 .0) (given .0 .1 .0) (given .0 .1 .1 .0) (given .1) in
+    let place = c .before .s .given in
+    omega (arith, entity-sums entry (start .args .name) (own .result) (own .ensures .0) (place .0 .0) (place .0 .1 .0) (place .0 .1 .1 .0) (place .1) .0)
 
-add-t16 : tie.Need-add-t16
-add-t16 c = omega (arith, entity-sums (entity-at ((c .before .before .before .before .before .before .before .before .before .before) .pre) ((c .before .before .before .before .before .before .before .before .before .before) .args .entity) ((c .before .before .before .before .before .before .before .before) .find-entity .result) ((c .before .before .before .before .before .before .before .before) .find-entity .ensures) ((c .before .before .before .before .before .before) .start .given .0 .0) ((c .before .before .before .before .before .before) .start .given .0 .1 .0) ((c .before .before .before .before .before .before) .start .given .0 .1 .1 .0) ((c .before .before .before .before .before .before) .start .given .1)) ((c .before .before .before .before .before .before .before .before .before .before) .args .name) ((c .before .before .before) .own-attribute .result) ((c .before .before .before) .own-attribute .ensures .0) ((c .before) .s .given .0 .0) ((c .before) .s .given .0 .1 .0) ((c .before) .s .given .0 .1 .1 .0) ((c .before) .s .given .1) .1)
+add-t19 : tie.Need-add-t19
+add-t19 c =
+    let own = c .before .before .before .own-attribute in
+    let start-step = c .before .before .before .before .before .before .start in
+    let found = c .before .before .before .before .before .before .before .before .find-entity in
+    let start = c .before .before .before .before .before .before .before .before .before .before in
+    let given = start-step .given in
+    let entry = entity-at (start .pre) (start .args .entity) (found .result) (found .ensures) (given .0 .0) (given .0 .1 .0) (given .0 .1 .1 .0) (given .1) in
+    let place = c .before .s .given in
+    omega (arith, entity-sums entry (start .args .name) (own .result) (own .ensures .0) (place .0 .0) (place .0 .1 .0) (place .0 .1 .1 .0) (place .1) .1)
 
 returns-3 : tie.Need-returns-3
-returns-3 c = entity-has (entity-at ((c .before .before .before .before .before .before .before .before .before .before) .pre) ((c .before .before .before .before .before .before .before .before .before .before) .args .entity) ((c .before .before .before .before .before .before .before .before) .find-entity .result) ((c .before .before .before .before .before .before .before .before) .find-entity .ensures) ((c .before .before .before .before .before .before) .start .given .0 .0) ((c .before .before .before .before .before .before) .start .given .0 .1 .0) ((c .before .before .before .before .before .before) .start .given .0 .1 .1 .0) ((c .before .before .before .before .before .before) .start .given .1)) ((c .before .before .before .before .before .before .before .before .before .before) .args .name) ((c .before .before .before) .own-attribute .result) ((c .before .before .before) .own-attribute .ensures .0) ((c .before) .s .given .0 .0) ((c .before) .s .given .0 .1 .0) ((c .before) .s .given .0 .1 .1 .0) ((c .before) .s .given .1)
+returns-3 c =
+    let own = c .before .before .before .own-attribute in
+    let start-step = c .before .before .before .before .before .before .start in
+    let found = c .before .before .before .before .before .before .before .before .find-entity in
+    let start = c .before .before .before .before .before .before .before .before .before .before in
+    let given = start-step .given in
+    let entry = entity-at (start .pre) (start .args .entity) (found .result) (found .ensures) (given .0 .0) (given .0 .1 .0) (given .0 .1 .1 .0) (given .1) in
+    let place = c .before .s .given in
+    entity-has entry (start .args .name) (own .result) (own .ensures .0) (place .0 .0) (place .0 .1 .0) (place .0 .1 .1 .0) (place .1)
 
 pub entity-attribute-spec : {M : Type 1} → statement M
 entity-attribute-spec =
@@ -55,13 +115,14 @@ entity-attribute-spec =
     enum-known-start
     enum-told
     returns
-    sub-own-attribute
-    part-own-attribute-start
-    part-own-attribute-end
+    sub-body
+    part-body-start
+    part-body-end
     own-attribute-requires
     enum-known-s
     enum-told-2
+    shared-slice-read-t17
     returns-2
     add-t13
-    add-t16
+    add-t19
     returns-3)

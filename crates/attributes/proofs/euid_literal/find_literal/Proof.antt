@@ -27,11 +27,28 @@ enum-told c = search needs
 
 -- src/euid_literal.rt:32:13
 returns : tie.Need-returns
-returns c = literal-no-action ((c .before .before .before .before .before .before) .args .schema .now) ((c .before .before .before .before .before .before) .args .entity) ((c .before .before .before .before .before .before) .args .id) ((c .before .before .before .before) .is-action .result) ((c .before .before .before .before) .is-action .ensures) ((c .before .before .before) .if1 .taken) (action-not ((c .before .before .before .before .before .before) .pre) ((c .before .before .before .before .before .before) .args .entity) ((c .before .before .before .before .before .before) .args .id) ((c .before .before) .find-action .result) ((c .before .before) .find-action .ensures) (c .enum-told .given .1))
+returns c =
+    let find-action = c .before .before .find-action in
+    let if1 = c .before .before .before .if1 in
+    let is-action = c .before .before .before .before .is-action in
+    let start = c .before .before .before .before .before .before in
+    let args = start .args in
+    let by-action-not = action-not (start .pre) (args .entity) (args .id) (find-action .result) (find-action .ensures) (c .enum-told .given .1) in
+    literal-no-action (args .schema .now) (args .entity) (args .id) (is-action .result) (is-action .ensures) (if1 .taken) by-action-not
 
 -- src/euid_literal.rt:34:9
 returns-2 : tie.Need-returns-2
-returns-2 c = literal-action ((c .before .before .before .before .before .before .before) .args .schema .now) ((c .before .before .before .before .before .before .before) .args .entity) ((c .before .before .before .before .before .before .before) .args .id) ((c .before .before .before .before .before) .is-action .result) ((c .before .before .before .before .before) .is-action .ensures) ((c .before) .start .given .0 .1 .0) ((c .before) .start .given .0 .1 .1 .0) ((c .before .before .before .before) .if1 .taken) (action-at ((c .before .before .before .before .before .before .before) .pre) ((c .before .before .before .before .before .before .before) .args .entity) ((c .before .before .before .before .before .before .before) .args .id) ((c .before .before .before) .find-action .result) ((c .before .before .before) .find-action .ensures) ((c .before) .start .given .0 .0) ((c .before) .start .given .0 .1 .0) ((c .before) .start .given .0 .1 .1 .0) ((c .before) .start .given .1))
+returns-2 c =
+    let start-step = c .before .start in
+    let find-action = c .before .before .before .find-action in
+    let if1 = c .before .before .before .before .if1 in
+    let is-action = c .before .before .before .before .before .is-action in
+    let start = c .before .before .before .before .before .before .before in
+    let args = start .args in
+    let by-action-at = action-at (start .pre) (args .entity) (args .id) (find-action .result) (find-action .ensures) (start-step .given .0 .0)
+    (start-step .given .0 .1 .0) (start-step .given .0 .1 .1 .0) (start-step .given .1) in
+    literal-action (args .schema .now) (args .entity) (args .id) (is-action .result) (is-action .ensures) (start-step .given .0 .1 .0)
+    (start-step .given .0 .1 .1 .0) (if1 .taken) by-action-at
 
 -- src/euid_literal.rt:36:35
 find-entity-requires : tie.Need-find-entity-requires
@@ -46,11 +63,27 @@ enum-told-3 c = search needs
 
 -- src/euid_literal.rt:37:9
 returns-3 : tie.Need-returns-3
-returns-3 c = literal-no-entity ((c .before .before .before .before .before .before) .args .schema .now) ((c .before .before .before .before .before .before) .args .entity) ((c .before .before .before .before .before .before) .args .id) ((c .before .before .before .before) .is-action .result) ((c .before .before .before .before) .is-action .ensures) ((c .before .before .before) .if1 .left) (entity-not ((c .before .before .before .before .before .before) .pre) ((c .before .before .before .before .before .before) .args .entity) ((c .before .before) .find-entity .result) ((c .before .before) .find-entity .ensures) (c .enum-told3 .given .1))
+returns-3 c =
+    let find-entity = c .before .before .find-entity in
+    let if1 = c .before .before .before .if1 in
+    let is-action = c .before .before .before .before .is-action in
+    let start = c .before .before .before .before .before .before in
+    let args = start .args in
+    let by-entity-not = entity-not (start .pre) (args .entity) (find-entity .result) (find-entity .ensures) (c .enum-told3 .given .1) in
+    literal-no-entity (args .schema .now) (args .entity) (args .id) (is-action .result) (is-action .ensures) (if1 .left) by-entity-not
 
 -- src/euid_literal.rt:26:1
 returns-4 : tie.Need-returns-4
-returns-4 c = literal-entity ((c .before .before .before .before .before .before) .args .schema .now) ((c .before .before .before .before .before .before) .args .entity) ((c .before .before .before .before .before .before) .args .id) ((c .before .before .before .before) .is-action .result) ((c .before .before .before .before) .is-action .ensures) (c .enum-told2 .given .0 .1 .0) (c .enum-told2 .given .0 .1 .1 .0) ((c .before .before .before) .if1 .left) (entity-at ((c .before .before .before .before .before .before) .pre) ((c .before .before .before .before .before .before) .args .entity) ((c .before .before) .find-entity .result) ((c .before .before) .find-entity .ensures) (c .enum-told2 .given .0 .0) (c .enum-told2 .given .0 .1 .0) (c .enum-told2 .given .0 .1 .1 .0) (c .enum-told2 .given .1))
+returns-4 c =
+    let find-entity = c .before .before .find-entity in
+    let if1 = c .before .before .before .if1 in
+    let is-action = c .before .before .before .before .is-action in
+    let start = c .before .before .before .before .before .before in
+    let args = start .args in
+    let by-entity-at = entity-at (start .pre) (args .entity) (find-entity .result) (find-entity .ensures) (c .enum-told2 .given .0 .0)
+    (c .enum-told2 .given .0 .1 .0) (c .enum-told2 .given .0 .1 .1 .0) (c .enum-told2 .given .1) in
+    literal-entity (args .schema .now) (args .entity) (args .id) (is-action .result) (is-action .ensures) (c .enum-told2 .given .0 .1 .0)
+    (c .enum-told2 .given .0 .1 .1 .0) (if1 .left) by-entity-at
 
 pub find-literal-spec : {M : Type 1} → statement M
 find-literal-spec =

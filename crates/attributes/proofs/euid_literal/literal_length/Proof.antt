@@ -15,19 +15,34 @@ enum-known-found c = search needs
 
 -- src/euid_literal.rt:49:24
 sub-body : tie.Need-sub-body
-sub-body c = omega (arith, (standing-body ((c .before .before .before) .args .schema .now) ((c .before .before .before) .args .found) ((c .before) .found .given .0 .0) ((c .before) .found .given .0 .1 .0) ((c .before) .found .given .1) ((c .before .before .before) .pre)) .order, (standing-body ((c .before .before .before) .args .schema .now) ((c .before .before .before) .args .found) ((c .before) .found .given .0 .0) ((c .before) .found .given .0 .1 .0) ((c .before) .found .given .1) ((c .before .before .before) .pre)) .inside)
+sub-body c =
+    let found = c .before .found in
+    let start = c .before .before .before in
+    let args = start .args in
+    let by-standing-body = standing-body (args .schema .now) (args .found) (found .given .0 .0) (found .given .0 .1 .0) (found .given .1) (start .pre) in
+    omega (arith, by-standing-body .order, by-standing-body .inside)
 
 -- src/euid_literal.rt:49:24
 part-body-start : tie.Need-part-body-start
-part-body-start c = omega (arith, (standing-body ((c .before .before .before) .args .schema .now) ((c .before .before .before) .args .found) ((c .before) .found .given .0 .0) ((c .before) .found .given .0 .1 .0) ((c .before) .found .given .1) ((c .before .before .before) .pre)) .order, (standing-body ((c .before .before .before) .args .schema .now) ((c .before .before .before) .args .found) ((c .before) .found .given .0 .0) ((c .before) .found .given .0 .1 .0) ((c .before) .found .given .1) ((c .before .before .before) .pre)) .inside)
+part-body-start c = sub-body c
 
 -- src/euid_literal.rt:49:24
 part-body-end : tie.Need-part-body-end
-part-body-end c = omega (arith, (standing-body ((c .before .before .before) .args .schema .now) ((c .before .before .before) .args .found) ((c .before) .found .given .0 .0) ((c .before) .found .given .0 .1 .0) ((c .before) .found .given .1) ((c .before .before .before) .pre)) .order, (standing-body ((c .before .before .before) .args .schema .now) ((c .before .before .before) .args .found) ((c .before) .found .given .0 .0) ((c .before) .found .given .0 .1 .0) ((c .before) .found .given .1) ((c .before .before .before) .pre)) .inside)
+part-body-end c =
+    let found = c .before .found in
+    let start = c .before .before .before in
+    let args = start .args in
+    let by-standing-body = standing-body (args .schema .now) (args .found) (found .given .0 .0) (found .given .0 .1 .0) (found .given .1) (start .pre) in
+    omega (arith, by-standing-body .order, by-standing-body .inside)
 
 -- src/euid_literal.rt:50:13
 add-result : tie.Need-add-result
-add-result c = omega (arith, (standing-body ((c .before .before .before .before) .args .schema .now) ((c .before .before .before .before) .args .found) ((c .before .before) .found .given .0 .0) ((c .before .before) .found .given .0 .1 .0) ((c .before .before) .found .given .1) ((c .before .before .before .before) .pre)) .few)
+add-result c =
+    let found = c .before .before .found in
+    let start = c .before .before .before .before in
+    let by-standing-body = standing-body (start .args .schema .now) (start .args .found) (found .given .0 .0) (found .given .0 .1 .0) (found .given .1)
+    (start .pre) in
+    omega (arith, by-standing-body .few)
 
 -- src/euid_literal.rt:52:28
 enum-told : tie.Need-enum-told
@@ -39,7 +54,14 @@ enum-told-2 c = search needs
 
 -- src/euid_literal.rt:43:1
 returns : tie.Need-returns
-returns c = let l = ap literalLength ((c .before .before) .found .given .1) in omega (arith, l, length-part ((c .before .before) .found .given .0 .0) ((c .before .before) .found .given .0 .1 .0) ((c .before .before .before .before) .args .schema .now) ((standing-body ((c .before .before .before .before) .args .schema .now) ((c .before .before .before .before) .args .found) ((c .before .before) .found .given .0 .0) ((c .before .before) .found .given .0 .1 .0) ((c .before .before) .found .given .1) ((c .before .before .before .before) .pre)) .inside))
+returns c =
+    let found = c .before .before .found in
+    let start = c .before .before .before .before in
+    let l = ap literalLength (found .given .1) in
+    let args = start .args in
+    let by-standing-body = standing-body (args .schema .now) (args .found) (found .given .0 .0) (found .given .0 .1 .0) (found .given .1) (start .pre) in
+    let by-length-part = length-part (found .given .0 .0) (found .given .0 .1 .0) (args .schema .now) (by-standing-body .inside) in
+    omega (arith, l, by-length-part)
 
 -- src/euid_literal.rt:43:1
 returns-2 : tie.Need-returns-2

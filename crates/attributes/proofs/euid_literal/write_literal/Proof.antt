@@ -9,9 +9,9 @@ use Rattle.attributes.proofs.euid_literal.write_literal.Statement.{stat
 use Rattle.attributes.proofs.euid_literal.write_literal.Tie as tie
 use Rattle.attributes.proofs.euid_literal.write_literal.Reads as reads
 use Rattle.attributes.proofs.euid_literal.write_literal.Lts as lts
-use Rattle.bounds.proofs.writers.copy.Reads as copy-reads
-use Rattle.bounds.proofs.writers.put_entity.Reads as put-entity-reads
-use Rattle.bounds.proofs.writers.put_kind.Reads as put-kind-reads
+use Rattle.writing.proofs.writers.copy.Reads as copy-reads
+use Rattle.writing.proofs.writers.put_entity.Reads as put-entity-reads
+use Rattle.writing.proofs.writers.put_kind.Reads as put-kind-reads
 
 -- src/euid_literal.rt:65:25
 enum-known-found : tie.Need-enum-known-found
@@ -19,27 +19,57 @@ enum-known-found c = search needs
 
 -- src/euid_literal.rt:66:24
 sub-body : tie.Need-sub-body
-sub-body c = omega (arith, (standing-body ((c .before .before .before .before .before) .args .schema .now) ((c .before .before .before .before .before) .args .found) ((c .before) .found .given .0 .0) ((c .before) .found .given .0 .1 .0) ((c .before) .found .given .1) ((c .before .before .before .before .before) .pre .0)) .order, (standing-body ((c .before .before .before .before .before) .args .schema .now) ((c .before .before .before .before .before) .args .found) ((c .before) .found .given .0 .0) ((c .before) .found .given .0 .1 .0) ((c .before) .found .given .1) ((c .before .before .before .before .before) .pre .0)) .inside)
+sub-body c =
+    let found = c .before .found in
+    let start = c .before .before .before .before .before in
+    let args = start .args in
+    let by-standing-body = standing-body (args .schema .now) (args .found) (found .given .0 .0) (found .given .0 .1 .0) (found .given .1) (start .pre .0) in
+    omega (arith, by-standing-body .order, by-standing-body .inside)
 
 -- src/euid_literal.rt:66:24
 part-body-start : tie.Need-part-body-start
-part-body-start c = omega (arith, (standing-body ((c .before .before .before .before .before) .args .schema .now) ((c .before .before .before .before .before) .args .found) ((c .before) .found .given .0 .0) ((c .before) .found .given .0 .1 .0) ((c .before) .found .given .1) ((c .before .before .before .before .before) .pre .0)) .order, (standing-body ((c .before .before .before .before .before) .args .schema .now) ((c .before .before .before .before .before) .args .found) ((c .before) .found .given .0 .0) ((c .before) .found .given .0 .1 .0) ((c .before) .found .given .1) ((c .before .before .before .before .before) .pre .0)) .inside)
+part-body-start c = sub-body c
 
 -- src/euid_literal.rt:66:24
 part-body-end : tie.Need-part-body-end
-part-body-end c = omega (arith, (standing-body ((c .before .before .before .before .before) .args .schema .now) ((c .before .before .before .before .before) .args .found) ((c .before) .found .given .0 .0) ((c .before) .found .given .0 .1 .0) ((c .before) .found .given .1) ((c .before .before .before .before .before) .pre .0)) .order, (standing-body ((c .before .before .before .before .before) .args .schema .now) ((c .before .before .before .before .before) .args .found) ((c .before) .found .given .0 .0) ((c .before) .found .given .0 .1 .0) ((c .before) .found .given .1) ((c .before .before .before .before .before) .pre .0)) .inside)
+part-body-end c =
+    let found = c .before .found in
+    let start = c .before .before .before .before .before in
+    let args = start .args in
+    let by-standing-body = standing-body (args .schema .now) (args .found) (found .given .0 .0) (found .given .0 .1 .0) (found .given .1) (start .pre .0) in
+    omega (arith, by-standing-body .order, by-standing-body .inside)
 
 -- src/euid_literal.rt:67:13
 put-kind-requires : tie.Need-put-kind-requires
-put-kind-requires c κs = (omega (arith, (action-room ((c .before .before .before .before .before .before .before) .args .schema .now) ((c .before .before .before) .found .given .0 .0) ((c .before .before .before) .found .given .0 .1 .0) (Bytes-index ((c .before .before .before .before .before .before .before) .args .schema .now) (λ i. omega (arith, (c .before .before .before .before .before .before) .shared-slice-known .given i))) (standing-body ((c .before .before .before .before .before .before .before) .args .schema .now) ((c .before .before .before .before .before .before .before) .args .found) ((c .before .before .before) .found .given .0 .0) ((c .before .before .before) .found .given .0 .1 .0) ((c .before .before .before) .found .given .1) ((c .before .before .before .before .before .before .before) .pre .0)) ((c .before .before .before .before .before .before .before) .args .found) ((c .before .before .before) .found .given .1) ((c .before .before .before .before .before .before .before) .args .out .now) ((c .before .before .before .before .before .before .before) .pre .1 .1)) .0, (action-room ((c .before .before .before .before .before .before .before) .args .schema .now) ((c .before .before .before) .found .given .0 .0) ((c .before .before .before) .found .given .0 .1 .0) (Bytes-index ((c .before .before .before .before .before .before .before) .args .schema .now) (λ i. omega (arith, (c .before .before .before .before .before .before) .shared-slice-known .given i))) (standing-body ((c .before .before .before .before .before .before .before) .args .schema .now) ((c .before .before .before .before .before .before .before) .args .found) ((c .before .before .before) .found .given .0 .0) ((c .before .before .before) .found .given .0 .1 .0) ((c .before .before .before) .found .given .1) ((c .before .before .before .before .before .before .before) .pre .0)) ((c .before .before .before .before .before .before .before) .args .found) ((c .before .before .before) .found .given .1) ((c .before .before .before .before .before .before .before) .args .out .now) ((c .before .before .before .before .before .before .before) .pre .1 .1)) .1), (c .before .before .before .before .before .before .before) .pre .1 .0)
+put-kind-requires c κs =
+    let found = c .before .before .before .found in
+    let shared-slice-known = c .before .before .before .before .before .before .shared-slice-known in
+    let start = c .before .before .before .before .before .before .before in
+    let pre = start .pre in
+    let args = start .args in
+    let by-Bytes-index = Bytes-index (args .schema .now) (λ i. omega (arith, shared-slice-known .given i)) in
+    let by-standing-body = standing-body (args .schema .now) (args .found) (found .given .0 .0) (found .given .0 .1 .0) (found .given .1) (pre .0) in
+    let by-action-room = action-room (args .schema .now) (found .given .0 .0) (found .given .0 .1 .0) by-Bytes-index by-standing-body (args .found)
+    (found .given .1) (args .out .now) (pre .1 .1) in
+    (omega (arith, by-action-room .0, by-action-room .1), pre .1 .0)
 
 -- src/euid_literal.rt:68:18
 sub-copy : tie.Need-sub-copy
-sub-copy c = omega (arith, (action-room ((c .before .before .before .before .before .before .before .before .before .before) .args .schema .now) ((c .before .before .before .before .before .before) .found .given .0 .0) ((c .before .before .before .before .before .before) .found .given .0 .1 .0) (Bytes-index ((c .before .before .before .before .before .before .before .before .before .before) .args .schema .now) (λ i. omega (arith, (c .before .before .before .before .before .before .before .before .before) .shared-slice-known .given i))) (standing-body ((c .before .before .before .before .before .before .before .before .before .before) .args .schema .now) ((c .before .before .before .before .before .before .before .before .before .before) .args .found) ((c .before .before .before .before .before .before) .found .given .0 .0) ((c .before .before .before .before .before .before) .found .given .0 .1 .0) ((c .before .before .before .before .before .before) .found .given .1) ((c .before .before .before .before .before .before .before .before .before .before) .pre .0)) ((c .before .before .before .before .before .before .before .before .before .before) .args .found) ((c .before .before .before .before .before .before) .found .given .1) ((c .before .before .before .before .before .before .before .before .before .before) .args .out .now) ((c .before .before .before .before .before .before .before .before .before .before) .pre .1 .1)) .1, (action-room ((c .before .before .before .before .before .before .before .before .before .before) .args .schema .now) ((c .before .before .before .before .before .before) .found .given .0 .0) ((c .before .before .before .before .before .before) .found .given .0 .1 .0) (Bytes-index ((c .before .before .before .before .before .before .before .before .before .before) .args .schema .now) (λ i. omega (arith, (c .before .before .before .before .before .before .before .before .before) .shared-slice-known .given i))) (standing-body ((c .before .before .before .before .before .before .before .before .before .before) .args .schema .now) ((c .before .before .before .before .before .before .before .before .before .before) .args .found) ((c .before .before .before .before .before .before) .found .given .0 .0) ((c .before .before .before .before .before .before) .found .given .0 .1 .0) ((c .before .before .before .before .before .before) .found .given .1) ((c .before .before .before .before .before .before .before .before .before .before) .pre .0)) ((c .before .before .before .before .before .before .before .before .before .before) .args .found) ((c .before .before .before .before .before .before) .found .given .1) ((c .before .before .before .before .before .before .before .before .before .before) .args .out .now) ((c .before .before .before .before .before .before .before .before .before .before) .pre .1 .1)) .2)
+sub-copy c =
+    let found = c .before .before .before .before .before .before .found in
+    let shared-slice-known = c .before .before .before .before .before .before .before .before .before .shared-slice-known in
+    let start = c .before .before .before .before .before .before .before .before .before .before in
+    let pre = start .pre in
+    let args = start .args in
+    let by-Bytes-index = Bytes-index (args .schema .now) (λ i. omega (arith, shared-slice-known .given i)) in
+    let by-standing-body = standing-body (args .schema .now) (args .found) (found .given .0 .0) (found .given .0 .1 .0) (found .given .1) (pre .0) in
+    let by-action-room = action-room (args .schema .now) (found .given .0 .0) (found .given .0 .1 .0) by-Bytes-index by-standing-body (args .found)
+    (found .given .1) (args .out .now) (pre .1 .1) in
+    omega (arith, by-action-room .1, by-action-room .2)
 
 -- src/euid_literal.rt:68:18
 part-copy-start : tie.Need-part-copy-start
-part-copy-start c = omega (arith, (action-room ((c .before .before .before .before .before .before .before .before .before .before) .args .schema .now) ((c .before .before .before .before .before .before) .found .given .0 .0) ((c .before .before .before .before .before .before) .found .given .0 .1 .0) (Bytes-index ((c .before .before .before .before .before .before .before .before .before .before) .args .schema .now) (λ i. omega (arith, (c .before .before .before .before .before .before .before .before .before) .shared-slice-known .given i))) (standing-body ((c .before .before .before .before .before .before .before .before .before .before) .args .schema .now) ((c .before .before .before .before .before .before .before .before .before .before) .args .found) ((c .before .before .before .before .before .before) .found .given .0 .0) ((c .before .before .before .before .before .before) .found .given .0 .1 .0) ((c .before .before .before .before .before .before) .found .given .1) ((c .before .before .before .before .before .before .before .before .before .before) .pre .0)) ((c .before .before .before .before .before .before .before .before .before .before) .args .found) ((c .before .before .before .before .before .before) .found .given .1) ((c .before .before .before .before .before .before .before .before .before .before) .args .out .now) ((c .before .before .before .before .before .before .before .before .before .before) .pre .1 .1)) .1, (action-room ((c .before .before .before .before .before .before .before .before .before .before) .args .schema .now) ((c .before .before .before .before .before .before) .found .given .0 .0) ((c .before .before .before .before .before .before) .found .given .0 .1 .0) (Bytes-index ((c .before .before .before .before .before .before .before .before .before .before) .args .schema .now) (λ i. omega (arith, (c .before .before .before .before .before .before .before .before .before) .shared-slice-known .given i))) (standing-body ((c .before .before .before .before .before .before .before .before .before .before) .args .schema .now) ((c .before .before .before .before .before .before .before .before .before .before) .args .found) ((c .before .before .before .before .before .before) .found .given .0 .0) ((c .before .before .before .before .before .before) .found .given .0 .1 .0) ((c .before .before .before .before .before .before) .found .given .1) ((c .before .before .before .before .before .before .before .before .before .before) .pre .0)) ((c .before .before .before .before .before .before .before .before .before .before) .args .found) ((c .before .before .before .before .before .before) .found .given .1) ((c .before .before .before .before .before .before .before .before .before .before) .args .out .now) ((c .before .before .before .before .before .before .before .before .before .before) .pre .1 .1)) .2)
+part-copy-start c = sub-copy c
 
 -- src/euid_literal.rt:68:18
 part-copy-end : tie.Need-part-copy-end
@@ -47,11 +77,21 @@ part-copy-end c = search needs
 
 -- src/euid_literal.rt:68:30
 sub-copy-2 : tie.Need-sub-copy-2
-sub-copy-2 c = omega (arith, (copy-room ((c .before .before .before .before .before .before .before .before .before .before .before) .args .schema .now) ((c .before .before .before .before .before .before .before) .found .given .0 .0) ((c .before .before .before .before .before .before .before) .found .given .0 .1 .0) (Bytes-index ((c .before .before .before .before .before .before .before .before .before .before .before) .args .schema .now) (λ i. omega (arith, (c .before .before .before .before .before .before .before .before .before .before) .shared-slice-known .given i))) (standing-body ((c .before .before .before .before .before .before .before .before .before .before .before) .args .schema .now) ((c .before .before .before .before .before .before .before .before .before .before .before) .args .found) ((c .before .before .before .before .before .before .before) .found .given .0 .0) ((c .before .before .before .before .before .before .before) .found .given .0 .1 .0) ((c .before .before .before .before .before .before .before) .found .given .1) ((c .before .before .before .before .before .before .before .before .before .before .before) .pre .0)) ((c .before .before .before .before .before .before .before .before .before .before .before) .args .entity) ((c .before .before .before .before .before .before .before .before .before .before .before) .args .found) ((c .before .before .before .before .before .before .before) .found .given .1) ((c .before .before .before .before .before .before .before .before .before .before .before) .args .out .now) ((c .before .before .before) .put-kind .last .0) ((c .before .before .before .before .before .before .before .before .before .before .before) .pre .1 .1) ((c .before .before .before) .put-kind .ensures)) .0)
+sub-copy-2 c =
+    let put-kind = c .before .before .before .put-kind in
+    let found = c .before .before .before .before .before .before .before .found in
+    let shared-slice-known = c .before .before .before .before .before .before .before .before .before .before .shared-slice-known in
+    let start = c .before .before .before .before .before .before .before .before .before .before .before in
+    let args = start .args in
+    let by-Bytes-index = Bytes-index (args .schema .now) (λ i. omega (arith, shared-slice-known .given i)) in
+    let by-standing-body = standing-body (args .schema .now) (args .found) (found .given .0 .0) (found .given .0 .1 .0) (found .given .1) (start .pre .0) in
+    let by-copy-room = copy-room (args .schema .now) (found .given .0 .0) (found .given .0 .1 .0) by-Bytes-index by-standing-body (args .entity) (args .found)
+    (found .given .1) (args .out .now) (put-kind .last .0) (start .pre .1 .1) (put-kind .ensures) in
+    omega (arith, by-copy-room .0)
 
 -- src/euid_literal.rt:68:30
 part-copy-start-2 : tie.Need-part-copy-start-2
-part-copy-start-2 c = omega (arith, (copy-room ((c .before .before .before .before .before .before .before .before .before .before .before) .args .schema .now) ((c .before .before .before .before .before .before .before) .found .given .0 .0) ((c .before .before .before .before .before .before .before) .found .given .0 .1 .0) (Bytes-index ((c .before .before .before .before .before .before .before .before .before .before .before) .args .schema .now) (λ i. omega (arith, (c .before .before .before .before .before .before .before .before .before .before) .shared-slice-known .given i))) (standing-body ((c .before .before .before .before .before .before .before .before .before .before .before) .args .schema .now) ((c .before .before .before .before .before .before .before .before .before .before .before) .args .found) ((c .before .before .before .before .before .before .before) .found .given .0 .0) ((c .before .before .before .before .before .before .before) .found .given .0 .1 .0) ((c .before .before .before .before .before .before .before) .found .given .1) ((c .before .before .before .before .before .before .before .before .before .before .before) .pre .0)) ((c .before .before .before .before .before .before .before .before .before .before .before) .args .entity) ((c .before .before .before .before .before .before .before .before .before .before .before) .args .found) ((c .before .before .before .before .before .before .before) .found .given .1) ((c .before .before .before .before .before .before .before .before .before .before .before) .args .out .now) ((c .before .before .before) .put-kind .last .0) ((c .before .before .before .before .before .before .before .before .before .before .before) .pre .1 .1) ((c .before .before .before) .put-kind .ensures)) .0)
+part-copy-start-2 c = sub-copy-2 c
 
 -- src/euid_literal.rt:68:30
 part-copy-end-2 : tie.Need-part-copy-end-2
@@ -59,7 +99,16 @@ part-copy-end-2 c = search needs
 
 -- src/euid_literal.rt:68:13
 copy-requires : tie.Need-copy-requires
-copy-requires c κs = (copy-room ((c .before .before .before .before .before .before .before .before .before .before .before .before) .args .schema .now) ((c .before .before .before .before .before .before .before .before) .found .given .0 .0) ((c .before .before .before .before .before .before .before .before) .found .given .0 .1 .0) (Bytes-index ((c .before .before .before .before .before .before .before .before .before .before .before .before) .args .schema .now) (λ i. omega (arith, (c .before .before .before .before .before .before .before .before .before .before .before) .shared-slice-known .given i))) (standing-body ((c .before .before .before .before .before .before .before .before .before .before .before .before) .args .schema .now) ((c .before .before .before .before .before .before .before .before .before .before .before .before) .args .found) ((c .before .before .before .before .before .before .before .before) .found .given .0 .0) ((c .before .before .before .before .before .before .before .before) .found .given .0 .1 .0) ((c .before .before .before .before .before .before .before .before) .found .given .1) ((c .before .before .before .before .before .before .before .before .before .before .before .before) .pre .0)) ((c .before .before .before .before .before .before .before .before .before .before .before .before) .args .entity) ((c .before .before .before .before .before .before .before .before .before .before .before .before) .args .found) ((c .before .before .before .before .before .before .before .before) .found .given .1) ((c .before .before .before .before .before .before .before .before .before .before .before .before) .args .out .now) ((c .before .before .before .before) .put-kind .last .0) ((c .before .before .before .before .before .before .before .before .before .before .before .before) .pre .1 .1) ((c .before .before .before .before) .put-kind .ensures)) .1
+copy-requires c κs =
+    let put-kind = c .before .before .before .before .put-kind in
+    let found = c .before .before .before .before .before .before .before .before .found in
+    let shared-slice-known = c .before .before .before .before .before .before .before .before .before .before .before .shared-slice-known in
+    let start = c .before .before .before .before .before .before .before .before .before .before .before .before in
+    let args = start .args in
+    let by-Bytes-index = Bytes-index (args .schema .now) (λ i. omega (arith, shared-slice-known .given i)) in
+    let by-standing-body = standing-body (args .schema .now) (args .found) (found .given .0 .0) (found .given .0 .1 .0) (found .given .1) (start .pre .0) in
+    copy-room (args .schema .now) (found .given .0 .0) (found .given .0 .1 .0) by-Bytes-index by-standing-body (args .entity) (args .found) (found .given .1)
+    (args .out .now) (put-kind .last .0) (start .pre .1 .1) (put-kind .ensures) .1
 
 -- src/euid_literal.rt:70:39
 enum-told : tie.Need-enum-told
@@ -67,7 +116,12 @@ enum-told c = search needs
 
 -- src/euid_literal.rt:70:28
 put-entity-requires : tie.Need-put-entity-requires
-put-entity-requires c κs = (let l = ap literalLength ((c .before) .enum-told .given .1) in omega (arith, l, (c .before .before .before .before .before) .pre .1 .1), (c .before .before .before .before .before) .pre .1 .0)
+put-entity-requires c κs =
+    let pre = c .before .before .before .before .before .pre in (
+      let l = ap literalLength (c .before .enum-told .given .1) in
+          omega (arith, l, pre .1 .1),
+      pre .1 .0,
+    )
 
 enum-told-2 : tie.Need-enum-told-2
 enum-told-2 c = search needs
@@ -78,7 +132,18 @@ same-length c = search needs
 
 -- src/euid_literal.rt:58:1
 returns : tie.Need-returns
-returns c = action-written ((c .before .before .before .before .before .before .before .before .before .before .before .before .before .before .before) .args .schema .now) ((c .before .before .before .before .before .before .before .before .before .before .before) .found .given .0 .0) ((c .before .before .before .before .before .before .before .before .before .before .before) .found .given .0 .1 .0) (Bytes-index ((c .before .before .before .before .before .before .before .before .before .before .before .before .before .before .before) .args .schema .now) (λ i. omega (arith, (c .before .before .before .before .before .before .before .before .before .before .before .before .before .before) .shared-slice-known .given i))) (standing-body ((c .before .before .before .before .before .before .before .before .before .before .before .before .before .before .before) .args .schema .now) ((c .before .before .before .before .before .before .before .before .before .before .before .before .before .before .before) .args .found) ((c .before .before .before .before .before .before .before .before .before .before .before) .found .given .0 .0) ((c .before .before .before .before .before .before .before .before .before .before .before) .found .given .0 .1 .0) ((c .before .before .before .before .before .before .before .before .before .before .before) .found .given .1) ((c .before .before .before .before .before .before .before .before .before .before .before .before .before .before .before) .pre .0)) ((c .before .before .before .before .before .before .before .before .before .before .before .before .before .before .before) .args .entity) ((c .before .before .before .before .before .before .before .before .before .before .before .before .before .before .before) .args .found) ((c .before .before .before .before .before .before .before .before .before .before .before) .found .given .1) ((c .before .before .before .before .before .before .before .before .before .before .before .before .before .before .before) .args .out .now) ((c .before .before .before .before .before .before .before) .put-kind .last .0) ((c .before .before) .copy .last .1 .0) ((c .before .before .before .before .before .before .before) .put-kind .ensures) ((c .before .before) .copy .ensures) ((c .before .before .before .before .before .before .before .before .before .before .before .before .before .before .before) .pre .1 .1)
+returns c =
+    let copy = c .before .before .copy in
+    let put-kind = c .before .before .before .before .before .before .before .put-kind in
+    let after-found = c .before .before .before .before .before .before .before .before .before .before .before in
+    let found = after-found .found in
+    let shared-slice-known = after-found .before .before .before .shared-slice-known in
+    let start = after-found .before .before .before .before in
+    let args = start .args in
+    let by-Bytes-index = Bytes-index (args .schema .now) (λ i. omega (arith, shared-slice-known .given i)) in
+    let by-standing-body = standing-body (args .schema .now) (args .found) (found .given .0 .0) (found .given .0 .1 .0) (found .given .1) (start .pre .0) in
+    action-written (args .schema .now) (found .given .0 .0) (found .given .0 .1 .0) by-Bytes-index by-standing-body (args .entity) (args .found)
+    (found .given .1) (args .out .now) (put-kind .last .0) (copy .last .1 .0) (put-kind .ensures) (copy .ensures) (start .pre .1 .1)
 
 -- src/euid_literal.rt:58:1
 same-length-2 : tie.Need-same-length-2
@@ -86,7 +151,11 @@ same-length-2 c = search needs
 
 -- src/euid_literal.rt:58:1
 returns-2 : tie.Need-returns-2
-returns-2 c = entity-written ((c .before .before .before .before .before .before .before .before) .args .schema .now) ((c .before .before .before .before .before .before .before .before) .args .entity) ((c .before .before .before .before .before .before .before .before) .args .found) ((c .before .before .before .before) .enum-told .given .1) ((c .before .before .before .before .before .before .before .before) .args .out .now) ((c .before .before) .put-entity .last .0) ((c .before .before) .put-entity .ensures)
+returns-2 c =
+    let put-entity = c .before .before .put-entity in
+    let enum-told-step = c .before .before .before .before .enum-told in
+    let args = c .before .before .before .before .before .before .before .before .args in
+    entity-written (args .schema .now) (args .entity) (args .found) (enum-told-step .given .1) (args .out .now) (put-entity .last .0) (put-entity .ensures)
 
 -- src/euid_literal.rt:58:1
 returns-3 : tie.Need-returns-3

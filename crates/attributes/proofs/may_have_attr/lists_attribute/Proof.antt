@@ -22,11 +22,19 @@ enum-told-2 c = search needs
 
 -- src/may_have_attr.rt:32:9
 returns : tie.Need-returns
-returns c = placed-absent ((c .before .before .before .before) .args .levels - 1) ((c .before .before .before .before) .args .t .now) (ownAttr ((c .before .before .before .before) .args .name) (dec ((c .before .before .before .before) .args .levels) ((c .before .before .before .before) .args .t .now))) ((c .before .before) .own-attribute .result) ((c .before .before) .own-attribute .ensures .0) (c .enum-told2 .given .1)
+returns c =
+    let own-attribute = c .before .before .own-attribute in
+    let args = c .before .before .before .before .args in
+    placed-absent (args .levels - 1) (args .t .now) (ownAttr (args .name) (dec (args .levels) (args .t .now))) (own-attribute .result)
+    (own-attribute .ensures .0) (c .enum-told2 .given .1)
 
 -- src/may_have_attr.rt:27:1
 returns-2 : tie.Need-returns-2
-returns-2 c = placed-present ((c .before .before .before .before) .args .levels - 1) ((c .before .before .before .before) .args .t .now) (ownAttr ((c .before .before .before .before) .args .name) (dec ((c .before .before .before .before) .args .levels) ((c .before .before .before .before) .args .t .now))) ((c .before .before) .own-attribute .result) ((c .before .before) .own-attribute .ensures .0) (c .enum-told .given .0 .0) (c .enum-told .given .0 .1 .0) (c .enum-told .given .0 .1 .1 .0) (c .enum-told .given .1)
+returns-2 c =
+    let own-attribute = c .before .before .own-attribute in
+    let args = c .before .before .before .before .args in
+    placed-present (args .levels - 1) (args .t .now) (ownAttr (args .name) (dec (args .levels) (args .t .now))) (own-attribute .result)
+    (own-attribute .ensures .0) (c .enum-told .given .0 .0) (c .enum-told .given .0 .1 .0) (c .enum-told .given .0 .1 .1 .0) (c .enum-told .given .1)
 
 pub lists-attribute-spec : {M : Type 1} → statement M
 lists-attribute-spec =

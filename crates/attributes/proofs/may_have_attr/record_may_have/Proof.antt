@@ -10,11 +10,16 @@ use Rattle.attributes.proofs.may_have_attr.lists_attribute.Reads as lis
 
 -- src/may_have_attr.rt:43:8
 shared-slice-read-if1 : tie.Need-shared-slice-read-if1
-shared-slice-read-if1 c = omega (arith, is-record ((c .before .before) .args .levels) ((c .before .before) .args .t .now) ((c .before .before) .pre .0) ((c .before .before) .pre .1) .some)
+shared-slice-read-if1 c =
+    let start = c .before .before in
+    omega (arith, is-record (start .args .levels) (start .args .t .now) (start .pre .0) (start .pre .1) .some)
 
 -- src/may_have_attr.rt:44:9
 returns : tie.Need-returns
-returns c = open-may-have ((c .before .before .before) .args .name) ((c .before .before .before) .args .levels) ((c .before .before .before) .args .t .now) ((c .before .before .before) .pre .0) ((c .before .before .before) .pre .1) (c .if1 .taken)
+returns c =
+    let start = c .before .before .before in
+    let args = start .args in
+    open-may-have (args .name) (args .levels) (args .t .now) (start .pre .0) (start .pre .1) (c .if1 .taken)
 
 -- src/may_have_attr.rt:46:5
 lists-attribute-requires : tie.Need-lists-attribute-requires
@@ -22,7 +27,11 @@ lists-attribute-requires c κs = search needs
 
 -- src/may_have_attr.rt:38:1
 returns-2 : tie.Need-returns-2
-returns-2 c = closed-may-have ((c .before .before .before .before) .args .name) ((c .before .before .before .before) .args .levels) ((c .before .before .before .before) .args .t .now) ((c .before .before .before .before) .pre .0) ((c .before .before .before .before) .pre .1) (c .lists-attribute .result) ((c .before) .if1 .left) (c .lists-attribute .ensures)
+returns-2 c =
+    let start = c .before .before .before .before in
+    let args = start .args in
+    closed-may-have (args .name) (args .levels) (args .t .now) (start .pre .0) (start .pre .1) (c .lists-attribute .result) (c .before .if1 .left)
+    (c .lists-attribute .ensures)
 
 pub record-may-have-spec : {M : Type 1} → statement M
 record-may-have-spec =

@@ -44,7 +44,10 @@ part-bs-end : tie.Need-part-bs-end
 part-bs-end c = search needs
 
 find-requires : tie.Need-find-requires
-find-requires c κs = listed-laid ((c .before .before .before .before) .pre) ((c .before .before) .u16-at .result) ((c .before .before) .u16-at .ensures .0)
+find-requires c κs =
+    let u16-at = c .before .before .u16-at in
+    let pre = c .before .before .before .before .pre in
+    listed-laid pre (u16-at .result) (u16-at .ensures .0)
 
 enum-known-i : tie.Need-enum-known-i
 enum-known-i c = search needs
@@ -54,93 +57,95 @@ enum-told c = search needs
 
 returns : tie.Need-returns
 returns c =
-    let start = c .before .before .before .before .before .before .before in
-    let count = c .before .before .before .before .before in
     let looked = c .before .before in
-    place-nothing (start .pre) (count .u16-at .result) (count .u16-at .ensures .0) (start .args .name) (looked .find .result) (looked .find .ensures) (c .enum-told .given .1)
+    let count = looked .before .before .before in
+    let start = count .before .before in
+    place-nothing (start .pre) (count .u16-at .result) (count .u16-at .ensures .0) (start .args .name) (looked .find .result) (looked .find .ensures)
+    (c .enum-told .given .1)
 
 mul-e : tie.Need-mul-e
 mul-e c =
-    let start = c .before .before .before .before .before .before .before .before in
-    let count = c .before .before .before .before .before .before in
-    let looked = c .before .before .before in
     let at = c .before in
-    let p = place-found (start .pre) (count .u16-at .result) (count .u16-at .ensures .0) (start .args .name) (looked .find .result) (looked .find .ensures) (at .i .given .0 .0) (at .i .given .0 .1 .0) (at .i .given .1) in
+    let looked = at .before .before in
+    let count = looked .before .before .before in
+    let start = count .before .before in
+    let p = place-found (start .pre) (count .u16-at .result) (count .u16-at .ensures .0) (start .args .name) (looked .find .result) (looked .find .ensures)
+    (at .i .given .0 .0) (at .i .given .0 .1 .0) (at .i .given .1) in
     let f = listed-fit (start .pre) (count .u16-at .result) (count .u16-at .ensures .0) in
     omega (arith, p .few)
 
 sub-e : tie.Need-sub-e
 sub-e c =
-    let start = c .before .before .before .before .before .before .before .before in
-    let count = c .before .before .before .before .before .before in
-    let looked = c .before .before .before in
     let at = c .before in
-    let p = place-found (start .pre) (count .u16-at .result) (count .u16-at .ensures .0) (start .args .name) (looked .find .result) (looked .find .ensures) (at .i .given .0 .0) (at .i .given .0 .1 .0) (at .i .given .1) in
+    let looked = at .before .before in
+    let count = looked .before .before .before in
+    let start = count .before .before in
+    let args = start .args in
+    let p = place-found (start .pre) (count .u16-at .result) (count .u16-at .ensures .0) (args .name) (looked .find .result) (looked .find .ensures)
+    (at .i .given .0 .0) (at .i .given .0 .1 .0) (at .i .given .1) in
     let f = listed-fit (start .pre) (count .u16-at .result) (count .u16-at .ensures .0) in
-    omega (arith, p .few, length-part (start .args .at + 2) (start .args .at + 2 + 5 * count .u16-at .result) (start .args .t .now) f)
+    omega (arith, p .few, length-part (args .at + 2) (args .at + 2 + 5 * count .u16-at .result) (args .t .now) f)
 
 part-e-start : tie.Need-part-e-start
-part-e-start c =
-    let start = c .before .before .before .before .before .before .before .before in
-    let count = c .before .before .before .before .before .before in
-    let looked = c .before .before .before in
-    let at = c .before in
-    let p = place-found (start .pre) (count .u16-at .result) (count .u16-at .ensures .0) (start .args .name) (looked .find .result) (looked .find .ensures) (at .i .given .0 .0) (at .i .given .0 .1 .0) (at .i .given .1) in
-    let f = listed-fit (start .pre) (count .u16-at .result) (count .u16-at .ensures .0) in
-    omega (arith, p .few, length-part (start .args .at + 2) (start .args .at + 2 + 5 * count .u16-at .result) (start .args .t .now) f)
+part-e-start c = sub-e c
 
 part-e-end : tie.Need-part-e-end
 part-e-end c = search needs
 
 add-s : tie.Need-add-s
 add-s c =
-    let start = c .before .before .before .before .before .before .before .before .before in
-    let count = c .before .before .before .before .before .before .before in
-    let looked = c .before .before .before .before in
     let at = c .before .before in
-    let p = place-found (start .pre) (count .u16-at .result) (count .u16-at .ensures .0) (start .args .name) (looked .find .result) (looked .find .ensures) (at .i .given .0 .0) (at .i .given .0 .1 .0) (at .i .given .1) in
+    let looked = at .before .before in
+    let count = looked .before .before .before in
+    let start = count .before .before in
+    let p = place-found (start .pre) (count .u16-at .result) (count .u16-at .ensures .0) (start .args .name) (looked .find .result) (looked .find .ensures)
+    (at .i .given .0 .0) (at .i .given .0 .1 .0) (at .i .given .1) in
     let f = listed-fit (start .pre) (count .u16-at .result) (count .u16-at .ensures .0) in
     omega (arith, p .inside)
 
 u16-at-requires-2 : tie.Need-u16-at-requires-2
 u16-at-requires-2 c κs =
-    let start = c .before .before .before .before .before .before .before .before .before in
-    let count = c .before .before .before .before .before .before .before in
-    let looked = c .before .before .before .before in
     let at = c .before .before in
-    let p = place-found (start .pre) (count .u16-at .result) (count .u16-at .ensures .0) (start .args .name) (looked .find .result) (looked .find .ensures) (at .i .given .0 .0) (at .i .given .0 .1 .0) (at .i .given .1) in
+    let looked = at .before .before in
+    let count = looked .before .before .before in
+    let start = count .before .before in
+    let p = place-found (start .pre) (count .u16-at .result) (count .u16-at .ensures .0) (start .args .name) (looked .find .result) (looked .find .ensures)
+    (at .i .given .0 .0) (at .i .given .0 .1 .0) (at .i .given .1) in
     let f = listed-fit (start .pre) (count .u16-at .result) (count .u16-at .ensures .0) in
     omega (arith, p .room)
 
 add-t21 : tie.Need-add-t21
 add-t21 c =
-    let start = c .before .before .before .before .before .before .before .before .before .before in
-    let count = c .before .before .before .before .before .before .before .before in
-    let looked = c .before .before .before .before .before in
     let at = c .before .before .before in
-    let p = place-found (start .pre) (count .u16-at .result) (count .u16-at .ensures .0) (start .args .name) (looked .find .result) (looked .find .ensures) (at .i .given .0 .0) (at .i .given .0 .1 .0) (at .i .given .1) in
+    let looked = at .before .before in
+    let count = looked .before .before .before in
+    let start = count .before .before in
+    let p = place-found (start .pre) (count .u16-at .result) (count .u16-at .ensures .0) (start .args .name) (looked .find .result) (looked .find .ensures)
+    (at .i .given .0 .0) (at .i .given .0 .1 .0) (at .i .given .1) in
     let f = listed-fit (start .pre) (count .u16-at .result) (count .u16-at .ensures .0) in
     omega (arith, p .inside, c .u16-at2 .ensures .0)
 
 shared-slice-read-t24 : tie.Need-shared-slice-read-t24
 shared-slice-read-t24 c =
-    let start = c .before .before .before .before .before .before .before .before .before .before .before in
-    let count = c .before .before .before .before .before .before .before .before .before in
-    let looked = c .before .before .before .before .before .before in
     let at = c .before .before .before .before in
-    let p = place-found (start .pre) (count .u16-at .result) (count .u16-at .ensures .0) (start .args .name) (looked .find .result) (looked .find .ensures) (at .i .given .0 .0) (at .i .given .0 .1 .0) (at .i .given .1) in
+    let looked = at .before .before in
+    let count = looked .before .before .before in
+    let start = count .before .before in
+    let p = place-found (start .pre) (count .u16-at .result) (count .u16-at .ensures .0) (start .args .name) (looked .find .result) (looked .find .ensures)
+    (at .i .given .0 .0) (at .i .given .0 .1 .0) (at .i .given .1) in
     let f = listed-fit (start .pre) (count .u16-at .result) (count .u16-at .ensures .0) in
     omega (arith, p .room)
 
 returns-2 : tie.Need-returns-2
 returns-2 c =
-    let start = c .before .before .before .before .before .before .before .before .before .before .before in
-    let count = c .before .before .before .before .before .before .before .before .before in
-    let looked = c .before .before .before .before .before .before in
     let at = c .before .before .before .before in
-    let p = place-found (start .pre) (count .u16-at .result) (count .u16-at .ensures .0) (start .args .name) (looked .find .result) (looked .find .ensures) (at .i .given .0 .0) (at .i .given .0 .1 .0) (at .i .given .1) in
+    let looked = at .before .before in
+    let count = looked .before .before .before in
+    let known = count .before in
+    let start = known .before in
+    let p = place-found (start .pre) (count .u16-at .result) (count .u16-at .ensures .0) (start .args .name) (looked .find .result) (looked .find .ensures)
+    (at .i .given .0 .0) (at .i .given .0 .1 .0) (at .i .given .1) in
     let f = listed-fit (start .pre) (count .u16-at .result) (count .u16-at .ensures .0) in
-    let known = c .before .before .before .before .before .before .before .before .before .before in
     let bytes = Bytes-index (start .args .t .now) (λ i. omega (arith, known .shared-slice-known .given i)) in
     rw (c .before .u16-at2 .ensures .0) ((omega arith, p .inside, p .body, p .is), sym (p .place bytes))
 

@@ -11,25 +11,41 @@ use Rattle.attributes.proofs.own_attribute.own_attribute.Lts as lts
 use Rattle.attributes.proofs.own_attribute.listed_attribute.Reads as listed-attribute-reads
 
 shared-slice-read-k : tie.Need-shared-slice-read-k
-shared-slice-read-k c = not-empty ((c .before .before) .args .levels) ((c .before .before) .args .t .now) ((c .before .before) .pre)
+shared-slice-read-k c =
+    let start = c .before .before in
+    not-empty (start .args .levels) (start .args .t .now) (start .pre)
 
 sub-listed-attribute : tie.Need-sub-listed-attribute
-sub-listed-attribute c = is-record ((c .before .before .before) .args .levels) ((c .before .before .before) .args .t .now) ((c .before .before .before) .pre) (c .if1 .taken) .deep
+sub-listed-attribute c =
+    let start = c .before .before .before in
+    is-record (start .args .levels) (start .args .t .now) (start .pre) (c .if1 .taken) .deep
 
 listed-attribute-requires : tie.Need-listed-attribute-requires
-listed-attribute-requires c κs = record-listed ((c .before .before .before) .args .levels) ((c .before .before .before) .args .t .now) ((c .before .before .before) .pre) (c .if1 .taken)
+listed-attribute-requires c κs =
+    let start = c .before .before .before in
+    record-listed (start .args .levels) (start .args .t .now) (start .pre) (c .if1 .taken)
 
 returns : tie.Need-returns
-returns c = record-placed ((c .before .before .before .before) .args .name) ((c .before .before .before .before) .args .levels) ((c .before .before .before .before) .args .t .now) ((c .before .before .before .before) .pre) (c .listed-attribute .result) (c .before .if1 .taken) (c .listed-attribute .ensures)
+returns c =
+    let start = c .before .before .before .before in
+    let args = start .args in
+    record-placed (args .name) (args .levels) (args .t .now) (start .pre) (c .listed-attribute .result) (c .before .if1 .taken) (c .listed-attribute .ensures)
 
 sub-listed-attribute-2 : tie.Need-sub-listed-attribute-2
-sub-listed-attribute-2 c = is-action ((c .before .before .before .before) .args .levels) ((c .before .before .before .before) .args .t .now) ((c .before .before .before .before) .pre) (c .if2 .taken) .deep
+sub-listed-attribute-2 c =
+    let start = c .before .before .before .before in
+    is-action (start .args .levels) (start .args .t .now) (start .pre) (c .if2 .taken) .deep
 
 listed-attribute-requires-2 : tie.Need-listed-attribute-requires-2
-listed-attribute-requires-2 c κs = action-listed ((c .before .before .before .before) .args .levels) ((c .before .before .before .before) .args .t .now) ((c .before .before .before .before) .pre) (c .if2 .taken)
+listed-attribute-requires-2 c κs =
+    let start = c .before .before .before .before in
+    action-listed (start .args .levels) (start .args .t .now) (start .pre) (c .if2 .taken)
 
 returns-2 : tie.Need-returns-2
-returns-2 c = action-placed ((c .before .before .before .before .before) .args .name) ((c .before .before .before .before .before) .args .levels) ((c .before .before .before .before .before) .args .t .now) ((c .before .before .before .before .before) .pre) (c .listed-attribute2 .result) (c .before .if2 .taken) (c .listed-attribute2 .ensures)
+returns-2 c =
+    let start = c .before .before .before .before .before in
+    let args = start .args in
+    action-placed (args .name) (args .levels) (args .t .now) (start .pre) (c .listed-attribute2 .result) (c .before .if2 .taken) (c .listed-attribute2 .ensures)
 
 returns-3 : tie.Need-returns-3
 returns-3 c =

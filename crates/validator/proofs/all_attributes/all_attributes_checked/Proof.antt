@@ -18,10 +18,11 @@ same-length-2 c = search needs
 
 returns : tie.Need-returns
 returns c =
-    let start = c .before .before .before .before .before .before .before .before .before .before .before .before .before .before .before in
-    let named = c .before .before .before .before .before .before .before .before in
     let clear = c .before .before in
-    cleared-after (start .args .work .now) (named .named .last .1 .1 .1 .1 .0) (clear .clear .last .0) (named .named .ensures) (named .named .kept .1 .1 .1 .1 .0) (clear .clear .ensures)
+    let named = clear .before .before .before .before .before .before in
+    let start = named .before .before .before .before .before .before .before in
+    cleared-after (start .args .work .now) (named .named .last .1 .1 .1 .1 .0) (clear .clear .last .0) (named .named .ensures)
+    (named .named .kept .1 .1 .1 .1 .0) (clear .clear .ensures)
 
 pub all-attributes-checked-spec : {M : Type 1} → statement M
 all-attributes-checked-spec =

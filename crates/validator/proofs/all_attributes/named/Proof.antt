@@ -19,17 +19,22 @@ enum-told c = search needs
 returns : tie.Need-returns
 returns c =
     let start = c .before .before .before .before .before .before in
-    names-no-schema (start .args .schema .now) (start .args .t .now) (start .args .out .now) (length (start .args .work .now)) (checked-missing (start .args .schema .now) (start .args .check) (start .pre) (c .enum-told .given .1))
+    let args = start .args in
+    let by-checked-missing = checked-missing (args .schema .now) (args .check) (start .pre) (c .enum-told .given .1) in
+    names-no-schema (args .schema .now) (args .t .now) (args .out .now) (length (args .work .now)) by-checked-missing
 
 whole-type-requires : tie.Need-whole-type-requires
 whole-type-requires c κs = search needs
 
 returns-2 : tie.Need-returns-2
 returns-2 c =
-    let start = c .before .before .before .before .before .before .before .before .before in
-    let check = c .before .before .before in
     let at-whole-type = c .before in
-    names-no-type (start .args .schema .now) (start .args .t .now) (start .args .out .now) (length (start .args .work .now)) _ (checked-there (start .args .schema .now) (start .args .check) (start .pre) (check .check .given .0 .0) (check .check .given .1)) (type-missing (start .args .t .now) (at-whole-type .whole-type .result) (at-whole-type .whole-type .ensures) (c .if1 .taken))
+    let check = at-whole-type .before .before in
+    let start = check .before .before .before .before .before .before in
+    let args = start .args in
+    let by-checked-there = checked-there (args .schema .now) (args .check) (start .pre) (check .check .given .0 .0) (check .check .given .1) in
+    let by-type-missing = type-missing (args .t .now) (at-whole-type .whole-type .result) (at-whole-type .whole-type .ensures) (c .if1 .taken) in
+    names-no-type (args .schema .now) (args .t .now) (args .out .now) (length (args .work .now)) _ by-checked-there by-type-missing
 
 slice-aggregate-all-names : tie.Need-slice-aggregate-all-names
 slice-aggregate-all-names c = search needs
@@ -39,11 +44,22 @@ slice-aggregate-all-names-2 c = search needs
 
 all-names-requires : tie.Need-all-names-requires
 all-names-requires c κs =
-    let start = c .before .before .before .before .before .before .before .before .before .before .before .before in
-    let check = c .before .before .before .before .before .before in
-    let at-whole-type = c .before .before .before .before in
     let else1 = c .before .before .before in
-    (kept (start .args .schema .now) (start .args .check) (start .pre) (check .check .given .0 .0) (check .check .given .1), (record { good = type-whole (start .args .t .now) (at-whole-type .whole-type .result) (at-whole-type .whole-type .ensures) (else1 .if1 .left); few = type-few (start .args .t .now) (at-whole-type .whole-type .result) (at-whole-type .whole-type .ensures) (else1 .if1 .left); room = refl }, refl))
+    let at-whole-type = else1 .before in
+    let check = at-whole-type .before .before in
+    let start = check .before .before .before .before .before .before in
+    let args = start .args in
+    let by-kept = kept (args .schema .now) (args .check) (start .pre) (check .check .given .0 .0) (check .check .given .1) in (
+      by-kept,
+      (
+        record {
+          good = type-whole (args .t .now) (at-whole-type .whole-type .result) (at-whole-type .whole-type .ensures) (else1 .if1 .left);
+          few = type-few (args .t .now) (at-whole-type .whole-type .result) (at-whole-type .whole-type .ensures) (else1 .if1 .left);
+          room = refl;
+        },
+        refl,
+      ),
+    )
 
 enum-known-n : tie.Need-enum-known-n
 enum-known-n c = search needs
@@ -56,12 +72,16 @@ same-length c = search needs
 
 returns-3 : tie.Need-returns-3
 returns-3 c =
-    let start = c .before .before .before .before .before .before .before .before .before .before .before .before .before .before .before .before .before .before .before in
-    let check = c .before .before .before .before .before .before .before .before .before .before .before .before .before in
-    let at-whole-type = c .before .before .before .before .before .before .before .before .before .before .before in
-    let else1 = c .before .before .before .before .before .before .before .before .before .before in
     let all-names = c .before .before .before .before .before .before in
-    names-too-long (start .args .schema .now) (start .args .t .now) (start .args .out .now) (length (start .args .work .now)) _ (checked-there (start .args .schema .now) (start .args .check) (start .pre) (check .check .given .0 .0) (check .check .given .1)) _ (type-there (start .args .t .now) (at-whole-type .whole-type .result) (at-whole-type .whole-type .ensures) (else1 .if1 .left)) _ (all-names .all-names .last .1 .1 .1 .1 .1 .0) (all-names .all-names .result) (all-names .all-names .ensures) (c .enum-told2 .given .1)
+    let else1 = all-names .before .before .before .before in
+    let at-whole-type = else1 .before in
+    let check = at-whole-type .before .before in
+    let start = check .before .before .before .before .before .before in
+    let args = start .args in
+    let by-checked-there = checked-there (args .schema .now) (args .check) (start .pre) (check .check .given .0 .0) (check .check .given .1) in
+    let by-type-there = type-there (args .t .now) (at-whole-type .whole-type .result) (at-whole-type .whole-type .ensures) (else1 .if1 .left) in
+    names-too-long (args .schema .now) (args .t .now) (args .out .now) (length (args .work .now)) _ by-checked-there _ by-type-there _
+    (all-names .all-names .last .1 .1 .1 .1 .1 .0) (all-names .all-names .result) (all-names .all-names .ensures) (c .enum-told2 .given .1)
 
 answer-fits-requires : tie.Need-answer-fits-requires
 answer-fits-requires c κs = search needs
@@ -71,14 +91,19 @@ same-length-2 c = search needs
 
 returns-4 : tie.Need-returns-4
 returns-4 c =
-    let start = c .before .before .before .before .before .before .before .before .before .before .before .before .before .before .before .before .before .before .before .before .before .before in
-    let check = c .before .before .before .before .before .before .before .before .before .before .before .before .before .before .before .before in
-    let at-whole-type = c .before .before .before .before .before .before .before .before .before .before .before .before .before .before in
-    let else1 = c .before .before .before .before .before .before .before .before .before .before .before .before .before in
-    let all-names = c .before .before .before .before .before .before .before .before .before in
-    let n = c .before .before .before in
     let answer-fits = c .before in
-    names-over (start .args .schema .now) (start .args .t .now) (start .args .out .now) (length (start .args .work .now)) _ (checked-there (start .args .schema .now) (start .args .check) (start .pre) (check .check .given .0 .0) (check .check .given .1)) _ (type-there (start .args .t .now) (at-whole-type .whole-type .result) (at-whole-type .whole-type .ensures) (else1 .if1 .left)) _ (all-names .all-names .last .1 .1 .1 .1 .1 .0) (all-names .all-names .result) (all-names .all-names .ensures) (n .n .given .0 .0) (n .n .given .1) (answer-fits .answer-fits .result) (answer-fits .answer-fits .ensures) (c .if2 .taken)
+    let n = answer-fits .before .before in
+    let all-names = n .before .before .before .before .before .before in
+    let else1 = all-names .before .before .before .before in
+    let at-whole-type = else1 .before in
+    let check = at-whole-type .before .before in
+    let start = check .before .before .before .before .before .before in
+    let args = start .args in
+    let by-checked-there = checked-there (args .schema .now) (args .check) (start .pre) (check .check .given .0 .0) (check .check .given .1) in
+    let by-type-there = type-there (args .t .now) (at-whole-type .whole-type .result) (at-whole-type .whole-type .ensures) (else1 .if1 .left) in
+    names-over (args .schema .now) (args .t .now) (args .out .now) (length (args .work .now)) _ by-checked-there _ by-type-there _
+    (all-names .all-names .last .1 .1 .1 .1 .1 .0) (all-names .all-names .result) (all-names .all-names .ensures) (n .n .given .0 .0) (n .n .given .1)
+    (answer-fits .answer-fits .result) (answer-fits .answer-fits .ensures) (c .if2 .taken)
 
 sub-copy : tie.Need-sub-copy
 sub-copy c = search needs
@@ -88,27 +113,41 @@ part-copy-start c = search needs
 
 part-copy-end : tie.Need-part-copy-end
 part-copy-end c =
-    let start = c .before .before .before .before .before .before .before .before .before .before .before .before .before .before .before .before .before .before .before .before .before .before .before in
-    let check = c .before .before .before .before .before .before .before .before .before .before .before .before .before .before .before .before .before in
-    let at-whole-type = c .before .before .before .before .before .before .before .before .before .before .before .before .before .before .before in
-    let else1 = c .before .before .before .before .before .before .before .before .before .before .before .before .before .before in
-    let all-names = c .before .before .before .before .before .before .before .before .before .before in
-    let n = c .before .before .before .before in
-    let answer-fits = c .before .before in
     let else2 = c .before in
-    omega (arith, names-small (start .args .schema .now) (start .args .t .now) (start .args .out .now) (length (start .args .work .now)) _ (checked-there (start .args .schema .now) (start .args .check) (start .pre) (check .check .given .0 .0) (check .check .given .1)) _ (type-there (start .args .t .now) (at-whole-type .whole-type .result) (at-whole-type .whole-type .ensures) (else1 .if1 .left)) _ (all-names .all-names .last .1 .1 .1 .1 .1 .0) (all-names .all-names .result) (all-names .all-names .ensures) (n .n .given .0 .0) (n .n .given .1) (answer-fits .answer-fits .result) (answer-fits .answer-fits .ensures) (else2 .if2 .left), all-names .all-names .kept .1 .1 .1 .1 .1 .0)
+    let answer-fits = else2 .before in
+    let n = answer-fits .before .before in
+    let all-names = n .before .before .before .before .before .before in
+    let else1 = all-names .before .before .before .before in
+    let at-whole-type = else1 .before in
+    let check = at-whole-type .before .before in
+    let start = check .before .before .before .before .before .before in
+    let args = start .args in
+    let by-checked-there = checked-there (args .schema .now) (args .check) (start .pre) (check .check .given .0 .0) (check .check .given .1) in
+    let by-type-there = type-there (args .t .now) (at-whole-type .whole-type .result) (at-whole-type .whole-type .ensures) (else1 .if1 .left) in
+    omega (
+      arith,
+      names-small (args .schema .now) (args .t .now) (args .out .now) (length (args .work .now)) _ by-checked-there _ by-type-there _
+          (all-names .all-names .last .1 .1 .1 .1 .1 .0) (all-names .all-names .result) (all-names .all-names .ensures) (n .n .given .0 .0) (n .n .given .1)
+          (answer-fits .answer-fits .result) (answer-fits .answer-fits .ensures) (else2 .if2 .left),
+      all-names .all-names .kept .1 .1 .1 .1 .1 .0,
+    )
 
 copy-requires : tie.Need-copy-requires
 copy-requires c κs =
-    let start = c .before .before .before .before .before .before .before .before .before .before .before .before .before .before .before .before .before .before .before .before .before .before .before .before .before in
-    let check = c .before .before .before .before .before .before .before .before .before .before .before .before .before .before .before .before .before .before .before in
-    let at-whole-type = c .before .before .before .before .before .before .before .before .before .before .before .before .before .before .before .before .before in
-    let else1 = c .before .before .before .before .before .before .before .before .before .before .before .before .before .before .before .before in
-    let all-names = c .before .before .before .before .before .before .before .before .before .before .before .before in
-    let n = c .before .before .before .before .before .before in
-    let answer-fits = c .before .before .before .before in
     let else2 = c .before .before .before in
-    names-fit (start .args .schema .now) (start .args .t .now) (start .args .out .now) (length (start .args .work .now)) _ (checked-there (start .args .schema .now) (start .args .check) (start .pre) (check .check .given .0 .0) (check .check .given .1)) _ (type-there (start .args .t .now) (at-whole-type .whole-type .result) (at-whole-type .whole-type .ensures) (else1 .if1 .left)) _ (all-names .all-names .last .1 .1 .1 .1 .1 .0) (all-names .all-names .result) (all-names .all-names .ensures) (n .n .given .0 .0) (n .n .given .1) (answer-fits .answer-fits .result) (answer-fits .answer-fits .ensures) (else2 .if2 .left)
+    let answer-fits = else2 .before in
+    let n = answer-fits .before .before in
+    let all-names = n .before .before .before .before .before .before in
+    let else1 = all-names .before .before .before .before in
+    let at-whole-type = else1 .before in
+    let check = at-whole-type .before .before in
+    let start = check .before .before .before .before .before .before in
+    let args = start .args in
+    let by-checked-there = checked-there (args .schema .now) (args .check) (start .pre) (check .check .given .0 .0) (check .check .given .1) in
+    let by-type-there = type-there (args .t .now) (at-whole-type .whole-type .result) (at-whole-type .whole-type .ensures) (else1 .if1 .left) in
+    names-fit (args .schema .now) (args .t .now) (args .out .now) (length (args .work .now)) _ by-checked-there _ by-type-there _
+    (all-names .all-names .last .1 .1 .1 .1 .1 .0) (all-names .all-names .result) (all-names .all-names .ensures) (n .n .given .0 .0) (n .n .given .1)
+    (answer-fits .answer-fits .result) (answer-fits .answer-fits .ensures) (else2 .if2 .left)
 
 same-length-3 : tie.Need-same-length-3
 same-length-3 c = search needs
@@ -118,16 +157,21 @@ same-length-4 c = search needs
 
 returns-5 : tie.Need-returns-5
 returns-5 c =
-    let start = c .before .before .before .before .before .before .before .before .before .before .before .before .before .before .before .before .before .before .before .before .before .before .before .before .before .before .before .before in
-    let check = c .before .before .before .before .before .before .before .before .before .before .before .before .before .before .before .before .before .before .before .before .before .before in
-    let at-whole-type = c .before .before .before .before .before .before .before .before .before .before .before .before .before .before .before .before .before .before .before .before in
-    let else1 = c .before .before .before .before .before .before .before .before .before .before .before .before .before .before .before .before .before .before .before in
-    let all-names = c .before .before .before .before .before .before .before .before .before .before .before .before .before .before .before in
-    let n = c .before .before .before .before .before .before .before .before .before in
-    let answer-fits = c .before .before .before .before .before .before .before in
-    let else2 = c .before .before .before .before .before .before in
     let copy = c .before .before in
-    names-write (start .args .schema .now) (start .args .t .now) (start .args .out .now) (length (start .args .work .now)) _ (checked-there (start .args .schema .now) (start .args .check) (start .pre) (check .check .given .0 .0) (check .check .given .1)) _ (type-there (start .args .t .now) (at-whole-type .whole-type .result) (at-whole-type .whole-type .ensures) (else1 .if1 .left)) _ (all-names .all-names .last .1 .1 .1 .1 .1 .0) (all-names .all-names .result) (all-names .all-names .ensures) (n .n .given .0 .0) (n .n .given .1) (answer-fits .answer-fits .result) (answer-fits .answer-fits .ensures) (else2 .if2 .left) (copy .copy .last .1 .0) (copy .copy .ensures)
+    let else2 = copy .before .before .before .before in
+    let answer-fits = else2 .before in
+    let n = answer-fits .before .before in
+    let all-names = n .before .before .before .before .before .before in
+    let else1 = all-names .before .before .before .before in
+    let at-whole-type = else1 .before in
+    let check = at-whole-type .before .before in
+    let start = check .before .before .before .before .before .before in
+    let args = start .args in
+    let by-checked-there = checked-there (args .schema .now) (args .check) (start .pre) (check .check .given .0 .0) (check .check .given .1) in
+    let by-type-there = type-there (args .t .now) (at-whole-type .whole-type .result) (at-whole-type .whole-type .ensures) (else1 .if1 .left) in
+    names-write (args .schema .now) (args .t .now) (args .out .now) (length (args .work .now)) _ by-checked-there _ by-type-there _
+    (all-names .all-names .last .1 .1 .1 .1 .1 .0) (all-names .all-names .result) (all-names .all-names .ensures) (n .n .given .0 .0) (n .n .given .1)
+    (answer-fits .answer-fits .result) (answer-fits .answer-fits .ensures) (else2 .if2 .left) (copy .copy .last .1 .0) (copy .copy .ensures)
 
 pub named-spec : {M : Type 1} → statement M
 named-spec =

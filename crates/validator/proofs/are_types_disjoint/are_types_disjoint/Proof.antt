@@ -19,37 +19,53 @@ whole-type-requires c κs = search needs
 
 returns : tie.Need-returns
 returns c =
-    let start = c .before .before .before .before in
     let after-whole-type = c .before in
-    ask-no badFirst (λ (a : Ty). ask badSecond (wholeType standard (start .args .t1 .now)) (λ (b : Ty). said (disjoint a b))) (missing (wholeType standard (start .args .t0 .now)) (after-whole-type .whole-type .result) (after-whole-type .whole-type .ensures) (c .if1 .taken))
+    let start = after-whole-type .before .before .before in
+    let by-missing = missing (wholeType standard (start .args .t0 .now)) (after-whole-type .whole-type .result) (after-whole-type .whole-type .ensures)
+    (c .if1 .taken) in
+    ask-no badFirst (λ (a : Ty). ask badSecond (wholeType standard (start .args .t1 .now)) (λ (b : Ty). said (disjoint a b))) by-missing
 
 whole-type-requires-2 : tie.Need-whole-type-requires-2
 whole-type-requires-2 c κs = search needs
 
 returns-2 : tie.Need-returns-2
 returns-2 c =
-    let start = c .before .before .before .before .before .before in
-    let after-whole-type = c .before .before .before in
     let after-whole-type2 = c .before in
-    ask-on badFirst (λ (a : Ty). ask badSecond (wholeType standard (start .args .t1 .now)) (λ (b : Ty). said (disjoint a b))) (type-there (start .args .t0 .now) (after-whole-type .whole-type .result) (after-whole-type .whole-type .ensures) (c .before .before .if1 .left)) (ask-no badSecond (λ (b : Ty). said (disjoint (dec (standard .levels) (start .args .t0 .now)) b)) (missing (wholeType standard (start .args .t1 .now)) (after-whole-type2 .whole-type2 .result) (after-whole-type2 .whole-type2 .ensures) (c .if2 .taken)))
+    let if1 = after-whole-type2 .before .if1 in
+    let after-whole-type = after-whole-type2 .before .before in
+    let start = after-whole-type .before .before .before in
+    let args = start .args in
+    let by-missing = missing (wholeType standard (args .t1 .now)) (after-whole-type2 .whole-type2 .result) (after-whole-type2 .whole-type2 .ensures)
+    (c .if2 .taken) in
+    let by-ask-no = ask-no badSecond (λ (b : Ty). said (disjoint (dec (standard .levels) (args .t0 .now)) b)) by-missing in
+    let by-type-there = type-there (args .t0 .now) (after-whole-type .whole-type .result) (after-whole-type .whole-type .ensures) (if1 .left) in
+    ask-on badFirst (λ (a : Ty). ask badSecond (wholeType standard (args .t1 .now)) (λ (b : Ty). said (disjoint a b))) by-type-there by-ask-no
 
 are-types-disjoint-requires : tie.Need-are-types-disjoint-requires
 are-types-disjoint-requires c κs =
-    let start = c .before .before .before .before .before .before in
-    let after-whole-type = c .before .before .before in
     let after-whole-type2 = c .before in
-    (type-whole (start .args .t0 .now) (after-whole-type .whole-type .result) (after-whole-type .whole-type .ensures) (c .before .before .if1 .left), type-whole (start .args .t1 .now) (after-whole-type2 .whole-type2 .result) (after-whole-type2 .whole-type2 .ensures) (c .if2 .left))
+    let if1 = after-whole-type2 .before .if1 in
+    let after-whole-type = after-whole-type2 .before .before in
+    let start = after-whole-type .before .before .before in
+    let by-type-whole = type-whole (start .args .t0 .now) (after-whole-type .whole-type .result) (after-whole-type .whole-type .ensures) (if1 .left) in
+    (by-type-whole, type-whole (start .args .t1 .now) (after-whole-type2 .whole-type2 .result) (after-whole-type2 .whole-type2 .ensures) (c .if2 .left))
 
 yes-or-no-requires : tie.Need-yes-or-no-requires
 yes-or-no-requires c κs = search needs
 
 returns-3 : tie.Need-returns-3
 returns-3 c =
-    let start = c .before .before .before .before .before .before .before .before in
-    let after-whole-type = c .before .before .before .before .before in
-    let else1 = c .before .before .before .before in
+    let if2 = c .before .before .if2 in
     let after-whole-type2 = c .before .before .before in
-    ask-on badFirst (λ (a : Ty). ask badSecond (wholeType standard (start .args .t1 .now)) (λ (b : Ty). said (disjoint a b))) (type-there (start .args .t0 .now) (after-whole-type .whole-type .result) (after-whole-type .whole-type .ensures) (else1 .if1 .left)) (ask-on badSecond (λ (b : Ty). said (disjoint (dec (standard .levels) (start .args .t0 .now)) b)) (type-there (start .args .t1 .now) (after-whole-type2 .whole-type2 .result) (after-whole-type2 .whole-type2 .ensures) (c .before .before .if2 .left)) (c .yes-or-no .ensures ∙ ap (λ x. answerOf (said x)) (c .before .are-types-disjoint .ensures)))
+    let else1 = after-whole-type2 .before in
+    let after-whole-type = else1 .before in
+    let start = after-whole-type .before .before .before in
+    let args = start .args in
+    let by-type-there = type-there (args .t1 .now) (after-whole-type2 .whole-type2 .result) (after-whole-type2 .whole-type2 .ensures) (if2 .left) in
+    let by-ask-on = ask-on badSecond (λ (b : Ty). said (disjoint (dec (standard .levels) (args .t0 .now)) b)) by-type-there
+    (c .yes-or-no .ensures ∙ ap (λ x. answerOf (said x)) (c .before .are-types-disjoint .ensures)) in
+    let by-type-there-2 = type-there (args .t0 .now) (after-whole-type .whole-type .result) (after-whole-type .whole-type .ensures) (else1 .if1 .left) in
+    ask-on badFirst (λ (a : Ty). ask badSecond (wholeType standard (args .t1 .now)) (λ (b : Ty). said (disjoint a b))) by-type-there-2 by-ask-on
 
 pub are-types-disjoint-spec : {M : Type 1} → statement M
 are-types-disjoint-spec =

@@ -9,7 +9,7 @@ use Rattle.validator.proofs.convert.convert.Statement.{statement}
 use Rattle.validator.proofs.convert.convert.Tie as tie
 use Rattle.validator.proofs.convert.convert.Reads as reads
 use Rattle.validator.proofs.convert.convert.Lts as lts
-use Rattle.conversions.proofs.core_types.core_extent.Reads as core-extent-reads
+use Rattle.conversions.proofs.core_types.core_length.Reads as core-length-reads
 use Rattle.conversions.proofs.core_types.write_core.Reads as write-core-reads
 use Rattle.forms.proofs.types.whole_type.Reads as whole-type-reads
 use Rattle.validator.proofs.rooms.answer_fits.Reads as answer-fits-reads
@@ -20,11 +20,17 @@ whole-type-requires c κs = search needs
 
 -- src/convert.rt:20:9
 returns : tie.Need-returns
-returns c = refuses 3 (convert-not ((c .before .before .before .before) .args .t .now) _ (type-not ((c .before .before .before .before) .args .t .now) ((c .before) .whole-type .result) ((c .before) .whole-type .ensures) (c .if1 .taken)))
+returns c =
+    let whole-type = c .before .whole-type in
+    let args = c .before .before .before .before .args in
+    refuses 3 (convert-not (args .t .now) _ (type-not (args .t .now) (whole-type .result) (whole-type .ensures) (c .if1 .taken)))
 
 -- src/convert.rt:22:11
-core-extent-requires : tie.Need-core-extent-requires
-core-extent-requires c κs = (type-is ((c .before .before .before .before) .args .t .now) ((c .before) .whole-type .result) ((c .before) .whole-type .ensures) (c .if1 .left)) .1
+core-length-requires : tie.Need-core-length-requires
+core-length-requires c κs =
+    let whole-type = c .before .whole-type in
+    let args = c .before .before .before .before .args in
+    type-is (args .t .now) (whole-type .result) (whole-type .ensures) (c .if1 .left) .1
 
 -- src/convert.rt:23:20
 enum-known-n : tie.Need-enum-known-n
@@ -36,11 +42,32 @@ answer-fits-requires c κs = search needs
 
 -- src/convert.rt:25:17
 returns-2 : tie.Need-returns-2
-returns-2 c = writes-over (core (dec 16 ((c .before .before .before .before .before .before .before .before .before .before) .args .t .now))) ((c .before .before .before .before .before .before .before .before .before .before) .args .out .now) _ (convert-whole ((c .before .before .before .before .before .before .before .before .before .before) .args .t .now) (length ((c .before .before .before .before .before .before .before .before .before .before) .args .out .now)) ((type-is ((c .before .before .before .before .before .before .before .before .before .before) .args .t .now) ((c .before .before .before .before .before .before .before) .whole-type .result) ((c .before .before .before .before .before .before .before) .whole-type .ensures) ((c .before .before .before .before .before .before) .if1 .left)) .0)) ((c .before .before .before .before .before) .core-extent .result) ((c .before .before .before .before .before) .core-extent .ensures) ((c .before .before .before) .n .given .0 .0) ((c .before .before .before) .n .given .1) ((c .before) .answer-fits .result) ((c .before) .answer-fits .ensures) (c .if2 .taken)
+returns-2 c =
+    let answer-fits = c .before .answer-fits in
+    let n = c .before .before .before .n in
+    let core-length = c .before .before .before .before .before .core-length in
+    let if1 = c .before .before .before .before .before .before .if1 in
+    let whole-type = c .before .before .before .before .before .before .before .whole-type in
+    let args = c .before .before .before .before .before .before .before .before .before .before .args in
+    let by-convert-whole = convert-whole (args .t .now) (length (args .out .now))
+    (type-is (args .t .now) (whole-type .result) (whole-type .ensures) (if1 .left) .0) in
+    writes-over (core (dec 16 (args .t .now))) (args .out .now) _ by-convert-whole (core-length .result) (core-length .ensures) (n .given .0 .0) (n .given .1)
+    (answer-fits .result) (answer-fits .ensures) (c .if2 .taken)
 
 -- src/convert.rt:27:13
 write-core-requires : tie.Need-write-core-requires
-write-core-requires c κs = ((type-is ((c .before .before .before .before .before .before .before .before .before .before .before) .args .t .now) ((c .before .before .before .before .before .before .before .before) .whole-type .result) ((c .before .before .before .before .before .before .before .before) .whole-type .ensures) ((c .before .before .before .before .before .before .before) .if1 .left)) .1, writes-ready (core (dec 16 ((c .before .before .before .before .before .before .before .before .before .before .before) .args .t .now))) ((c .before .before .before .before .before .before .before .before .before .before .before) .args .out .now) _ (convert-whole ((c .before .before .before .before .before .before .before .before .before .before .before) .args .t .now) (length ((c .before .before .before .before .before .before .before .before .before .before .before) .args .out .now)) ((type-is ((c .before .before .before .before .before .before .before .before .before .before .before) .args .t .now) ((c .before .before .before .before .before .before .before .before) .whole-type .result) ((c .before .before .before .before .before .before .before .before) .whole-type .ensures) ((c .before .before .before .before .before .before .before) .if1 .left)) .0)) ((c .before .before .before .before .before .before) .core-extent .result) ((c .before .before .before .before .before .before) .core-extent .ensures) ((c .before .before .before .before) .n .given .0 .0) ((c .before .before .before .before) .n .given .1) ((c .before .before) .answer-fits .result) ((c .before .before) .answer-fits .ensures) ((c .before) .if2 .left))
+write-core-requires c κs =
+    let answer-fits = c .before .before .answer-fits in
+    let n = c .before .before .before .before .n in
+    let core-length = c .before .before .before .before .before .before .core-length in
+    let if1 = c .before .before .before .before .before .before .before .if1 in
+    let whole-type = c .before .before .before .before .before .before .before .before .whole-type in
+    let args = c .before .before .before .before .before .before .before .before .before .before .before .args in
+    let by-type-is = type-is (args .t .now) (whole-type .result) (whole-type .ensures) (if1 .left) in (
+      by-type-is .1,
+      writes-ready (core (dec 16 (args .t .now))) (args .out .now) _ (convert-whole (args .t .now) (length (args .out .now)) (by-type-is .0))
+          (core-length .result) (core-length .ensures) (n .given .0 .0) (n .given .1) (answer-fits .result) (answer-fits .ensures) (c .before .if2 .left),
+    )
 
 -- src/convert.rt:30:21
 enum-known-e : tie.Need-enum-known-e
@@ -52,11 +79,32 @@ same-length c = search needs
 
 -- src/convert.rt:16:1
 returns-3 : tie.Need-returns-3
-returns-3 c = writes (core (dec 16 ((c .before .before .before .before .before .before .before .before .before .before .before .before .before .before) .args .t .now))) ((c .before .before .before .before .before .before .before .before .before .before .before .before .before .before) .args .out .now) _ (convert-whole ((c .before .before .before .before .before .before .before .before .before .before .before .before .before .before) .args .t .now) (length ((c .before .before .before .before .before .before .before .before .before .before .before .before .before .before) .args .out .now)) ((type-is ((c .before .before .before .before .before .before .before .before .before .before .before .before .before .before) .args .t .now) ((c .before .before .before .before .before .before .before .before .before .before .before) .whole-type .result) ((c .before .before .before .before .before .before .before .before .before .before .before) .whole-type .ensures) ((c .before .before .before .before .before .before .before .before .before .before) .if1 .left)) .0)) ((c .before .before .before .before .before .before .before .before .before) .core-extent .result) ((c .before .before .before .before .before .before .before .before .before) .core-extent .ensures) ((c .before .before .before .before .before .before .before) .n .given .0 .0) ((c .before .before .before .before .before .before .before) .n .given .1) ((c .before .before .before .before .before) .answer-fits .result) ((c .before .before .before .before .before) .answer-fits .ensures) ((c .before .before .before .before) .if2 .left) ((c .before .before) .write-core .last .1 .1 .0) ((c .before .before) .write-core .result) ((c .before .before) .write-core .ensures)
+returns-3 c =
+    let write-core = c .before .before .write-core in
+    let if2 = c .before .before .before .before .if2 in
+    let answer-fits = c .before .before .before .before .before .answer-fits in
+    let n = c .before .before .before .before .before .before .before .n in
+    let after-core-length = c .before .before .before .before .before .before .before .before .before in
+    let core-length = after-core-length .core-length in
+    let if1 = after-core-length .before .if1 in
+    let whole-type = after-core-length .before .before .whole-type in
+    let args = after-core-length .before .before .before .before .before .args in
+    let by-convert-whole = convert-whole (args .t .now) (length (args .out .now))
+    (type-is (args .t .now) (whole-type .result) (whole-type .ensures) (if1 .left) .0) in
+    writes (core (dec 16 (args .t .now))) (args .out .now) _ by-convert-whole (core-length .result) (core-length .ensures) (n .given .0 .0) (n .given .1)
+    (answer-fits .result) (answer-fits .ensures) (if2 .left) (write-core .last .1 .1 .0) (write-core .result) (write-core .ensures)
 
 -- src/convert.rt:16:1
 returns-4 : tie.Need-returns-4
-returns-4 c = writes-not (core (dec 16 ((c .before .before .before .before .before .before .before .before) .args .t .now))) ((c .before .before .before .before .before .before .before .before) .args .out .now) _ (convert-whole ((c .before .before .before .before .before .before .before .before) .args .t .now) (length ((c .before .before .before .before .before .before .before .before) .args .out .now)) ((type-is ((c .before .before .before .before .before .before .before .before) .args .t .now) ((c .before .before .before .before .before) .whole-type .result) ((c .before .before .before .before .before) .whole-type .ensures) ((c .before .before .before .before) .if1 .left)) .0)) ((c .before .before .before) .core-extent .result) ((c .before .before .before) .core-extent .ensures) ((c .before) .e .given .0 .0) ((c .before) .e .given .1)
+returns-4 c =
+    let e = c .before .e in
+    let core-length = c .before .before .before .core-length in
+    let if1 = c .before .before .before .before .if1 in
+    let whole-type = c .before .before .before .before .before .whole-type in
+    let args = c .before .before .before .before .before .before .before .before .args in
+    let by-convert-whole = convert-whole (args .t .now) (length (args .out .now))
+    (type-is (args .t .now) (whole-type .result) (whole-type .ensures) (if1 .left) .0) in
+    writes-not (core (dec 16 (args .t .now))) (args .out .now) _ by-convert-whole (core-length .result) (core-length .ensures) (e .given .0 .0) (e .given .1)
 
 pub convert-spec : {M : Type 1} → statement M
 convert-spec =
@@ -64,7 +112,7 @@ convert-spec =
     (tie.spec
     whole-type-requires
     returns
-    core-extent-requires
+    core-length-requires
     enum-known-n
     answer-fits-requires
     returns-2

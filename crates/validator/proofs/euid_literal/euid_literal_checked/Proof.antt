@@ -18,17 +18,22 @@ enum-told c = search needs
 returns : tie.Need-returns
 returns c =
     let start = c .before .before .before .before .before in
-    literal-no-schema (start .args .schema .now) (start .args .v .now) (start .args .out .now) (checked-missing (start .args .schema .now) (start .args .check) (start .pre) (c .enum-told .given .1))
+    let args = start .args in
+    let by-checked-missing = checked-missing (args .schema .now) (args .check) (start .pre) (c .enum-told .given .1) in
+    literal-no-schema (args .schema .now) (args .v .now) (args .out .now) by-checked-missing
 
 whole-uid-requires : tie.Need-whole-uid-requires
 whole-uid-requires c κs = search needs
 
 returns-2 : tie.Need-returns-2
 returns-2 c =
-    let start = c .before .before .before .before .before .before .before .before in
-    let check = c .before .before .before in
     let whole-uid = c .before in
-    literal-no-uid (start .args .schema .now) (start .args .v .now) (start .args .out .now) (checked-there (start .args .schema .now) (start .args .check) (start .pre) (check .check .given .0 .0) (check .check .given .1)) (uid-missing (start .args .v .now) (whole-uid .whole-uid .result) (whole-uid .whole-uid .ensures) (c .if1 .taken))
+    let check = whole-uid .before .before in
+    let start = check .before .before .before .before .before in
+    let args = start .args in
+    let by-checked-there = checked-there (args .schema .now) (args .check) (start .pre) (check .check .given .0 .0) (check .check .given .1) in
+    let by-uid-missing = uid-missing (args .v .now) (whole-uid .whole-uid .result) (whole-uid .whole-uid .ensures) (c .if1 .taken) in
+    literal-no-uid (args .schema .now) (args .v .now) (args .out .now) by-checked-there by-uid-missing
 
 u16-at-requires : tie.Need-u16-at-requires
 u16-at-requires c κs =
@@ -54,70 +59,101 @@ literal-length-requires c κs = search needs
 
 returns-3 : tie.Need-returns-3
 returns-3 c =
-    let start = c .before .before .before .before .before .before .before .before .before .before .before .before .before in
-    let shared-slice-known = c .before .before .before .before .before .before .before .before .before .before .before .before in
-    let check = c .before .before .before .before .before .before .before .before in
-    let whole-uid = c .before .before .before .before .before .before in
-    let else1 = c .before .before .before .before .before in
-    let u16-at = c .before .before .before .before in
-    let u16-at2 = c .before .before .before in
-    let find-literal = c .before .before in
     let literal-length = c .before in
-    literal-nothing (start .args .schema .now) (start .args .v .now) (start .args .out .now) (checked-there (start .args .schema .now) (start .args .check) (start .pre) (check .check .given .0 .0) (check .check .given .1)) (u16-at .u16-at .result) (u16-at2 .u16-at2 .result) (uid-read (start .args .v .now) (whole-uid .whole-uid .result) (whole-uid .whole-uid .ensures) (else1 .if1 .left) (u16-at .u16-at .result) (u16-at2 .u16-at2 .result) (u16-at .u16-at .ensures .0) (u16-at2 .u16-at2 .ensures .0)) (find-literal .find-literal .result) (find-literal .find-literal .ensures) (Bytes-index (start .args .schema .now) (λ i. omega (arith, shared-slice-known .shared-slice-known .given i))) (literal-length .literal-length .result) (literal-length .literal-length .ensures) (c .if2 .taken)
+    let find-literal = literal-length .before in
+    let u16-at2 = find-literal .before in
+    let u16-at = u16-at2 .before in
+    let else1 = u16-at .before in
+    let whole-uid = else1 .before in
+    let check = whole-uid .before .before in
+    let shared-slice-known = check .before .before .before .before in
+    let start = shared-slice-known .before in
+    let args = start .args in
+    let by-uid-read = uid-read (args .v .now) (whole-uid .whole-uid .result) (whole-uid .whole-uid .ensures) (else1 .if1 .left) (u16-at .u16-at .result)
+    (u16-at2 .u16-at2 .result) (u16-at .u16-at .ensures .0) (u16-at2 .u16-at2 .ensures .0) in
+    let by-checked-there = checked-there (args .schema .now) (args .check) (start .pre) (check .check .given .0 .0) (check .check .given .1) in
+    let by-Bytes-index = Bytes-index (args .schema .now) (λ i. omega (arith, shared-slice-known .shared-slice-known .given i)) in
+    literal-nothing (args .schema .now) (args .v .now) (args .out .now) by-checked-there (u16-at .u16-at .result) (u16-at2 .u16-at2 .result)
+    by-uid-read (find-literal .find-literal .result) (find-literal .find-literal .ensures) by-Bytes-index (literal-length .literal-length .result)
+    (literal-length .literal-length .ensures) (c .if2 .taken)
 
 answer-fits-requires : tie.Need-answer-fits-requires
 answer-fits-requires c κs = search needs
 
 returns-4 : tie.Need-returns-4
 returns-4 c =
-    let start = c .before .before .before .before .before .before .before .before .before .before .before .before .before .before .before in
-    let shared-slice-known = c .before .before .before .before .before .before .before .before .before .before .before .before .before .before in
-    let check = c .before .before .before .before .before .before .before .before .before .before in
-    let whole-uid = c .before .before .before .before .before .before .before .before in
-    let else1 = c .before .before .before .before .before .before .before in
-    let u16-at = c .before .before .before .before .before .before in
-    let u16-at2 = c .before .before .before .before .before in
-    let find-literal = c .before .before .before .before in
-    let literal-length = c .before .before .before in
-    let else2 = c .before .before in
     let answer-fits = c .before in
-    literal-over (start .args .schema .now) (start .args .v .now) (start .args .out .now) (checked-there (start .args .schema .now) (start .args .check) (start .pre) (check .check .given .0 .0) (check .check .given .1)) (u16-at .u16-at .result) (u16-at2 .u16-at2 .result) (uid-read (start .args .v .now) (whole-uid .whole-uid .result) (whole-uid .whole-uid .ensures) (else1 .if1 .left) (u16-at .u16-at .result) (u16-at2 .u16-at2 .result) (u16-at .u16-at .ensures .0) (u16-at2 .u16-at2 .ensures .0)) (find-literal .find-literal .result) (find-literal .find-literal .ensures) (Bytes-index (start .args .schema .now) (λ i. omega (arith, shared-slice-known .shared-slice-known .given i))) (literal-length .literal-length .result) (literal-length .literal-length .ensures) (else2 .if2 .left) (answer-fits .answer-fits .result) (answer-fits .answer-fits .ensures) (c .if3 .taken)
+    let else2 = answer-fits .before in
+    let literal-length = else2 .before in
+    let find-literal = literal-length .before in
+    let u16-at2 = find-literal .before in
+    let u16-at = u16-at2 .before in
+    let else1 = u16-at .before in
+    let whole-uid = else1 .before in
+    let check = whole-uid .before .before in
+    let shared-slice-known = check .before .before .before .before in
+    let start = shared-slice-known .before in
+    let args = start .args in
+    let by-uid-read = uid-read (args .v .now) (whole-uid .whole-uid .result) (whole-uid .whole-uid .ensures) (else1 .if1 .left) (u16-at .u16-at .result)
+    (u16-at2 .u16-at2 .result) (u16-at .u16-at .ensures .0) (u16-at2 .u16-at2 .ensures .0) in
+    let by-checked-there = checked-there (args .schema .now) (args .check) (start .pre) (check .check .given .0 .0) (check .check .given .1) in
+    let by-Bytes-index = Bytes-index (args .schema .now) (λ i. omega (arith, shared-slice-known .shared-slice-known .given i)) in
+    literal-over (args .schema .now) (args .v .now) (args .out .now) by-checked-there (u16-at .u16-at .result) (u16-at2 .u16-at2 .result)
+    by-uid-read (find-literal .find-literal .result) (find-literal .find-literal .ensures) by-Bytes-index (literal-length .literal-length .result)
+    (literal-length .literal-length .ensures) (else2 .if2 .left) (answer-fits .answer-fits .result) (answer-fits .answer-fits .ensures) (c .if3 .taken)
 
 write-literal-requires : tie.Need-write-literal-requires
 write-literal-requires c κs =
-    let start = c .before .before .before .before .before .before .before .before .before .before .before .before .before .before .before .before in
-    let shared-slice-known = c .before .before .before .before .before .before .before .before .before .before .before .before .before .before .before in
-    let check = c .before .before .before .before .before .before .before .before .before .before .before in
-    let whole-uid = c .before .before .before .before .before .before .before .before .before in
-    let else1 = c .before .before .before .before .before .before .before .before in
-    let u16-at = c .before .before .before .before .before .before .before in
-    let u16-at2 = c .before .before .before .before .before .before in
-    let find-literal = c .before .before .before .before .before in
-    let literal-length = c .before .before .before .before in
-    let else2 = c .before .before .before in
-    let answer-fits = c .before .before in
     let else3 = c .before in
-    (find-literal .find-literal .ensures .stands, (u16-at .u16-at .ensures .1, literal-room (start .args .schema .now) (start .args .v .now) (start .args .out .now) (checked-there (start .args .schema .now) (start .args .check) (start .pre) (check .check .given .0 .0) (check .check .given .1)) (u16-at .u16-at .result) (u16-at2 .u16-at2 .result) (uid-read (start .args .v .now) (whole-uid .whole-uid .result) (whole-uid .whole-uid .ensures) (else1 .if1 .left) (u16-at .u16-at .result) (u16-at2 .u16-at2 .result) (u16-at .u16-at .ensures .0) (u16-at2 .u16-at2 .ensures .0)) (find-literal .find-literal .result) (find-literal .find-literal .ensures) (Bytes-index (start .args .schema .now) (λ i. omega (arith, shared-slice-known .shared-slice-known .given i))) (literal-length .literal-length .result) (literal-length .literal-length .ensures) (else2 .if2 .left) (answer-fits .answer-fits .result) (answer-fits .answer-fits .ensures) (else3 .if3 .left)))
+    let answer-fits = else3 .before in
+    let else2 = answer-fits .before in
+    let literal-length = else2 .before in
+    let find-literal = literal-length .before in
+    let u16-at2 = find-literal .before in
+    let u16-at = u16-at2 .before in
+    let else1 = u16-at .before in
+    let whole-uid = else1 .before in
+    let check = whole-uid .before .before in
+    let shared-slice-known = check .before .before .before .before in
+    let start = shared-slice-known .before in
+    let args = start .args in
+    let by-uid-read = uid-read (args .v .now) (whole-uid .whole-uid .result) (whole-uid .whole-uid .ensures) (else1 .if1 .left) (u16-at .u16-at .result)
+    (u16-at2 .u16-at2 .result) (u16-at .u16-at .ensures .0) (u16-at2 .u16-at2 .ensures .0) in
+    let by-checked-there = checked-there (args .schema .now) (args .check) (start .pre) (check .check .given .0 .0) (check .check .given .1) in
+    let by-Bytes-index = Bytes-index (args .schema .now) (λ i. omega (arith, shared-slice-known .shared-slice-known .given i)) in
+    let by-literal-room = literal-room (args .schema .now) (args .v .now) (args .out .now) by-checked-there (u16-at .u16-at .result) (u16-at2 .u16-at2 .result)
+    by-uid-read (find-literal .find-literal .result) (find-literal .find-literal .ensures) by-Bytes-index (literal-length .literal-length .result)
+    (literal-length .literal-length .ensures) (else2 .if2 .left) (answer-fits .answer-fits .result) (answer-fits .answer-fits .ensures)
+    (else3 .if3 .left) in
+    (find-literal .find-literal .ensures .stands, (u16-at .u16-at .ensures .1, by-literal-room))
 
 same-length : tie.Need-same-length
 same-length c = search needs
 
 returns-5 : tie.Need-returns-5
 returns-5 c =
-    let start = c .before .before .before .before .before .before .before .before .before .before .before .before .before .before .before .before .before .before .before in
-    let shared-slice-known = c .before .before .before .before .before .before .before .before .before .before .before .before .before .before .before .before .before .before in
-    let check = c .before .before .before .before .before .before .before .before .before .before .before .before .before .before in
-    let whole-uid = c .before .before .before .before .before .before .before .before .before .before .before .before in
-    let else1 = c .before .before .before .before .before .before .before .before .before .before .before in
-    let u16-at = c .before .before .before .before .before .before .before .before .before .before in
-    let u16-at2 = c .before .before .before .before .before .before .before .before .before in
-    let find-literal = c .before .before .before .before .before .before .before .before in
-    let literal-length = c .before .before .before .before .before .before .before in
-    let else2 = c .before .before .before .before .before .before in
-    let answer-fits = c .before .before .before .before .before in
-    let else3 = c .before .before .before .before in
     let write-literal = c .before .before in
-    literal-writes (start .args .schema .now) (start .args .v .now) (start .args .out .now) (checked-there (start .args .schema .now) (start .args .check) (start .pre) (check .check .given .0 .0) (check .check .given .1)) (u16-at .u16-at .result) (u16-at2 .u16-at2 .result) (uid-read (start .args .v .now) (whole-uid .whole-uid .result) (whole-uid .whole-uid .ensures) (else1 .if1 .left) (u16-at .u16-at .result) (u16-at2 .u16-at2 .result) (u16-at .u16-at .ensures .0) (u16-at2 .u16-at2 .ensures .0)) (find-literal .find-literal .result) (find-literal .find-literal .ensures) (Bytes-index (start .args .schema .now) (λ i. omega (arith, shared-slice-known .shared-slice-known .given i))) (literal-length .literal-length .result) (literal-length .literal-length .ensures) (else2 .if2 .left) (answer-fits .answer-fits .result) (answer-fits .answer-fits .ensures) (else3 .if3 .left) (write-literal .write-literal .last .1 .1 .1 .0) (write-literal .write-literal .ensures)
+    let else3 = write-literal .before .before in
+    let answer-fits = else3 .before in
+    let else2 = answer-fits .before in
+    let literal-length = else2 .before in
+    let find-literal = literal-length .before in
+    let u16-at2 = find-literal .before in
+    let u16-at = u16-at2 .before in
+    let else1 = u16-at .before in
+    let whole-uid = else1 .before in
+    let check = whole-uid .before .before in
+    let shared-slice-known = check .before .before .before .before in
+    let start = shared-slice-known .before in
+    let args = start .args in
+    let by-uid-read = uid-read (args .v .now) (whole-uid .whole-uid .result) (whole-uid .whole-uid .ensures) (else1 .if1 .left) (u16-at .u16-at .result)
+    (u16-at2 .u16-at2 .result) (u16-at .u16-at .ensures .0) (u16-at2 .u16-at2 .ensures .0) in
+    let by-checked-there = checked-there (args .schema .now) (args .check) (start .pre) (check .check .given .0 .0) (check .check .given .1) in
+    let by-Bytes-index = Bytes-index (args .schema .now) (λ i. omega (arith, shared-slice-known .shared-slice-known .given i)) in
+    literal-writes (args .schema .now) (args .v .now) (args .out .now) by-checked-there (u16-at .u16-at .result) (u16-at2 .u16-at2 .result)
+    by-uid-read (find-literal .find-literal .result) (find-literal .find-literal .ensures) by-Bytes-index (literal-length .literal-length .result)
+    (literal-length .literal-length .ensures) (else2 .if2 .left) (answer-fits .answer-fits .result) (answer-fits .answer-fits .ensures)
+    (else3 .if3 .left) (write-literal .write-literal .last .1 .1 .1 .0) (write-literal .write-literal .ensures)
 
 pub euid-literal-checked-spec : {M : Type 1} → statement M
 euid-literal-checked-spec =

@@ -12,15 +12,24 @@ whole-value-requires c κs = search needs
 
 -- src/euid_literal.rt:26:9
 returns : tie.Need-returns
-returns c = uid-not-whole ((c .before .before .before) .args .v .now) ((c .before) .whole-value .result) ((c .before) .whole-value .ensures) (c .if1 .taken)
+returns c =
+    let whole-value = c .before .whole-value in
+    let args = c .before .before .before .args in
+    uid-not-whole (args .v .now) (whole-value .result) (whole-value .ensures) (c .if1 .taken)
 
 -- src/euid_literal.rt:28:5
 shared-slice-read-result : tie.Need-shared-slice-read-result
-shared-slice-read-result c = value-some ((c .before .before .before .before) .args .v .now) ((c .before .before) .whole-value .result) ((c .before .before) .whole-value .ensures) ((c .before) .if1 .left)
+shared-slice-read-result c =
+    let whole-value = c .before .before .whole-value in
+    let args = c .before .before .before .before .args in
+    value-some (args .v .now) (whole-value .result) (whole-value .ensures) (c .before .if1 .left)
 
 -- src/euid_literal.rt:22:1
 returns-2 : tie.Need-returns-2
-returns-2 c = uid-by-kind ((c .before .before .before .before) .args .v .now) ((c .before .before) .whole-value .result) ((c .before .before) .whole-value .ensures) ((c .before) .if1 .left)
+returns-2 c =
+    let whole-value = c .before .before .whole-value in
+    let args = c .before .before .before .before .args in
+    uid-by-kind (args .v .now) (whole-value .result) (whole-value .ensures) (c .before .if1 .left)
 
 pub whole-uid-spec : {M : Type 1} → statement M
 whole-uid-spec =

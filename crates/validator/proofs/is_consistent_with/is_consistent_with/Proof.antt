@@ -20,19 +20,30 @@ whole-type-requires c κs = search needs
 
 returns : tie.Need-returns
 returns c =
-    let start = c .before .before .before .before in
     let after-whole-type = c .before in
-    ask-no badFirst (λ (t : Ty). ask badSecond (wholeType standard (start .args .t1 .now)) (λ (u : Ty). ask notPlain (guard (plain u)) (λ _. said (consistent t u)))) (missing (wholeType standard (start .args .t0 .now)) (after-whole-type .whole-type .result) (after-whole-type .whole-type .ensures) (c .if1 .taken))
+    let start = after-whole-type .before .before .before in
+    let by-missing = missing (wholeType standard (start .args .t0 .now)) (after-whole-type .whole-type .result) (after-whole-type .whole-type .ensures)
+    (c .if1 .taken) in
+    ask-no badFirst
+    (λ (t : Ty). ask badSecond (wholeType standard (start .args .t1 .now)) (λ (u : Ty). ask notPlain (guard (plain u)) (λ _. said (consistent t u))))
+    by-missing
 
 whole-type-requires-2 : tie.Need-whole-type-requires-2
 whole-type-requires-2 c κs = search needs
 
 returns-2 : tie.Need-returns-2
 returns-2 c =
-    let start = c .before .before .before .before .before .before in
-    let after-whole-type = c .before .before .before in
     let after-whole-type2 = c .before in
-    (ask-on badFirst (λ (t : Ty). ask badSecond (wholeType standard (start .args .t1 .now)) (λ (u : Ty). ask notPlain (guard (plain u)) (λ _. said (consistent t u)))) (type-there (start .args .t0 .now) (after-whole-type .whole-type .result) (after-whole-type .whole-type .ensures) (c .before .before .if1 .left))) (ask-no badSecond (λ (u : Ty). ask notPlain (guard (plain u)) (λ _. said (consistent (dec (standard .levels) (start .args .t0 .now)) u))) (missing (wholeType standard (start .args .t1 .now)) (after-whole-type2 .whole-type2 .result) (after-whole-type2 .whole-type2 .ensures) (c .if2 .taken)))
+    let if1 = after-whole-type2 .before .if1 in
+    let after-whole-type = after-whole-type2 .before .before in
+    let start = after-whole-type .before .before .before in
+    let args = start .args in
+    let by-type-there = type-there (args .t0 .now) (after-whole-type .whole-type .result) (after-whole-type .whole-type .ensures) (if1 .left) in
+    let by-missing = missing (wholeType standard (args .t1 .now)) (after-whole-type2 .whole-type2 .result) (after-whole-type2 .whole-type2 .ensures)
+    (c .if2 .taken) in
+    ask-on badFirst (λ (t : Ty). ask badSecond (wholeType standard (args .t1 .now)) (λ (u : Ty). ask notPlain (guard (plain u)) (λ _. said (consistent t u))))
+    by-type-there (ask-no badSecond (λ (u : Ty). ask notPlain (guard (plain u)) (λ _. said (consistent (dec (standard .levels) (args .t0 .now)) u)))
+    by-missing)
 
 is-plain-requires : tie.Need-is-plain-requires
 is-plain-requires c κs =
@@ -42,33 +53,54 @@ is-plain-requires c κs =
 
 returns-3 : tie.Need-returns-3
 returns-3 c =
-    let start = c .before .before .before .before .before .before .before .before in
-    let after-whole-type = c .before .before .before .before .before in
-    let else1 = c .before .before .before .before in
-    let after-whole-type2 = c .before .before .before in
     let after-is-plain = c .before in
-    (ask-on badFirst (λ (t : Ty). ask badSecond (wholeType standard (start .args .t1 .now)) (λ (u : Ty). ask notPlain (guard (plain u)) (λ _. said (consistent t u)))) (type-there (start .args .t0 .now) (after-whole-type .whole-type .result) (after-whole-type .whole-type .ensures) (else1 .if1 .left))) ((ask-on badSecond (λ (u : Ty). ask notPlain (guard (plain u)) (λ _. said (consistent (dec (standard .levels) (start .args .t0 .now)) u))) (type-there (start .args .t1 .now) (after-whole-type2 .whole-type2 .result) (after-whole-type2 .whole-type2 .ensures) (c .before .before .if2 .left))) (ask-no notPlain (λ (_ : Unit {0}). said (consistent (dec (standard .levels) (start .args .t0 .now)) (dec (standard .levels) (start .args .t1 .now)))) (guard-no (plain (dec (standard .levels) (start .args .t1 .now))) (after-is-plain .is-plain .result) (after-is-plain .is-plain .ensures) (c .if3 .taken))))
+    let if2 = after-is-plain .before .if2 in
+    let after-whole-type2 = after-is-plain .before .before in
+    let else1 = after-whole-type2 .before in
+    let after-whole-type = else1 .before in
+    let start = after-whole-type .before .before .before in
+    let args = start .args in
+    let by-type-there = type-there (args .t0 .now) (after-whole-type .whole-type .result) (after-whole-type .whole-type .ensures) (else1 .if1 .left) in
+    let by-type-there-2 = type-there (args .t1 .now) (after-whole-type2 .whole-type2 .result) (after-whole-type2 .whole-type2 .ensures) (if2 .left) in
+    let by-guard-no = guard-no (plain (dec (standard .levels) (args .t1 .now))) (after-is-plain .is-plain .result) (after-is-plain .is-plain .ensures)
+    (c .if3 .taken) in
+    ask-on badFirst (λ (t : Ty). ask badSecond (wholeType standard (args .t1 .now)) (λ (u : Ty). ask notPlain (guard (plain u)) (λ _. said (consistent t u))))
+    by-type-there (ask-on badSecond (λ (u : Ty). ask notPlain (guard (plain u)) (λ _. said (consistent (dec (standard .levels) (args .t0 .now)) u)))
+    by-type-there-2 (ask-no notPlain
+    (λ (_ : Unit {0}). said (consistent (dec (standard .levels) (args .t0 .now)) (dec (standard .levels) (args .t1 .now)))) by-guard-no))
 
 is-consistent-with-requires : tie.Need-is-consistent-with-requires
 is-consistent-with-requires c κs =
-    let start = c .before .before .before .before .before .before .before .before in
-    let after-whole-type = c .before .before .before .before .before in
-    let else1 = c .before .before .before .before in
+    let if2 = c .before .before .if2 in
     let after-whole-type2 = c .before .before .before in
-    (type-whole (start .args .t0 .now) (after-whole-type .whole-type .result) (after-whole-type .whole-type .ensures) (else1 .if1 .left), type-whole (start .args .t1 .now) (after-whole-type2 .whole-type2 .result) (after-whole-type2 .whole-type2 .ensures) (c .before .before .if2 .left))
+    let else1 = after-whole-type2 .before in
+    let after-whole-type = else1 .before in
+    let start = after-whole-type .before .before .before in
+    let by-type-whole = type-whole (start .args .t0 .now) (after-whole-type .whole-type .result) (after-whole-type .whole-type .ensures) (else1 .if1 .left) in
+    (by-type-whole, type-whole (start .args .t1 .now) (after-whole-type2 .whole-type2 .result) (after-whole-type2 .whole-type2 .ensures) (if2 .left))
 
 yes-or-no-requires : tie.Need-yes-or-no-requires
 yes-or-no-requires c κs = search needs
 
 returns-4 : tie.Need-returns-4
 returns-4 c =
-    let start = c .before .before .before .before .before .before .before .before .before .before in
-    let after-whole-type = c .before .before .before .before .before .before .before in
-    let else1 = c .before .before .before .before .before .before in
-    let after-whole-type2 = c .before .before .before .before .before in
-    let else2 = c .before .before .before .before in
+    let if3 = c .before .before .if3 in
     let after-is-plain = c .before .before .before in
-    (ask-on badFirst (λ (t : Ty). ask badSecond (wholeType standard (start .args .t1 .now)) (λ (u : Ty). ask notPlain (guard (plain u)) (λ _. said (consistent t u)))) (type-there (start .args .t0 .now) (after-whole-type .whole-type .result) (after-whole-type .whole-type .ensures) (else1 .if1 .left))) ((ask-on badSecond (λ (u : Ty). ask notPlain (guard (plain u)) (λ _. said (consistent (dec (standard .levels) (start .args .t0 .now)) u))) (type-there (start .args .t1 .now) (after-whole-type2 .whole-type2 .result) (after-whole-type2 .whole-type2 .ensures) (else2 .if2 .left))) (ask-on notPlain (λ (_ : Unit {0}). said (consistent (dec (standard .levels) (start .args .t0 .now)) (dec (standard .levels) (start .args .t1 .now)))) (guard-yes (plain (dec (standard .levels) (start .args .t1 .now))) (after-is-plain .is-plain .result) (after-is-plain .is-plain .ensures) (c .before .before .if3 .left)) (c .yes-or-no .ensures ∙ ap (λ x. answerOf (said x)) (c .before .is-consistent-with .ensures))))
+    let else2 = after-is-plain .before in
+    let after-whole-type2 = else2 .before in
+    let else1 = after-whole-type2 .before in
+    let after-whole-type = else1 .before in
+    let start = after-whole-type .before .before .before in
+    let args = start .args in
+    let by-type-there = type-there (args .t0 .now) (after-whole-type .whole-type .result) (after-whole-type .whole-type .ensures) (else1 .if1 .left) in
+    let by-type-there-2 = type-there (args .t1 .now) (after-whole-type2 .whole-type2 .result) (after-whole-type2 .whole-type2 .ensures) (else2 .if2 .left) in
+    let by-guard-yes = guard-yes (plain (dec (standard .levels) (args .t1 .now))) (after-is-plain .is-plain .result) (after-is-plain .is-plain .ensures)
+    (if3 .left) in
+    ask-on badFirst (λ (t : Ty). ask badSecond (wholeType standard (args .t1 .now)) (λ (u : Ty). ask notPlain (guard (plain u)) (λ _. said (consistent t u))))
+    by-type-there (ask-on badSecond (λ (u : Ty). ask notPlain (guard (plain u)) (λ _. said (consistent (dec (standard .levels) (args .t0 .now)) u)))
+    by-type-there-2 (ask-on notPlain
+    (λ (_ : Unit {0}). said (consistent (dec (standard .levels) (args .t0 .now)) (dec (standard .levels) (args .t1 .now))))
+    by-guard-yes (c .yes-or-no .ensures ∙ ap (λ x. answerOf (said x)) (c .before .is-consistent-with .ensures))))
 
 pub is-consistent-with-spec : {M : Type 1} → statement M
 is-consistent-with-spec =

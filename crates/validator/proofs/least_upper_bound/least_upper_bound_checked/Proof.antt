@@ -2,74 +2,100 @@
 use mathlib.Core.Path.{refl}
 use lib.ListN.{length}
 use Rattle.cedar.specs.Laws.DirectBound.{direct}
-use Rattle.cedar.specs.Calls.{modeOf}
 use Rattle.forms.specs.TypeBytes.{dec}
 use Rattle.forms.specs.Modes.{asMode}
-use Rattle.validator.specs.Laws.Questions.{missing, type-missing, type-there, type-whole}
+use Rattle.forms.specs.Laws.Modes.{mode-known, mode-none}
+use Rattle.validator.specs.Laws.Questions.{type-missing, type-there, type-whole}
 use Rattle.validator.specs.Laws.Schemas.{checked-missing, checked-there}
 use Rattle.validator.specs.Laws.Writing.{refuses, writes-not, writes-over, writes-ready, writes}
-use Rattle.validator.specs.Laws.Bound.{mode-as, bound-mode, bound-schema, bound-first, bound-second, bound-direct}
+use Rattle.validator.specs.Laws.Bound.{bound-mode, bound-schema, bound-first, bound-second, bound-direct}
 use borrow.Author.Needs.{needs}
 use Rattle.validator.proofs.least_upper_bound.least_upper_bound_checked.Statement.{
   statement,
 }
 use Rattle.validator.proofs.least_upper_bound.least_upper_bound_checked.Tie as tie
 
-is-mode-requires : tie.Need-is-mode-requires
-is-mode-requires c κs = search needs
+from-number-requires : tie.Need-from-number-requires
+from-number-requires c κs = search needs
 
-returns : tie.Need-returns
-returns c =
-    let start = c .before .before .before .before .before .before in
-    let is-mode = c .before in
-    refuses 1 (bound-mode (start .args .mode) (start .args .schema .now) (start .args .t0 .now) (start .args .t1 .now) (length (start .args .out .now)) (missing (modeOf (start .args .mode)) (is-mode .is-mode .result) (is-mode .is-mode .ensures) (c .if1 .taken)))
+enum-known-m : tie.Need-enum-known-m
+enum-known-m c = search needs
 
 enum-told : tie.Need-enum-told
 enum-told c = search needs
 
+returns : tie.Need-returns
+returns c =
+    let from = c .before .before in
+    let start = from .before .before .before .before .before in
+    let args = start .args in
+    let by-mode-none = mode-none (args .mode) (from .from-number .result) (from .from-number .ensures) (c .enum-told .given .1) in
+    let by-bound-mode = bound-mode (args .mode) (args .schema .now) (args .t0 .now) (args .t1 .now) (length (args .out .now)) by-mode-none in
+    refuses 1 by-bound-mode
+
 enum-told-2 : tie.Need-enum-told-2
 enum-told-2 c = search needs
 
+enum-told-3 : tie.Need-enum-told-3
+enum-told-3 c = search needs
+
 returns-2 : tie.Need-returns-2
 returns-2 c =
-    let start = c .before .before .before .before .before .before .before .before in
-    let is-mode = c .before .before .before in
-    let else1 = c .before .before in
-    refuses 2 (bound-schema (start .args .mode) (start .args .schema .now) (start .args .t0 .now) (start .args .t1 .now) (length (start .args .out .now)) (mode-as (start .args .mode) (is-mode .is-mode .result) (is-mode .is-mode .ensures) (else1 .if1 .left)) (checked-missing (start .args .schema .now) (start .args .check) (start .pre) (c .enum-told2 .given .1)))
+    let known = c .before .before .before in
+    let from = known .before .before in
+    let start = from .before .before .before .before .before in
+    let args = start .args in
+    let by-mode-known = mode-known (args .mode) (from .from-number .result) (from .from-number .ensures) (known .m .given .0 .0) (known .m .given .1) in
+    let by-checked-missing = checked-missing (args .schema .now) (args .check) (start .pre) (c .enum-told3 .given .1) in
+    refuses 2 (bound-schema (args .mode) (args .schema .now) (args .t0 .now) (args .t1 .now) (length (args .out .now)) _ by-mode-known by-checked-missing)
 
 whole-type-requires : tie.Need-whole-type-requires
 whole-type-requires c κs = search needs
 
 returns-3 : tie.Need-returns-3
 returns-3 c =
-    let start = c .before .before .before .before .before .before .before .before .before .before in
-    let is-mode = c .before .before .before .before .before in
-    let else1 = c .before .before .before .before in
-    let at-enum-told = c .before .before in
     let whole-type = c .before in
-    refuses 3 (bound-first (start .args .mode) (start .args .schema .now) (start .args .t0 .now) (start .args .t1 .now) (length (start .args .out .now)) (mode-as (start .args .mode) (is-mode .is-mode .result) (is-mode .is-mode .ensures) (else1 .if1 .left)) _ (checked-there (start .args .schema .now) (start .args .check) (start .pre) (at-enum-told .enum-told .given .0 .0) (at-enum-told .enum-told .given .1)) (type-missing (start .args .t0 .now) (whole-type .whole-type .result) (whole-type .whole-type .ensures) (c .if2 .taken)))
+    let at-enum-told = whole-type .before in
+    let known = at-enum-told .before .before .before in
+    let from = known .before .before in
+    let start = from .before .before .before .before .before in
+    let args = start .args in
+    let by-mode-known = mode-known (args .mode) (from .from-number .result) (from .from-number .ensures) (known .m .given .0 .0) (known .m .given .1) in
+    let by-checked-there = checked-there (args .schema .now) (args .check) (start .pre) (at-enum-told .enum-told2 .given .0 .0)
+    (at-enum-told .enum-told2 .given .1) in
+    let by-type-missing = type-missing (args .t0 .now) (whole-type .whole-type .result) (whole-type .whole-type .ensures) (c .if1 .taken) in
+    refuses 3 (bound-first (args .mode) (args .schema .now) (args .t0 .now) (args .t1 .now) (length (args .out .now)) _ by-mode-known _ by-checked-there
+    by-type-missing)
 
 whole-type-requires-2 : tie.Need-whole-type-requires-2
 whole-type-requires-2 c κs = search needs
 
 returns-4 : tie.Need-returns-4
 returns-4 c =
-    let start = c .before .before .before .before .before .before .before .before .before .before .before .before in
-    let is-mode = c .before .before .before .before .before .before .before in
-    let else1 = c .before .before .before .before .before .before in
-    let at-enum-told = c .before .before .before .before in
-    let whole-type = c .before .before .before in
-    let else2 = c .before .before in
     let whole-type2 = c .before in
-    refuses 4 (bound-second (start .args .mode) (start .args .schema .now) (start .args .t0 .now) (start .args .t1 .now) (length (start .args .out .now)) (mode-as (start .args .mode) (is-mode .is-mode .result) (is-mode .is-mode .ensures) (else1 .if1 .left)) _ (checked-there (start .args .schema .now) (start .args .check) (start .pre) (at-enum-told .enum-told .given .0 .0) (at-enum-told .enum-told .given .1)) (type-there (start .args .t0 .now) (whole-type .whole-type .result) (whole-type .whole-type .ensures) (else2 .if2 .left)) (type-missing (start .args .t1 .now) (whole-type2 .whole-type2 .result) (whole-type2 .whole-type2 .ensures) (c .if3 .taken)))
+    let else2 = whole-type2 .before in
+    let whole-type = else2 .before in
+    let at-enum-told = whole-type .before in
+    let known = at-enum-told .before .before .before in
+    let from = known .before .before in
+    let start = from .before .before .before .before .before in
+    let args = start .args in
+    let by-mode-known = mode-known (args .mode) (from .from-number .result) (from .from-number .ensures) (known .m .given .0 .0) (known .m .given .1) in
+    let by-checked-there = checked-there (args .schema .now) (args .check) (start .pre) (at-enum-told .enum-told2 .given .0 .0)
+    (at-enum-told .enum-told2 .given .1) in
+    let by-type-there = type-there (args .t0 .now) (whole-type .whole-type .result) (whole-type .whole-type .ensures) (else2 .if1 .left) in
+    let by-type-missing = type-missing (args .t1 .now) (whole-type2 .whole-type2 .result) (whole-type2 .whole-type2 .ensures) (c .if2 .taken) in
+    refuses 4 (bound-second (args .mode) (args .schema .now) (args .t0 .now) (args .t1 .now) (length (args .out .now)) _ by-mode-known _ by-checked-there
+    by-type-there by-type-missing)
 
-bound-extent-requires : tie.Need-bound-extent-requires
-bound-extent-requires c κs =
-    let start = c .before .before .before .before .before .before .before .before .before .before .before .before in
-    let whole-type = c .before .before .before in
-    let else2 = c .before .before in
+bound-length-requires : tie.Need-bound-length-requires
+bound-length-requires c κs =
     let whole-type2 = c .before in
-    ((type-whole (start .args .t0 .now) (whole-type .whole-type .result) (whole-type .whole-type .ensures) (else2 .if2 .left)), (type-whole (start .args .t1 .now) (whole-type2 .whole-type2 .result) (whole-type2 .whole-type2 .ensures) (c .if3 .left)))
+    let else2 = whole-type2 .before in
+    let whole-type = else2 .before in
+    let start = whole-type .before .before .before .before .before .before .before .before .before .before .before in
+    let by-type-whole = type-whole (start .args .t0 .now) (whole-type .whole-type .result) (whole-type .whole-type .ensures) (else2 .if1 .left) in
+    (by-type-whole, type-whole (start .args .t1 .now) (whole-type2 .whole-type2 .result) (whole-type2 .whole-type2 .ensures) (c .if2 .left))
 
 enum-known-n : tie.Need-enum-known-n
 enum-known-n c = search needs
@@ -79,33 +105,55 @@ answer-fits-requires c κs = search needs
 
 returns-5 : tie.Need-returns-5
 returns-5 c =
-    let start = c .before .before .before .before .before .before .before .before .before .before .before .before .before .before .before .before .before .before in
-    let shared-slice-known2 = c .before .before .before .before .before .before .before .before .before .before .before .before .before .before .before .before in
-    let shared-slice-known3 = c .before .before .before .before .before .before .before .before .before .before .before .before .before .before .before in
-    let is-mode = c .before .before .before .before .before .before .before .before .before .before .before .before .before in
-    let else1 = c .before .before .before .before .before .before .before .before .before .before .before .before in
-    let at-enum-told = c .before .before .before .before .before .before .before .before .before .before in
-    let whole-type = c .before .before .before .before .before .before .before .before .before in
-    let else2 = c .before .before .before .before .before .before .before .before in
-    let whole-type2 = c .before .before .before .before .before .before .before in
-    let else3 = c .before .before .before .before .before .before in
-    let bound-extent = c .before .before .before .before .before in
-    let n = c .before .before .before in
     let answer-fits = c .before in
-    writes-over (direct (asMode (start .args .mode)) (dec 16 (start .args .t0 .now)) (dec 16 (start .args .t1 .now))) (start .args .out .now) _ (bound-direct (start .args .mode) (start .args .schema .now) (start .args .t0 .now) (start .args .t1 .now) (length (start .args .out .now)) (mode-as (start .args .mode) (is-mode .is-mode .result) (is-mode .is-mode .ensures) (else1 .if1 .left)) _ (checked-there (start .args .schema .now) (start .args .check) (start .pre) (at-enum-told .enum-told .given .0 .0) (at-enum-told .enum-told .given .1)) (type-there (start .args .t0 .now) (whole-type .whole-type .result) (whole-type .whole-type .ensures) (else2 .if2 .left)) (λ i. shared-slice-known2 .shared-slice-known2 .given i .fits) (λ i. shared-slice-known3 .shared-slice-known3 .given i .fits) (type-there (start .args .t1 .now) (whole-type2 .whole-type2 .result) (whole-type2 .whole-type2 .ensures) (else3 .if3 .left))) (bound-extent .bound-extent .result) (bound-extent .bound-extent .ensures) (n .n .given .0 .0) (n .n .given .1) (answer-fits .answer-fits .result) (answer-fits .answer-fits .ensures) (c .if4 .taken)
+    let n = answer-fits .before .before in
+    let bound-length = n .before .before in
+    let else3 = bound-length .before in
+    let whole-type2 = else3 .before in
+    let else2 = whole-type2 .before in
+    let whole-type = else2 .before in
+    let at-enum-told = whole-type .before in
+    let known = at-enum-told .before .before .before in
+    let from = known .before .before in
+    let shared-slice-known3 = from .before .before in
+    let shared-slice-known2 = shared-slice-known3 .before in
+    let start = shared-slice-known2 .before .before in
+    let args = start .args in
+    let by-direct = direct (asMode (known .m .given .0 .0)) (dec 16 (args .t0 .now)) (dec 16 (args .t1 .now)) in
+    let by-mode-known = mode-known (args .mode) (from .from-number .result) (from .from-number .ensures) (known .m .given .0 .0) (known .m .given .1) in
+    let by-checked-there = checked-there (args .schema .now) (args .check) (start .pre) (at-enum-told .enum-told2 .given .0 .0)
+    (at-enum-told .enum-told2 .given .1) in
+    let by-type-there = type-there (args .t0 .now) (whole-type .whole-type .result) (whole-type .whole-type .ensures) (else2 .if1 .left) in
+    let by-type-there-2 = type-there (args .t1 .now) (whole-type2 .whole-type2 .result) (whole-type2 .whole-type2 .ensures) (else3 .if2 .left) in
+    writes-over by-direct (args .out .now)
+    _ (bound-direct (args .mode) (args .schema .now) (args .t0 .now) (args .t1 .now) (length (args .out .now)) _ by-mode-known _ by-checked-there
+    by-type-there (λ i. shared-slice-known2 .shared-slice-known2 .given i .fits) (λ i. shared-slice-known3 .shared-slice-known3 .given i .fits)
+    by-type-there-2) (bound-length .bound-length .result) (bound-length .bound-length .ensures) (n .n .given .0 .0) (n .n .given .1)
+    (answer-fits .answer-fits .result) (answer-fits .answer-fits .ensures) (c .if3 .taken)
 
 write-bound-requires : tie.Need-write-bound-requires
 write-bound-requires c κs =
-    let start = c .before .before .before .before .before .before .before .before .before .before .before .before .before .before .before .before .before .before .before in
-    let whole-type = c .before .before .before .before .before .before .before .before .before .before in
-    let else2 = c .before .before .before .before .before .before .before .before .before in
-    let whole-type2 = c .before .before .before .before .before .before .before .before in
-    let else3 = c .before .before .before .before .before .before .before in
-    let bound-extent = c .before .before .before .before .before .before in
-    let n = c .before .before .before .before in
-    let answer-fits = c .before .before in
     let else4 = c .before in
-    ((type-whole (start .args .t0 .now) (whole-type .whole-type .result) (whole-type .whole-type .ensures) (else2 .if2 .left)), ((type-whole (start .args .t1 .now) (whole-type2 .whole-type2 .result) (whole-type2 .whole-type2 .ensures) (else3 .if3 .left)), writes-ready (direct (asMode (start .args .mode)) (dec 16 (start .args .t0 .now)) (dec 16 (start .args .t1 .now))) (start .args .out .now) _ refl (bound-extent .bound-extent .result) (bound-extent .bound-extent .ensures) (n .n .given .0 .0) (n .n .given .1) (answer-fits .answer-fits .result) (answer-fits .answer-fits .ensures) (else4 .if4 .left)))
+    let answer-fits = else4 .before in
+    let n = answer-fits .before .before in
+    let bound-length = n .before .before in
+    let else3 = bound-length .before in
+    let whole-type2 = else3 .before in
+    let else2 = whole-type2 .before in
+    let whole-type = else2 .before in
+    let known = whole-type .before .before .before .before in
+    let start = known .before .before .before .before .before .before .before in
+    let args = start .args in
+    let by-type-whole = type-whole (args .t0 .now) (whole-type .whole-type .result) (whole-type .whole-type .ensures) (else2 .if1 .left) in
+    let by-type-whole-2 = type-whole (args .t1 .now) (whole-type2 .whole-type2 .result) (whole-type2 .whole-type2 .ensures) (else3 .if2 .left) in
+    let by-direct = direct (asMode (known .m .given .0 .0)) (dec 16 (args .t0 .now)) (dec 16 (args .t1 .now)) in (
+      by-type-whole,
+      (
+        by-type-whole-2,
+        writes-ready by-direct (args .out .now) _ refl (bound-length .bound-length .result) (bound-length .bound-length .ensures)
+            (n .n .given .0 .0) (n .n .given .1) (answer-fits .answer-fits .result) (answer-fits .answer-fits .ensures) (else4 .if3 .left),
+      ),
+    )
 
 enum-known-e : tie.Need-enum-known-e
 enum-known-e c = search needs
@@ -115,53 +163,77 @@ same-length c = search needs
 
 returns-6 : tie.Need-returns-6
 returns-6 c =
-    let start = c .before .before .before .before .before .before .before .before .before .before .before .before .before .before .before .before .before .before .before .before .before .before in
-    let shared-slice-known2 = c .before .before .before .before .before .before .before .before .before .before .before .before .before .before .before .before .before .before .before .before in
-    let shared-slice-known3 = c .before .before .before .before .before .before .before .before .before .before .before .before .before .before .before .before .before .before .before in
-    let is-mode = c .before .before .before .before .before .before .before .before .before .before .before .before .before .before .before .before .before in
-    let else1 = c .before .before .before .before .before .before .before .before .before .before .before .before .before .before .before .before in
-    let at-enum-told = c .before .before .before .before .before .before .before .before .before .before .before .before .before .before in
-    let whole-type = c .before .before .before .before .before .before .before .before .before .before .before .before .before in
-    let else2 = c .before .before .before .before .before .before .before .before .before .before .before .before in
-    let whole-type2 = c .before .before .before .before .before .before .before .before .before .before .before in
-    let else3 = c .before .before .before .before .before .before .before .before .before .before in
-    let bound-extent = c .before .before .before .before .before .before .before .before .before in
-    let n = c .before .before .before .before .before .before .before in
-    let answer-fits = c .before .before .before .before .before in
-    let else4 = c .before .before .before .before in
     let write-bound = c .before .before in
-    writes (direct (asMode (start .args .mode)) (dec 16 (start .args .t0 .now)) (dec 16 (start .args .t1 .now))) (start .args .out .now) _ (bound-direct (start .args .mode) (start .args .schema .now) (start .args .t0 .now) (start .args .t1 .now) (length (start .args .out .now)) (mode-as (start .args .mode) (is-mode .is-mode .result) (is-mode .is-mode .ensures) (else1 .if1 .left)) _ (checked-there (start .args .schema .now) (start .args .check) (start .pre) (at-enum-told .enum-told .given .0 .0) (at-enum-told .enum-told .given .1)) (type-there (start .args .t0 .now) (whole-type .whole-type .result) (whole-type .whole-type .ensures) (else2 .if2 .left)) (λ i. shared-slice-known2 .shared-slice-known2 .given i .fits) (λ i. shared-slice-known3 .shared-slice-known3 .given i .fits) (type-there (start .args .t1 .now) (whole-type2 .whole-type2 .result) (whole-type2 .whole-type2 .ensures) (else3 .if3 .left))) (bound-extent .bound-extent .result) (bound-extent .bound-extent .ensures) (n .n .given .0 .0) (n .n .given .1) (answer-fits .answer-fits .result) (answer-fits .answer-fits .ensures) (else4 .if4 .left) (write-bound .write-bound .last .1 .1 .1 .1 .0) (write-bound .write-bound .result) (write-bound .write-bound .ensures)
+    let else4 = write-bound .before .before in
+    let answer-fits = else4 .before in
+    let n = answer-fits .before .before in
+    let bound-length = n .before .before in
+    let else3 = bound-length .before in
+    let whole-type2 = else3 .before in
+    let else2 = whole-type2 .before in
+    let whole-type = else2 .before in
+    let at-enum-told = whole-type .before in
+    let known = at-enum-told .before .before .before in
+    let from = known .before .before in
+    let shared-slice-known3 = from .before .before in
+    let shared-slice-known2 = shared-slice-known3 .before in
+    let start = shared-slice-known2 .before .before in
+    let args = start .args in
+    let by-direct = direct (asMode (known .m .given .0 .0)) (dec 16 (args .t0 .now)) (dec 16 (args .t1 .now)) in
+    let by-mode-known = mode-known (args .mode) (from .from-number .result) (from .from-number .ensures) (known .m .given .0 .0) (known .m .given .1) in
+    let by-checked-there = checked-there (args .schema .now) (args .check) (start .pre) (at-enum-told .enum-told2 .given .0 .0)
+    (at-enum-told .enum-told2 .given .1) in
+    let by-type-there = type-there (args .t0 .now) (whole-type .whole-type .result) (whole-type .whole-type .ensures) (else2 .if1 .left) in
+    let by-type-there-2 = type-there (args .t1 .now) (whole-type2 .whole-type2 .result) (whole-type2 .whole-type2 .ensures) (else3 .if2 .left) in
+    writes by-direct (args .out .now) _ (bound-direct (args .mode) (args .schema .now) (args .t0 .now) (args .t1 .now) (length (args .out .now)) _ by-mode-known
+    _ by-checked-there by-type-there (λ i. shared-slice-known2 .shared-slice-known2 .given i .fits)
+    (λ i. shared-slice-known3 .shared-slice-known3 .given i .fits) by-type-there-2) (bound-length .bound-length .result)
+    (bound-length .bound-length .ensures) (n .n .given .0 .0) (n .n .given .1) (answer-fits .answer-fits .result)
+    (answer-fits .answer-fits .ensures) (else4 .if3 .left) (write-bound .write-bound .last .1 .1 .1 .1 .0) (write-bound .write-bound .result)
+    (write-bound .write-bound .ensures)
 
 returns-7 : tie.Need-returns-7
 returns-7 c =
-    let start = c .before .before .before .before .before .before .before .before .before .before .before .before .before .before .before .before in
-    let shared-slice-known2 = c .before .before .before .before .before .before .before .before .before .before .before .before .before .before in
-    let shared-slice-known3 = c .before .before .before .before .before .before .before .before .before .before .before .before .before in
-    let is-mode = c .before .before .before .before .before .before .before .before .before .before .before in
-    let else1 = c .before .before .before .before .before .before .before .before .before .before in
-    let at-enum-told = c .before .before .before .before .before .before .before .before in
-    let whole-type = c .before .before .before .before .before .before .before in
-    let else2 = c .before .before .before .before .before .before in
-    let whole-type2 = c .before .before .before .before .before in
-    let else3 = c .before .before .before .before in
-    let bound-extent = c .before .before .before in
     let e = c .before in
-    writes-not (direct (asMode (start .args .mode)) (dec 16 (start .args .t0 .now)) (dec 16 (start .args .t1 .now))) (start .args .out .now) _ (bound-direct (start .args .mode) (start .args .schema .now) (start .args .t0 .now) (start .args .t1 .now) (length (start .args .out .now)) (mode-as (start .args .mode) (is-mode .is-mode .result) (is-mode .is-mode .ensures) (else1 .if1 .left)) _ (checked-there (start .args .schema .now) (start .args .check) (start .pre) (at-enum-told .enum-told .given .0 .0) (at-enum-told .enum-told .given .1)) (type-there (start .args .t0 .now) (whole-type .whole-type .result) (whole-type .whole-type .ensures) (else2 .if2 .left)) (λ i. shared-slice-known2 .shared-slice-known2 .given i .fits) (λ i. shared-slice-known3 .shared-slice-known3 .given i .fits) (type-there (start .args .t1 .now) (whole-type2 .whole-type2 .result) (whole-type2 .whole-type2 .ensures) (else3 .if3 .left))) (bound-extent .bound-extent .result) (bound-extent .bound-extent .ensures) (e .e .given .0 .0) (e .e .given .1)
+    let bound-length = e .before .before in
+    let else3 = bound-length .before in
+    let whole-type2 = else3 .before in
+    let else2 = whole-type2 .before in
+    let whole-type = else2 .before in
+    let at-enum-told = whole-type .before in
+    let known = at-enum-told .before .before .before in
+    let from = known .before .before in
+    let shared-slice-known3 = from .before .before in
+    let shared-slice-known2 = shared-slice-known3 .before in
+    let start = shared-slice-known2 .before .before in
+    let args = start .args in
+    let by-direct = direct (asMode (known .m .given .0 .0)) (dec 16 (args .t0 .now)) (dec 16 (args .t1 .now)) in
+    let by-mode-known = mode-known (args .mode) (from .from-number .result) (from .from-number .ensures) (known .m .given .0 .0) (known .m .given .1) in
+    let by-checked-there = checked-there (args .schema .now) (args .check) (start .pre) (at-enum-told .enum-told2 .given .0 .0)
+    (at-enum-told .enum-told2 .given .1) in
+    let by-type-there = type-there (args .t0 .now) (whole-type .whole-type .result) (whole-type .whole-type .ensures) (else2 .if1 .left) in
+    let by-type-there-2 = type-there (args .t1 .now) (whole-type2 .whole-type2 .result) (whole-type2 .whole-type2 .ensures) (else3 .if2 .left) in
+    writes-not by-direct (args .out .now)
+    _ (bound-direct (args .mode) (args .schema .now) (args .t0 .now) (args .t1 .now) (length (args .out .now)) _ by-mode-known _ by-checked-there
+    by-type-there (λ i. shared-slice-known2 .shared-slice-known2 .given i .fits) (λ i. shared-slice-known3 .shared-slice-known3 .given i .fits)
+    by-type-there-2) (bound-length .bound-length .result) (bound-length .bound-length .ensures) (e .e .given .0 .0) (e .e .given .1)
 
 pub least-upper-bound-checked-spec : {M : Type 1} → statement M
 least-upper-bound-checked-spec =
     tie.close
     (tie.spec
-    is-mode-requires
-    returns
+    from-number-requires
+    enum-known-m
     enum-told
+    returns
     enum-told-2
+    enum-told-3
     returns-2
     whole-type-requires
     returns-3
     whole-type-requires-2
     returns-4
-    bound-extent-requires
+    bound-length-requires
     enum-known-n
     answer-fits-requires
     returns-5

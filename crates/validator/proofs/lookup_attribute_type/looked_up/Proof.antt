@@ -6,7 +6,6 @@ use lib.ListN.{length}
 use Rattle.schemas.specs.Laws.Finders.{kept}
 use Rattle.validator.specs.Laws.Questions.{type-missing, type-there, type-whole, type-few}
 use Rattle.validator.specs.Laws.Schemas.{checked-missing, checked-there}
-use Rattle.validator.specs.Laws.Lookup.{lookup-no-schema, lookup-no-type, lookup-nothing, lookup-too-long, lookup-over, lookup-room, lookup-writes}
 use borrow.Author.Needs.{needs}
 use Rattle.validator.proofs.lookup_attribute_type.looked_up.Statement.{statement}
 use Rattle.validator.proofs.lookup_attribute_type.looked_up.Tie as tie
@@ -20,28 +19,41 @@ enum-told c = search needs
 returns : tie.Need-returns
 returns c =
     let start = c .before .before .before .before .before .before in
-    lookup-no-schema (start .args .schema .now) (start .args .attr) (start .args .t .now) (start .args .out .now) (length (start .args .work .now)) (checked-missing (start .args .schema .now) (start .args .check) (start .pre) (c .enum-told .given .1))
+    let args = start .args in
+    let by-checked-missing = checked-missing (args .schema .now) (args .check) (start .pre) (c .enum-told .given .1) in
+    lookup-no-schema (args .schema .now) (args .attr) (args .t .now) (args .out .now) (length (args .work .now)) by-checked-missing
 
 whole-type-requires : tie.Need-whole-type-requires
 whole-type-requires c κs = search needs
 
 returns-2 : tie.Need-returns-2
 returns-2 c =
-    let start = c .before .before .before .before .before .before .before .before .before in
-    let check = c .before .before .before in
     let at-whole-type = c .before in
-    lookup-no-type (start .args .schema .now) (start .args .attr) (start .args .t .now) (start .args .out .now) (length (start .args .work .now)) _ (checked-there (start .args .schema .now) (start .args .check) (start .pre) (check .check .given .0 .0) (check .check .given .1)) (type-missing (start .args .t .now) (at-whole-type .whole-type .result) (at-whole-type .whole-type .ensures) (c .if1 .taken))
+    let check = at-whole-type .before .before in
+    let start = check .before .before .before .before .before .before in
+    let args = start .args in
+    let by-checked-there = checked-there (args .schema .now) (args .check) (start .pre) (check .check .given .0 .0) (check .check .given .1) in
+    let by-type-missing = type-missing (args .t .now) (at-whole-type .whole-type .result) (at-whole-type .whole-type .ensures) (c .if1 .taken) in
+    lookup-no-type (args .schema .now) (args .attr) (args .t .now) (args .out .now) (length (args .work .now)) _ by-checked-there by-type-missing
 
 slice-aggregate-look-up : tie.Need-slice-aggregate-look-up
 slice-aggregate-look-up c = search needs
 
 look-up-requires : tie.Need-look-up-requires
 look-up-requires c κs =
-    let start = c .before .before .before .before .before .before .before .before .before .before .before in
-    let check = c .before .before .before .before .before in
-    let at-whole-type = c .before .before .before in
     let else1 = c .before .before in
-    (kept (start .args .schema .now) (start .args .check) (start .pre) (check .check .given .0 .0) (check .check .given .1), record { good = type-whole (start .args .t .now) (at-whole-type .whole-type .result) (at-whole-type .whole-type .ensures) (else1 .if1 .left); few = type-few (start .args .t .now) (at-whole-type .whole-type .result) (at-whole-type .whole-type .ensures) (else1 .if1 .left); room = refl })
+    let at-whole-type = else1 .before in
+    let check = at-whole-type .before .before in
+    let start = check .before .before .before .before .before .before in
+    let args = start .args in
+    let by-kept = kept (args .schema .now) (args .check) (start .pre) (check .check .given .0 .0) (check .check .given .1) in (
+      by-kept,
+      record {
+        good = type-whole (args .t .now) (at-whole-type .whole-type .result) (at-whole-type .whole-type .ensures) (else1 .if1 .left);
+        few = type-few (args .t .now) (at-whole-type .whole-type .result) (at-whole-type .whole-type .ensures) (else1 .if1 .left);
+        room = refl;
+      },
+    )
 
 enum-known-required : tie.Need-enum-known-required
 enum-known-required c = search needs
@@ -54,14 +66,20 @@ same-length c = search needs
 
 returns-3 : tie.Need-returns-3
 returns-3 c =
-    let start = c .before .before .before .before .before .before .before .before .before .before .before .before .before .before .before .before .before .before .before .before in
-    let check = c .before .before .before .before .before .before .before .before .before .before .before .before .before .before in
-    let at-whole-type = c .before .before .before .before .before .before .before .before .before .before .before .before in
-    let else1 = c .before .before .before .before .before .before .before .before .before .before .before in
-    let look-up = c .before .before .before .before .before .before .before .before in
-    let required = c .before .before .before in
     let answer-fits = c .before in
-    lookup-over (start .args .schema .now) (start .args .attr) (start .args .t .now) (start .args .out .now) (length (start .args .work .now)) _ (checked-there (start .args .schema .now) (start .args .check) (start .pre) (check .check .given .0 .0) (check .check .given .1)) _ (type-there (start .args .t .now) (at-whole-type .whole-type .result) (at-whole-type .whole-type .ensures) (else1 .if1 .left)) (look-up .look-up .last .1 .1 .1 .1 .0) (look-up .look-up .result) (look-up .look-up .ensures) (required .required .given .0 .0) (required .required .given .0 .1 .0) (required .required .given .1) (look-up .look-up .kept .1 .1 .1 .1 .0) (answer-fits .answer-fits .result) (answer-fits .answer-fits .ensures) (c .if2 .taken)
+    let required = answer-fits .before .before in
+    let look-up = required .before .before .before .before .before in
+    let else1 = look-up .before .before .before in
+    let at-whole-type = else1 .before in
+    let check = at-whole-type .before .before in
+    let start = check .before .before .before .before .before .before in
+    let args = start .args in
+    let by-checked-there = checked-there (args .schema .now) (args .check) (start .pre) (check .check .given .0 .0) (check .check .given .1) in
+    let by-type-there = type-there (args .t .now) (at-whole-type .whole-type .result) (at-whole-type .whole-type .ensures) (else1 .if1 .left) in
+    lookup-over (args .schema .now) (args .attr) (args .t .now) (args .out .now) (length (args .work .now)) _ by-checked-there _ by-type-there
+    (look-up .look-up .last .1 .1 .1 .1 .0) (look-up .look-up .result) (look-up .look-up .ensures) (required .required .given .0 .0)
+    (required .required .given .0 .1 .0) (required .required .given .1) (look-up .look-up .kept .1 .1 .1 .1 .0) (answer-fits .answer-fits .result)
+    (answer-fits .answer-fits .ensures) (c .if2 .taken)
 
 sub-copy : tie.Need-sub-copy
 sub-copy c = search needs
@@ -71,25 +89,40 @@ part-copy-start c = search needs
 
 part-copy-end : tie.Need-part-copy-end
 part-copy-end c =
-    let start = c .before .before .before .before .before .before .before .before .before .before .before .before .before .before .before .before .before .before .before .before .before in
-    let check = c .before .before .before .before .before .before .before .before .before .before .before .before .before .before .before in
-    let at-whole-type = c .before .before .before .before .before .before .before .before .before .before .before .before .before in
-    let else1 = c .before .before .before .before .before .before .before .before .before .before .before .before in
-    let look-up = c .before .before .before .before .before .before .before .before .before in
     let required = c .before .before .before .before in
-    omega (arith, small (start .args .schema .now) (start .args .attr) (start .args .t .now) (start .args .out .now) (length (start .args .work .now)) _ (checked-there (start .args .schema .now) (start .args .check) (start .pre) (check .check .given .0 .0) (check .check .given .1)) _ (type-there (start .args .t .now) (at-whole-type .whole-type .result) (at-whole-type .whole-type .ensures) (else1 .if1 .left)) (look-up .look-up .last .1 .1 .1 .1 .0) (look-up .look-up .result) (look-up .look-up .ensures) (required .required .given .0 .0) (required .required .given .0 .1 .0) (required .required .given .1) (look-up .look-up .kept .1 .1 .1 .1 .0), look-up .look-up .kept .1 .1 .1 .1 .0)
+    let look-up = required .before .before .before .before .before in
+    let else1 = look-up .before .before .before in
+    let at-whole-type = else1 .before in
+    let check = at-whole-type .before .before in
+    let start = check .before .before .before .before .before .before in
+    let args = start .args in
+    let by-checked-there = checked-there (args .schema .now) (args .check) (start .pre) (check .check .given .0 .0) (check .check .given .1) in
+    let by-type-there = type-there (args .t .now) (at-whole-type .whole-type .result) (at-whole-type .whole-type .ensures) (else1 .if1 .left) in
+    omega (
+      arith,
+      small (args .schema .now) (args .attr) (args .t .now) (args .out .now) (length (args .work .now)) _ by-checked-there _ by-type-there
+          (look-up .look-up .last .1 .1 .1 .1 .0) (look-up .look-up .result) (look-up .look-up .ensures) (required .required .given .0 .0)
+          (required .required .given .0 .1 .0) (required .required .given .1) (look-up .look-up .kept .1 .1 .1 .1 .0),
+      look-up .look-up .kept .1 .1 .1 .1 .0,
+    )
 
 copy-requires : tie.Need-copy-requires
 copy-requires c κs =
-    let start = c .before .before .before .before .before .before .before .before .before .before .before .before .before .before .before .before .before .before .before .before .before .before .before in
-    let check = c .before .before .before .before .before .before .before .before .before .before .before .before .before .before .before .before .before in
-    let at-whole-type = c .before .before .before .before .before .before .before .before .before .before .before .before .before .before .before in
-    let else1 = c .before .before .before .before .before .before .before .before .before .before .before .before .before .before in
-    let look-up = c .before .before .before .before .before .before .before .before .before .before .before in
-    let required = c .before .before .before .before .before .before in
-    let answer-fits = c .before .before .before .before in
     let else2 = c .before .before .before in
-    lookup-room (start .args .schema .now) (start .args .attr) (start .args .t .now) (start .args .out .now) (length (start .args .work .now)) _ (checked-there (start .args .schema .now) (start .args .check) (start .pre) (check .check .given .0 .0) (check .check .given .1)) _ (type-there (start .args .t .now) (at-whole-type .whole-type .result) (at-whole-type .whole-type .ensures) (else1 .if1 .left)) (look-up .look-up .last .1 .1 .1 .1 .0) (look-up .look-up .result) (look-up .look-up .ensures) (required .required .given .0 .0) (required .required .given .0 .1 .0) (required .required .given .1) (look-up .look-up .kept .1 .1 .1 .1 .0) (answer-fits .answer-fits .result) (answer-fits .answer-fits .ensures) (else2 .if2 .left)
+    let answer-fits = else2 .before in
+    let required = answer-fits .before .before in
+    let look-up = required .before .before .before .before .before in
+    let else1 = look-up .before .before .before in
+    let at-whole-type = else1 .before in
+    let check = at-whole-type .before .before in
+    let start = check .before .before .before .before .before .before in
+    let args = start .args in
+    let by-checked-there = checked-there (args .schema .now) (args .check) (start .pre) (check .check .given .0 .0) (check .check .given .1) in
+    let by-type-there = type-there (args .t .now) (at-whole-type .whole-type .result) (at-whole-type .whole-type .ensures) (else1 .if1 .left) in
+    lookup-room (args .schema .now) (args .attr) (args .t .now) (args .out .now) (length (args .work .now)) _ by-checked-there _ by-type-there
+    (look-up .look-up .last .1 .1 .1 .1 .0) (look-up .look-up .result) (look-up .look-up .ensures) (required .required .given .0 .0)
+    (required .required .given .0 .1 .0) (required .required .given .1) (look-up .look-up .kept .1 .1 .1 .1 .0) (answer-fits .answer-fits .result)
+    (answer-fits .answer-fits .ensures) (else2 .if2 .left)
 
 enum-told-2 : tie.Need-enum-told-2
 enum-told-2 c = search needs
@@ -105,40 +138,54 @@ same-length-3 c = search needs
 
 returns-4 : tie.Need-returns-4
 returns-4 c =
-    let start = c .before .before .before .before .before .before .before .before .before .before .before .before .before .before .before .before .before .before .before .before .before .before .before .before .before .before in
-    let check = c .before .before .before .before .before .before .before .before .before .before .before .before .before .before .before .before .before .before .before .before in
-    let at-whole-type = c .before .before .before .before .before .before .before .before .before .before .before .before .before .before .before .before .before .before in
-    let else1 = c .before .before .before .before .before .before .before .before .before .before .before .before .before .before .before .before .before in
-    let look-up = c .before .before .before .before .before .before .before .before .before .before .before .before .before .before in
-    let required = c .before .before .before .before .before .before .before .before .before in
-    let answer-fits = c .before .before .before .before .before .before .before in
-    let else2 = c .before .before .before .before .before .before in
     let copy = c .before .before in
-    lookup-writes (start .args .schema .now) (start .args .attr) (start .args .t .now) (start .args .out .now) (length (start .args .work .now)) _ (checked-there (start .args .schema .now) (start .args .check) (start .pre) (check .check .given .0 .0) (check .check .given .1)) _ (type-there (start .args .t .now) (at-whole-type .whole-type .result) (at-whole-type .whole-type .ensures) (else1 .if1 .left)) (look-up .look-up .last .1 .1 .1 .1 .0) (look-up .look-up .result) (look-up .look-up .ensures) (required .required .given .0 .0) (required .required .given .0 .1 .0) (required .required .given .1) (look-up .look-up .kept .1 .1 .1 .1 .0) (answer-fits .answer-fits .result) (answer-fits .answer-fits .ensures) (else2 .if2 .left) (copy .copy .last .1 .0) (copy .copy .ensures)
+    let else2 = copy .before .before .before .before in
+    let answer-fits = else2 .before in
+    let required = answer-fits .before .before in
+    let look-up = required .before .before .before .before .before in
+    let else1 = look-up .before .before .before in
+    let at-whole-type = else1 .before in
+    let check = at-whole-type .before .before in
+    let start = check .before .before .before .before .before .before in
+    let args = start .args in
+    let by-checked-there = checked-there (args .schema .now) (args .check) (start .pre) (check .check .given .0 .0) (check .check .given .1) in
+    let by-type-there = type-there (args .t .now) (at-whole-type .whole-type .result) (at-whole-type .whole-type .ensures) (else1 .if1 .left) in
+    lookup-writes (args .schema .now) (args .attr) (args .t .now) (args .out .now) (length (args .work .now)) _ by-checked-there _ by-type-there
+    (look-up .look-up .last .1 .1 .1 .1 .0) (look-up .look-up .result) (look-up .look-up .ensures) (required .required .given .0 .0)
+    (required .required .given .0 .1 .0) (required .required .given .1) (look-up .look-up .kept .1 .1 .1 .1 .0) (answer-fits .answer-fits .result)
+    (answer-fits .answer-fits .ensures) (else2 .if2 .left) (copy .copy .last .1 .0) (copy .copy .ensures)
 
 same-length-4 : tie.Need-same-length-4
 same-length-4 c = search needs
 
 returns-5 : tie.Need-returns-5
 returns-5 c =
-    let start = c .before .before .before .before .before .before .before .before .before .before .before .before .before .before .before .before .before in
-    let check = c .before .before .before .before .before .before .before .before .before .before .before in
-    let at-whole-type = c .before .before .before .before .before .before .before .before .before in
-    let else1 = c .before .before .before .before .before .before .before .before in
     let look-up = c .before .before .before .before .before in
-    lookup-nothing (start .args .schema .now) (start .args .attr) (start .args .t .now) (start .args .out .now) (length (start .args .work .now)) _ (checked-there (start .args .schema .now) (start .args .check) (start .pre) (check .check .given .0 .0) (check .check .given .1)) _ (type-there (start .args .t .now) (at-whole-type .whole-type .result) (at-whole-type .whole-type .ensures) (else1 .if1 .left)) (look-up .look-up .last .1 .1 .1 .1 .0) (look-up .look-up .result) (look-up .look-up .ensures) (c .enum-told2 .given .1)
+    let else1 = look-up .before .before .before in
+    let at-whole-type = else1 .before in
+    let check = at-whole-type .before .before in
+    let start = check .before .before .before .before .before .before in
+    let args = start .args in
+    let by-checked-there = checked-there (args .schema .now) (args .check) (start .pre) (check .check .given .0 .0) (check .check .given .1) in
+    let by-type-there = type-there (args .t .now) (at-whole-type .whole-type .result) (at-whole-type .whole-type .ensures) (else1 .if1 .left) in
+    lookup-nothing (args .schema .now) (args .attr) (args .t .now) (args .out .now) (length (args .work .now)) _ by-checked-there _ by-type-there
+    (look-up .look-up .last .1 .1 .1 .1 .0) (look-up .look-up .result) (look-up .look-up .ensures) (c .enum-told2 .given .1)
 
 same-length-5 : tie.Need-same-length-5
 same-length-5 c = search needs
 
 returns-6 : tie.Need-returns-6
 returns-6 c =
-    let start = c .before .before .before .before .before .before .before .before .before .before .before .before .before .before .before .before .before in
-    let check = c .before .before .before .before .before .before .before .before .before .before .before in
-    let at-whole-type = c .before .before .before .before .before .before .before .before .before in
-    let else1 = c .before .before .before .before .before .before .before .before in
     let look-up = c .before .before .before .before .before in
-    lookup-too-long (start .args .schema .now) (start .args .attr) (start .args .t .now) (start .args .out .now) (length (start .args .work .now)) _ (checked-there (start .args .schema .now) (start .args .check) (start .pre) (check .check .given .0 .0) (check .check .given .1)) _ (type-there (start .args .t .now) (at-whole-type .whole-type .result) (at-whole-type .whole-type .ensures) (else1 .if1 .left)) (look-up .look-up .last .1 .1 .1 .1 .0) (look-up .look-up .result) (look-up .look-up .ensures) (c .enum-told3 .given .1)
+    let else1 = look-up .before .before .before in
+    let at-whole-type = else1 .before in
+    let check = at-whole-type .before .before in
+    let start = check .before .before .before .before .before .before in
+    let args = start .args in
+    let by-checked-there = checked-there (args .schema .now) (args .check) (start .pre) (check .check .given .0 .0) (check .check .given .1) in
+    let by-type-there = type-there (args .t .now) (at-whole-type .whole-type .result) (at-whole-type .whole-type .ensures) (else1 .if1 .left) in
+    lookup-too-long (args .schema .now) (args .attr) (args .t .now) (args .out .now) (length (args .work .now)) _ by-checked-there _ by-type-there
+    (look-up .look-up .last .1 .1 .1 .1 .0) (look-up .look-up .result) (look-up .look-up .ensures) (c .enum-told3 .given .1)
 
 pub looked-up-spec : {M : Type 1} → statement M
 looked-up-spec =

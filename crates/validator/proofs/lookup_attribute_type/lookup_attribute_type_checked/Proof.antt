@@ -20,10 +20,11 @@ same-length-2 c = search needs
 
 returns : tie.Need-returns
 returns c =
-    let start = c .before .before .before .before .before .before .before .before .before .before .before .before .before .before .before in
-    let looked-up = c .before .before .before .before .before .before .before .before in
     let clear = c .before .before in
-    cleared-after (start .args .work .now) (looked-up .looked-up .last .1 .1 .1 .1 .1 .0) (clear .clear .last .0) (looked-up .looked-up .ensures) (looked-up .looked-up .kept .1 .1 .1 .1 .1 .0) (clear .clear .ensures)
+    let looked-up = clear .before .before .before .before .before .before in
+    let start = looked-up .before .before .before .before .before .before .before in
+    cleared-after (start .args .work .now) (looked-up .looked-up .last .1 .1 .1 .1 .1 .0) (clear .clear .last .0) (looked-up .looked-up .ensures)
+    (looked-up .looked-up .kept .1 .1 .1 .1 .1 .0) (clear .clear .ensures)
 
 pub lookup-attribute-type-checked-spec : {M : Type 1} → statement M
 lookup-attribute-type-checked-spec =

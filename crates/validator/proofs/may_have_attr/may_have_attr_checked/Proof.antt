@@ -16,36 +16,46 @@ enum-told c = search needs
 returns : tie.Need-returns
 returns c =
     let start = c .before .before .before .before in
-    may-have-no-schema (start .args .attr) (start .args .schema .now) (start .args .t .now) (checked-missing (start .args .schema .now) (start .args .check) (start .pre) (c .enum-told .given .1))
+    let args = start .args in
+    may-have-no-schema (args .attr) (args .schema .now) (args .t .now) (checked-missing (args .schema .now) (args .check) (start .pre) (c .enum-told .given .1))
 
 whole-type-requires : tie.Need-whole-type-requires
 whole-type-requires c κs = search needs
 
 returns-2 : tie.Need-returns-2
 returns-2 c =
-    let start = c .before .before .before .before .before .before .before in
-    let check = c .before .before .before in
     let whole-type = c .before in
-    may-have-no-type (start .args .attr) (start .args .schema .now) (start .args .t .now) _ (checked-there (start .args .schema .now) (start .args .check) (start .pre) (check .check .given .0 .0) (check .check .given .1)) (type-missing (start .args .t .now) (whole-type .whole-type .result) (whole-type .whole-type .ensures) (c .if1 .taken))
+    let check = whole-type .before .before in
+    let start = check .before .before .before .before in
+    let args = start .args in
+    let by-checked-there = checked-there (args .schema .now) (args .check) (start .pre) (check .check .given .0 .0) (check .check .given .1) in
+    let by-type-missing = type-missing (args .t .now) (whole-type .whole-type .result) (whole-type .whole-type .ensures) (c .if1 .taken) in
+    may-have-no-type (args .attr) (args .schema .now) (args .t .now) _ by-checked-there by-type-missing
 
 may-have-attr-requires : tie.Need-may-have-attr-requires
 may-have-attr-requires c κs =
-    let start = c .before .before .before .before .before .before .before in
-    let check = c .before .before .before in
     let whole-type = c .before in
-    (kept (start .args .schema .now) (start .args .check) (start .pre) (check .check .given .0 .0) (check .check .given .1), type-whole (start .args .t .now) (whole-type .whole-type .result) (whole-type .whole-type .ensures) (c .if1 .left))
+    let check = whole-type .before .before in
+    let start = check .before .before .before .before in
+    let args = start .args in
+    let by-kept = kept (args .schema .now) (args .check) (start .pre) (check .check .given .0 .0) (check .check .given .1) in
+    (by-kept, type-whole (args .t .now) (whole-type .whole-type .result) (whole-type .whole-type .ensures) (c .if1 .left))
 
 yes-or-no-requires : tie.Need-yes-or-no-requires
 yes-or-no-requires c κs = search needs
 
 returns-3 : tie.Need-returns-3
 returns-3 c =
-    let start = c .before .before .before .before .before .before .before .before .before in
-    let check = c .before .before .before .before .before in
-    let whole-type = c .before .before .before in
-    let else1 = c .before .before in
     let may-have-attr = c .before in
-    may-have-said (start .args .attr) (start .args .schema .now) (start .args .t .now) _ (checked-there (start .args .schema .now) (start .args .check) (start .pre) (check .check .given .0 .0) (check .check .given .1)) _ (type-there (start .args .t .now) (whole-type .whole-type .result) (whole-type .whole-type .ensures) (else1 .if1 .left)) (c .yes-or-no .result) (may-have-attr .may-have-attr .result) (c .yes-or-no .ensures) (may-have-attr .may-have-attr .ensures)
+    let else1 = may-have-attr .before in
+    let whole-type = else1 .before in
+    let check = whole-type .before .before in
+    let start = check .before .before .before .before in
+    let args = start .args in
+    let by-checked-there = checked-there (args .schema .now) (args .check) (start .pre) (check .check .given .0 .0) (check .check .given .1) in
+    let by-type-there = type-there (args .t .now) (whole-type .whole-type .result) (whole-type .whole-type .ensures) (else1 .if1 .left) in
+    may-have-said (args .attr) (args .schema .now) (args .t .now) _ by-checked-there _ by-type-there (c .yes-or-no .result)
+    (may-have-attr .may-have-attr .result) (c .yes-or-no .ensures) (may-have-attr .may-have-attr .ensures)
 
 pub may-have-attr-checked-spec : {M : Type 1} → statement M
 may-have-attr-checked-spec =

@@ -28,91 +28,101 @@ enum-known-start c = search needs
 
 sub-result : tie.Need-sub-result
 sub-result c =
-    let start = c .before .before .before .before .before .before .before in
-    let known = c .before .before .before .before .before in
-    let part = c .before .before .before .before in
     let place = c .before .before in
-    let f = here-found (start .args .schema .now) (start .args .attr) (start .args .t) (λ i. omega (arith, known .shared-slice-known2 .given i)) (part .own-attribute-part-checked .result) (part .own-attribute-part-checked .ensures) (place .start .given .0 .0) (place .start .given .0 .1 .0) (place .start .given .0 .1 .1 .0) (place .start .given .1) in
+    let part = place .before .before in
+    let known = part .before in
+    let start = known .before .before in
+    let args = start .args in
+    let f = here-found (args .schema .now) (args .attr) (args .t) (λ i. omega (arith, known .shared-slice-known2 .given i))
+    (part .own-attribute-part-checked .result) (part .own-attribute-part-checked .ensures) (place .start .given .0 .0) (place .start .given .0 .1 .0)
+    (place .start .given .0 .1 .1 .0) (place .start .given .1) in
     omega (arith, f .order, f .inside)
 
 part-result-start : tie.Need-part-result-start
-part-result-start c =
-    let start = c .before .before .before .before .before .before .before in
-    let known = c .before .before .before .before .before in
-    let part = c .before .before .before .before in
-    let place = c .before .before in
-    let f = here-found (start .args .schema .now) (start .args .attr) (start .args .t) (λ i. omega (arith, known .shared-slice-known2 .given i)) (part .own-attribute-part-checked .result) (part .own-attribute-part-checked .ensures) (place .start .given .0 .0) (place .start .given .0 .1 .0) (place .start .given .0 .1 .1 .0) (place .start .given .1) in
-    omega (arith, f .order, f .inside)
+part-result-start c = sub-result c
 
 part-result-end : tie.Need-part-result-end
 part-result-end c =
-    let start = c .before .before .before .before .before .before .before in
-    let known = c .before .before .before .before .before in
-    let part = c .before .before .before .before in
     let place = c .before .before in
-    let f = here-found (start .args .schema .now) (start .args .attr) (start .args .t) (λ i. omega (arith, known .shared-slice-known2 .given i)) (part .own-attribute-part-checked .result) (part .own-attribute-part-checked .ensures) (place .start .given .0 .0) (place .start .given .0 .1 .0) (place .start .given .0 .1 .1 .0) (place .start .given .1) in
+    let part = place .before .before in
+    let known = part .before in
+    let start = known .before .before in
+    let args = start .args in
+    let f = here-found (args .schema .now) (args .attr) (args .t) (λ i. omega (arith, known .shared-slice-known2 .given i))
+    (part .own-attribute-part-checked .result) (part .own-attribute-part-checked .ensures) (place .start .given .0 .0) (place .start .given .0 .1 .0)
+    (place .start .given .0 .1 .1 .0) (place .start .given .1) in
     omega (arith, f .order, f .inside)
 
 returns : tie.Need-returns
 returns c =
-    let start = c .before .before .before .before .before .before .before .before in
-    let known = c .before .before .before .before .before .before in
-    let part = c .before .before .before .before .before in
-    let place = c .before .before .before in
     let then1 = c .before in
-    here-required (start .args .schema .now) (start .args .attr) (start .args .t) (λ i. omega (arith, known .shared-slice-known2 .given i)) (part .own-attribute-part-checked .result) (part .own-attribute-part-checked .ensures) (place .start .given .0 .0) (place .start .given .0 .1 .0) (place .start .given .0 .1 .1 .0) (place .start .given .1) _ refl (omega arith) refl (then1 .if1 .taken)
+    let place = then1 .before .before in
+    let part = place .before .before in
+    let known = part .before in
+    let start = known .before .before in
+    let args = start .args in
+    here-required (args .schema .now) (args .attr) (args .t) (λ i. omega (arith, known .shared-slice-known2 .given i))
+    (part .own-attribute-part-checked .result) (part .own-attribute-part-checked .ensures) (place .start .given .0 .0) (place .start .given .0 .1 .0)
+    (place .start .given .0 .1 .1 .0) (place .start .given .1) _ refl (omega arith) refl (then1 .if1 .taken)
 
 sub-result-2 : tie.Need-sub-result-2
 sub-result-2 c =
-    let start = c .before .before .before .before .before .before .before in
-    let known = c .before .before .before .before .before in
-    let part = c .before .before .before .before in
     let place = c .before .before in
-    let f = here-found (start .args .schema .now) (start .args .attr) (start .args .t) (λ i. omega (arith, known .shared-slice-known2 .given i)) (part .own-attribute-part-checked .result) (part .own-attribute-part-checked .ensures) (place .start .given .0 .0) (place .start .given .0 .1 .0) (place .start .given .0 .1 .1 .0) (place .start .given .1) in
+    let part = place .before .before in
+    let known = part .before in
+    let start = known .before .before in
+    let args = start .args in
+    let f = here-found (args .schema .now) (args .attr) (args .t) (λ i. omega (arith, known .shared-slice-known2 .given i))
+    (part .own-attribute-part-checked .result) (part .own-attribute-part-checked .ensures) (place .start .given .0 .0) (place .start .given .0 .1 .0)
+    (place .start .given .0 .1 .1 .0) (place .start .given .1) in
     omega (arith, f .order, f .inside)
 
 part-result-start-2 : tie.Need-part-result-start-2
-part-result-start-2 c =
-    let start = c .before .before .before .before .before .before .before in
-    let known = c .before .before .before .before .before in
-    let part = c .before .before .before .before in
-    let place = c .before .before in
-    let f = here-found (start .args .schema .now) (start .args .attr) (start .args .t) (λ i. omega (arith, known .shared-slice-known2 .given i)) (part .own-attribute-part-checked .result) (part .own-attribute-part-checked .ensures) (place .start .given .0 .0) (place .start .given .0 .1 .0) (place .start .given .0 .1 .1 .0) (place .start .given .1) in
-    omega (arith, f .order, f .inside)
+part-result-start-2 c = sub-result-2 c
 
 part-result-end-2 : tie.Need-part-result-end-2
 part-result-end-2 c =
-    let start = c .before .before .before .before .before .before .before in
-    let known = c .before .before .before .before .before in
-    let part = c .before .before .before .before in
     let place = c .before .before in
-    let f = here-found (start .args .schema .now) (start .args .attr) (start .args .t) (λ i. omega (arith, known .shared-slice-known2 .given i)) (part .own-attribute-part-checked .result) (part .own-attribute-part-checked .ensures) (place .start .given .0 .0) (place .start .given .0 .1 .0) (place .start .given .0 .1 .1 .0) (place .start .given .1) in
+    let part = place .before .before in
+    let known = part .before in
+    let start = known .before .before in
+    let args = start .args in
+    let f = here-found (args .schema .now) (args .attr) (args .t) (λ i. omega (arith, known .shared-slice-known2 .given i))
+    (part .own-attribute-part-checked .result) (part .own-attribute-part-checked .ensures) (place .start .given .0 .0) (place .start .given .0 .1 .0)
+    (place .start .given .0 .1 .1 .0) (place .start .given .1) in
     omega (arith, f .order, f .inside)
 
 returns-2 : tie.Need-returns-2
 returns-2 c =
-    let start = c .before .before .before .before .before .before .before in
-    let known = c .before .before .before .before .before in
-    let part = c .before .before .before .before in
     let at-e = c .before .before in
-    here-refused (start .args .schema .now) (start .args .attr) (start .args .t) (λ i. omega (arith, known .shared-slice-known2 .given i)) (part .own-attribute-part-checked .result) (part .own-attribute-part-checked .ensures) (at-e .e .given .0 .0) (at-e .e .given .1) _ refl refl
+    let part = at-e .before .before in
+    let known = part .before in
+    let start = known .before .before in
+    let args = start .args in
+    here-refused (args .schema .now) (args .attr) (args .t) (λ i. omega (arith, known .shared-slice-known2 .given i)) (part .own-attribute-part-checked .result)
+    (part .own-attribute-part-checked .ensures) (at-e .e .given .0 .0) (at-e .e .given .1) _ refl refl
 
 returns-3 : tie.Need-returns-3
 returns-3 c =
-    let start = c .before .before .before .before .before .before in
-    let known = c .before .before .before .before in
-    let part = c .before .before .before in
     let at-enum-told = c .before in
-    here-nothing (start .args .schema .now) (start .args .attr) (start .args .t) (λ i. omega (arith, known .shared-slice-known2 .given i)) (part .own-attribute-part-checked .result) (part .own-attribute-part-checked .ensures) (at-enum-told .enum-told .given .1) _ refl refl
+    let part = at-enum-told .before .before in
+    let known = part .before in
+    let start = known .before .before in
+    let args = start .args in
+    here-nothing (args .schema .now) (args .attr) (args .t) (λ i. omega (arith, known .shared-slice-known2 .given i)) (part .own-attribute-part-checked .result)
+    (part .own-attribute-part-checked .ensures) (at-enum-told .enum-told .given .1) _ refl refl
 
 returns-4 : tie.Need-returns-4
 returns-4 c =
-    let start = c .before .before .before .before .before .before .before .before in
-    let known = c .before .before .before .before .before .before in
-    let part = c .before .before .before .before .before in
-    let place = c .before .before .before in
     let else1 = c .before in
-    here-optional (start .args .schema .now) (start .args .attr) (start .args .t) (λ i. omega (arith, known .shared-slice-known2 .given i)) (part .own-attribute-part-checked .result) (part .own-attribute-part-checked .ensures) (place .start .given .0 .0) (place .start .given .0 .1 .0) (place .start .given .0 .1 .1 .0) (place .start .given .1) _ refl (omega arith) refl (else1 .if1 .left)
+    let place = else1 .before .before in
+    let part = place .before .before in
+    let known = part .before in
+    let start = known .before .before in
+    let args = start .args in
+    here-optional (args .schema .now) (args .attr) (args .t) (λ i. omega (arith, known .shared-slice-known2 .given i))
+    (part .own-attribute-part-checked .result) (part .own-attribute-part-checked .ensures) (place .start .given .0 .0) (place .start .given .0 .1 .0)
+    (place .start .given .0 .1 .1 .0) (place .start .given .1) _ refl (omega arith) refl (else1 .if1 .left)
 
 pub own-attribute-type-checked-spec : {M : Type 1} → statement M
 own-attribute-type-checked-spec =

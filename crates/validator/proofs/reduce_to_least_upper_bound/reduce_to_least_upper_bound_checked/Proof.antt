@@ -23,10 +23,11 @@ same-length-2 c = search needs
 
 returns : tie.Need-returns
 returns c =
-    let start = c .before .before .before .before .before .before .before .before .before .before .before .before .before .before .before in
-    let reduced = c .before .before .before .before .before .before .before .before in
     let clear = c .before .before in
-    cleared-after (start .args .work .now) (reduced .reduced .last .1 .1 .1 .1 .1 .0) (clear .clear .last .0) (reduced .reduced .ensures) (reduced .reduced .kept .1 .1 .1 .1 .1 .0) (clear .clear .ensures)
+    let reduced = clear .before .before .before .before .before .before in
+    let start = reduced .before .before .before .before .before .before .before in
+    cleared-after (start .args .work .now) (reduced .reduced .last .1 .1 .1 .1 .1 .0) (clear .clear .last .0) (reduced .reduced .ensures)
+    (reduced .reduced .kept .1 .1 .1 .1 .1 .0) (clear .clear .ensures)
 
 pub reduce-to-least-upper-bound-checked-spec : {M : Type 1} → statement M
 reduce-to-least-upper-bound-checked-spec =

@@ -1,10 +1,11 @@
-use Rattle.validator.specs.Laws.Fold.{list-there, list-opened, folds-not, folds-small, folds-exact, folds-length, folds-over, folds-room, folds-typed, fold-mode, fold-schema, fold-list, fold-refused, fold-writes}
-use Rattle.validator.specs.Laws.Bound.{mode-as}
-use Rattle.validator.specs.Laws.Schemas.{checked-missing, checked-there}
+use Rattle.forms.specs.Laws.Modes.{mode-known, mode-none}
+use Rattle.validator.specs.Laws.Fold.{list-there, list-opened, folds-not, folds-small, folds-exact, folds-length, folds-over, folds-room, folds-typed}
+use Rattle.validator.specs.Laws.Fold.{fold-mode, fold-schema, fold-list, fold-refused, fold-writes}
 use Rattle.validator.specs.Laws.Questions.{missing}
+use Rattle.validator.specs.Laws.Schemas.{checked-missing, checked-there}
 use Rattle.forms.specs.Modes.{asMode}
 use Rattle.forms.specs.ListBytes.{listOf}
-use Rattle.cedar.specs.Calls.{modeOf, stepFits}
+use Rattle.cedar.specs.Calls.{stepFits}
 use Rattle.cedar.specs.Fold.{foldTypes}
 use Rattle.cedar.specs.Whole.{wholeList}
 use Rattle.cedar.specs.Limits.{standard}
@@ -16,45 +17,70 @@ use Rattle.validator.proofs.reduce_to_least_upper_bound.reduced.Stateme
 use Rattle.validator.proofs.reduce_to_least_upper_bound.reduced.Tie as tie
 use Rattle.validator.proofs.reduce_to_least_upper_bound.reduced.Reads as reads
 use Rattle.validator.proofs.reduce_to_least_upper_bound.reduced.Lts as lts
-use Rattle.bounds.proofs.writers.copy.Reads as copy-reads
+use Rattle.writing.proofs.writers.copy.Reads as copy-reads
 use Rattle.folds.proofs.lists.fold_types.Reads as fold-types-reads
 use Rattle.forms.proofs.lists.whole_list.Reads as whole-list-reads
-use Rattle.relations.proofs.modes.is_mode.Reads as is-mode-reads
 use Rattle.validator.proofs.rooms.answer_fits.Reads as answer-fits-reads
 
-is-mode-requires : tie.Need-is-mode-requires
-is-mode-requires c κs = search needs
+from-number-requires : tie.Need-from-number-requires
+from-number-requires c κs = search needs
 
-returns : tie.Need-returns
-returns c =
-    let start = c .before .before .before .before .before .before in
-    fold-mode (start .args .mode) (start .args .schema .now) (start .args .list .now) (start .args .out .now) (length (start .args .work .now)) (missing (modeOf (start .args .mode)) (c .before .is-mode .result) (c .before .is-mode .ensures) (c .if1 .taken))
+enum-known-m : tie.Need-enum-known-m
+enum-known-m c = search needs
 
 enum-told : tie.Need-enum-told
 enum-told c = search needs
 
+returns : tie.Need-returns
+returns c =
+    let from = c .before .before in
+    let start = from .before .before .before .before .before in
+    let args = start .args in
+    let by-mode-none = mode-none (args .mode) (from .from-number .result) (from .from-number .ensures) (c .enum-told .given .1) in
+    fold-mode (args .mode) (args .schema .now) (args .list .now) (args .out .now) (length (args .work .now)) by-mode-none
+
 enum-told-2 : tie.Need-enum-told-2
 enum-told-2 c = search needs
 
+enum-told-3 : tie.Need-enum-told-3
+enum-told-3 c = search needs
+
 returns-2 : tie.Need-returns-2
 returns-2 c =
-    let start = c .before .before .before .before .before .before .before .before in
-    fold-schema (start .args .mode) (start .args .schema .now) (start .args .list .now) (start .args .out .now) (length (start .args .work .now)) (mode-as (start .args .mode) (c .before .before .before .is-mode .result) (c .before .before .before .is-mode .ensures) (c .before .before .if1 .left)) (checked-missing (start .args .schema .now) (start .args .check) (start .pre) (c .enum-told2 .given .1))
+    let known = c .before .before .before in
+    let from = known .before .before in
+    let start = from .before .before .before .before .before in
+    let args = start .args in
+    let by-mode-known = mode-known (args .mode) (from .from-number .result) (from .from-number .ensures) (known .m .given .0 .0) (known .m .given .1) in
+    let by-checked-missing = checked-missing (args .schema .now) (args .check) (start .pre) (c .enum-told3 .given .1) in
+    fold-schema (args .mode) (args .schema .now) (args .list .now) (args .out .now) (length (args .work .now)) _ by-mode-known by-checked-missing
 
 whole-list-requires : tie.Need-whole-list-requires
 whole-list-requires c κs = search needs
 
 returns-3 : tie.Need-returns-3
 returns-3 c =
-    let start = c .before .before .before .before .before .before .before .before .before .before in
-    fold-list (start .args .mode) (start .args .schema .now) (start .args .list .now) (start .args .out .now) (length (start .args .work .now)) (mode-as (start .args .mode) (c .before .before .before .before .before .is-mode .result) (c .before .before .before .before .before .is-mode .ensures) (c .before .before .before .before .if1 .left)) _ (checked-there (start .args .schema .now) (start .args .check) (start .pre) (c .before .before .enum-told .given .0 .0) (c .before .before .enum-told .given .1)) (missing (wholeList standard (start .args .list .now)) (c .before .whole-list .result) (c .before .whole-list .ensures) (c .if2 .taken))
+    let whole-list = c .before .whole-list in
+    let enum-told2 = c .before .before .enum-told2 in
+    let known = c .before .before .before .before .before in
+    let from = known .before .before in
+    let start = from .before .before .before .before .before in
+    let args = start .args in
+    let by-mode-known = mode-known (args .mode) (from .from-number .result) (from .from-number .ensures) (known .m .given .0 .0) (known .m .given .1) in
+    let by-checked-there = checked-there (args .schema .now) (args .check) (start .pre) (enum-told2 .given .0 .0) (enum-told2 .given .1) in
+    let by-missing = missing (wholeList standard (args .list .now)) (whole-list .result) (whole-list .ensures) (c .if1 .taken) in
+    fold-list (args .mode) (args .schema .now) (args .list .now) (args .out .now) (length (args .work .now)) _ by-mode-known _ by-checked-there by-missing
 
 slice-aggregate-fold-types : tie.Need-slice-aggregate-fold-types
 slice-aggregate-fold-types c = search needs
 
 fold-types-requires : tie.Need-fold-types-requires
 fold-types-requires c κs =
-    list-opened (c .before .before .before .before .before .before .before .before .before .before .before .before .args .list .now) (c .before .before .before .whole-list .result) (c .before .before .before .whole-list .ensures) (c .before .before .if2 .left) _ refl
+    let if1 = c .before .before .if1 in
+    let after-whole-list = c .before .before .before in
+    let whole-list = after-whole-list .whole-list in
+    let args = after-whole-list .before .before .before .before .before .before .before .before .before .before .before .args in
+    list-opened (args .list .now) (whole-list .result) (whole-list .ensures) (if1 .left) _ refl
 
 enum-known-n : tie.Need-enum-known-n
 enum-known-n c = search needs
@@ -67,9 +93,25 @@ same-length c = search needs
 
 returns-4 : tie.Need-returns-4
 returns-4 c =
-    let start = c .before .before .before .before .before .before .before .before .before .before .before .before .before .before .before .before .before .before .before .before .before in
-    let f = foldTypes (stepFits standard (length (start .args .work .now))) (asMode (start .args .mode)) (listOf 16 (start .args .list .now)) in
-    fold-refused (start .args .mode) (start .args .schema .now) (start .args .list .now) (start .args .out .now) (length (start .args .work .now)) (mode-as (start .args .mode) (c .before .before .before .before .before .before .before .before .before .before .before .before .before .before .before .before .is-mode .result) (c .before .before .before .before .before .before .before .before .before .before .before .before .before .before .before .before .is-mode .ensures) (c .before .before .before .before .before .before .before .before .before .before .before .before .before .before .before .if1 .left)) _ (checked-there (start .args .schema .now) (start .args .check) (start .pre) (c .before .before .before .before .before .before .before .before .before .before .before .before .before .enum-told .given .0 .0) (c .before .before .before .before .before .before .before .before .before .before .before .before .before .enum-told .given .1)) (list-there (start .args .list .now) (c .before .before .before .before .before .before .before .before .before .before .before .before .whole-list .result) (c .before .before .before .before .before .before .before .before .before .before .before .before .whole-list .ensures) (c .before .before .before .before .before .before .before .before .before .before .before .if2 .left)) 10 (folds-over f (start .args .out .now) (c .before .before .before .before .before .before .before .before .fold-types .last .1 .1 .0) (c .before .before .before .before .before .before .before .before .fold-types .result) (c .before .before .before .before .before .before .before .before .fold-types .ensures) (c .before .before .before .n .given .0 .0) (c .before .before .before .n .given .1) (c .before .answer-fits .result) (c .before .answer-fits .ensures) (c .if3 .taken))
+    let answer-fits = c .before .answer-fits in
+    let n = c .before .before .before .n in
+    let fold-types = c .before .before .before .before .before .before .before .before .fold-types in
+    let else1 = c .before .before .before .before .before .before .before .before .before .before .before in
+    let if1 = else1 .if1 in
+    let whole-list = else1 .before .whole-list in
+    let enum-told2 = else1 .before .before .enum-told2 in
+    let known = else1 .before .before .before .before .before in
+    let from = known .before .before in
+    let start = from .before .before .before .before .before in
+    let args = start .args in
+    let f = foldTypes (stepFits standard (length (args .work .now))) (asMode (known .m .given .0 .0)) (listOf 16 (args .list .now)) in
+    let by-mode-known = mode-known (args .mode) (from .from-number .result) (from .from-number .ensures) (known .m .given .0 .0) (known .m .given .1) in
+    let by-folds-over = folds-over f (args .out .now) (fold-types .last .1 .1 .0) (fold-types .result) (fold-types .ensures) (n .given .0 .0) (n .given .1)
+    (answer-fits .result) (answer-fits .ensures) (c .if2 .taken) in
+    let by-checked-there = checked-there (args .schema .now) (args .check) (start .pre) (enum-told2 .given .0 .0) (enum-told2 .given .1) in
+    let by-list-there = list-there (args .list .now) (whole-list .result) (whole-list .ensures) (if1 .left) in
+    fold-refused (args .mode) (args .schema .now) (args .list .now) (args .out .now) (length (args .work .now)) _ by-mode-known _ by-checked-there by-list-there
+    10 by-folds-over
 
 sub-copy : tie.Need-sub-copy
 sub-copy c = search needs
@@ -79,15 +121,29 @@ part-copy-start c = search needs
 
 part-copy-end : tie.Need-part-copy-end
 part-copy-end c =
-    let start = c .before .before .before .before .before .before .before .before .before .before .before .before .before .before .before .before .before .before .before .before .before .before in
-    let f = foldTypes (stepFits standard (length (start .args .work .now))) (asMode (start .args .mode)) (listOf 16 (start .args .list .now)) in
-    omega (arith, folds-small f (start .args .out .now) (c .before .before .before .before .before .before .before .before .before .fold-types .last .1 .1 .0) (c .before .before .before .before .before .before .before .before .before .fold-types .result) (c .before .before .before .before .before .before .before .before .before .fold-types .ensures) (c .before .before .before .before .n .given .0 .0) (c .before .before .before .before .n .given .1))
+    let n = c .before .before .before .before .n in
+    let after-fold-types = c .before .before .before .before .before .before .before .before .before in
+    let fold-types = after-fold-types .fold-types in
+    let known = after-fold-types .before .before .before .before .before .before .before .before in
+    let start = known .before .before .before .before .before .before .before in
+    let args = start .args in
+    let f = foldTypes (stepFits standard (length (args .work .now))) (asMode (known .m .given .0 .0)) (listOf 16 (args .list .now)) in
+    omega (arith, folds-small f (args .out .now) (fold-types .last .1 .1 .0) (fold-types .result) (fold-types .ensures) (n .given .0 .0) (n .given .1))
 
 copy-requires : tie.Need-copy-requires
 copy-requires c κs =
-    let start = c .before .before .before .before .before .before .before .before .before .before .before .before .before .before .before .before .before .before .before .before .before .before .before .before in
-    let f = foldTypes (stepFits standard (length (start .args .work .now))) (asMode (start .args .mode)) (listOf 16 (start .args .list .now)) in
-    omega (arith, folds-room f (start .args .out .now) (c .before .before .before .before .before .before .before .before .before .before .before .fold-types .last .1 .1 .0) (c .before .before .before .before .before .before .before .before .before .before .before .fold-types .result) (c .before .before .before .before .before .before .before .before .before .before .before .fold-types .ensures) (c .before .before .before .before .before .before .n .given .0 .0) (c .before .before .before .before .before .before .n .given .1) (c .before .before .before .before .answer-fits .result) (c .before .before .before .before .answer-fits .ensures) (c .before .before .before .if3 .left))
+    let if2 = c .before .before .before .if2 in
+    let answer-fits = c .before .before .before .before .answer-fits in
+    let n = c .before .before .before .before .before .before .n in
+    let after-fold-types = c .before .before .before .before .before .before .before .before .before .before .before in
+    let fold-types = after-fold-types .fold-types in
+    let known = after-fold-types .before .before .before .before .before .before .before .before in
+    let start = known .before .before .before .before .before .before .before in
+    let args = start .args in
+    let f = foldTypes (stepFits standard (length (args .work .now))) (asMode (known .m .given .0 .0)) (listOf 16 (args .list .now)) in
+    let by-folds-room = folds-room f (args .out .now) (fold-types .last .1 .1 .0) (fold-types .result) (fold-types .ensures) (n .given .0 .0) (n .given .1)
+    (answer-fits .result) (answer-fits .ensures) (if2 .left) in
+    omega (arith, by-folds-room)
 
 enum-known-e : tie.Need-enum-known-e
 enum-known-e c = search needs
@@ -100,27 +156,65 @@ same-length-3 c = search needs
 
 returns-5 : tie.Need-returns-5
 returns-5 c =
-    let start = c .before .before .before .before .before .before .before .before .before .before .before .before .before .before .before .before .before .before .before .before .before .before .before .before .before .before .before in
-    let f = foldTypes (stepFits standard (length (start .args .work .now))) (asMode (start .args .mode)) (listOf 16 (start .args .list .now)) in
-    fold-writes (start .args .mode) (start .args .schema .now) (start .args .list .now) (start .args .out .now) (length (start .args .work .now)) (mode-as (start .args .mode) (c .before .before .before .before .before .before .before .before .before .before .before .before .before .before .before .before .before .before .before .before .before .before .is-mode .result) (c .before .before .before .before .before .before .before .before .before .before .before .before .before .before .before .before .before .before .before .before .before .before .is-mode .ensures) (c .before .before .before .before .before .before .before .before .before .before .before .before .before .before .before .before .before .before .before .before .before .if1 .left)) _ (checked-there (start .args .schema .now) (start .args .check) (start .pre) (c .before .before .before .before .before .before .before .before .before .before .before .before .before .before .before .before .before .before .before .enum-told .given .0 .0) (c .before .before .before .before .before .before .before .before .before .before .before .before .before .before .before .before .before .before .before .enum-told .given .1)) (list-there (start .args .list .now) (c .before .before .before .before .before .before .before .before .before .before .before .before .before .before .before .before .before .before .whole-list .result) (c .before .before .before .before .before .before .before .before .before .before .before .before .before .before .before .before .before .before .whole-list .ensures) (c .before .before .before .before .before .before .before .before .before .before .before .before .before .before .before .before .before .if2 .left)) (c .before .before .before .before .before .before .before .before .before .n .given .0 .0) (c .before .before .before .before .before .before .before .before .before .before .before .before .before .before .fold-types .last .1 .1 .0) (folds-typed f (start .args .out .now) (c .before .before .before .before .before .before .before .before .before .before .before .before .before .before .fold-types .last .1 .1 .0) (c .before .before .before .before .before .before .before .before .before .before .before .before .before .before .fold-types .result) (c .before .before .before .before .before .before .before .before .before .before .before .before .before .before .fold-types .ensures) (c .before .before .before .before .before .before .before .before .before .n .given .0 .0) (c .before .before .before .before .before .before .before .before .before .n .given .1) (c .before .before .before .before .before .before .before .answer-fits .result) (c .before .before .before .before .before .before .before .answer-fits .ensures) (c .before .before .before .before .before .before .if3 .left)) (folds-exact f (start .args .out .now) (c .before .before .before .before .before .before .before .before .before .before .before .before .before .before .fold-types .last .1 .1 .0) (c .before .before .before .before .before .before .before .before .before .before .before .before .before .before .fold-types .result) (c .before .before .before .before .before .before .before .before .before .before .before .before .before .before .fold-types .ensures) (c .before .before .before .before .before .before .before .before .before .n .given .0 .0) (c .before .before .before .before .before .before .before .before .before .n .given .1)) (folds-length f (start .args .out .now) (c .before .before .before .before .before .before .before .before .before .before .before .before .before .before .fold-types .last .1 .1 .0) (c .before .before .before .before .before .before .before .before .before .before .before .before .before .before .fold-types .result) (c .before .before .before .before .before .before .before .before .before .before .before .before .before .before .fold-types .ensures) (c .before .before .before .before .before .before .before .before .before .n .given .0 .0) (c .before .before .before .before .before .before .before .before .before .n .given .1)) (c .before .before .copy .last .1 .0) (c .before .before .copy .ensures)
+    let copy = c .before .before .copy in
+    let if2 = c .before .before .before .before .before .before .if2 in
+    let answer-fits = c .before .before .before .before .before .before .before .answer-fits in
+    let after-n = c .before .before .before .before .before .before .before .before .before in
+    let n = after-n .n in
+    let fold-types = after-n .before .before .before .before .before .fold-types in
+    let if1 = after-n .before .before .before .before .before .before .before .before .if1 in
+    let after-whole-list = after-n .before .before .before .before .before .before .before .before .before in
+    let whole-list = after-whole-list .whole-list in
+    let enum-told2 = after-whole-list .before .enum-told2 in
+    let known = after-whole-list .before .before .before .before in
+    let from = known .before .before in
+    let start = from .before .before .before .before .before in
+    let args = start .args in
+    let f = foldTypes (stepFits standard (length (args .work .now))) (asMode (known .m .given .0 .0)) (listOf 16 (args .list .now)) in
+    let by-mode-known = mode-known (args .mode) (from .from-number .result) (from .from-number .ensures) (known .m .given .0 .0) (known .m .given .1) in
+    let by-folds-typed = folds-typed f (args .out .now) (fold-types .last .1 .1 .0) (fold-types .result) (fold-types .ensures) (n .given .0 .0) (n .given .1)
+    (answer-fits .result) (answer-fits .ensures) (if2 .left) in
+    let by-checked-there = checked-there (args .schema .now) (args .check) (start .pre) (enum-told2 .given .0 .0) (enum-told2 .given .1) in
+    let by-list-there = list-there (args .list .now) (whole-list .result) (whole-list .ensures) (if1 .left) in
+    let by-folds-exact = folds-exact f (args .out .now) (fold-types .last .1 .1 .0) (fold-types .result) (fold-types .ensures) (n .given .0 .0) (n .given .1) in
+    let by-folds-length = folds-length f (args .out .now) (fold-types .last .1 .1 .0) (fold-types .result) (fold-types .ensures) (n .given .0 .0)
+    (n .given .1) in
+    fold-writes (args .mode) (args .schema .now) (args .list .now) (args .out .now) (length (args .work .now)) _ by-mode-known _ by-checked-there by-list-there
+    (n .given .0 .0) (fold-types .last .1 .1 .0) by-folds-typed by-folds-exact by-folds-length (copy .last .1 .0) (copy .ensures)
 
 same-length-4 : tie.Need-same-length-4
 same-length-4 c = search needs
 
 returns-6 : tie.Need-returns-6
 returns-6 c =
-    let start = c .before .before .before .before .before .before .before .before .before .before .before .before .before .before .before .before .before .before .before in
-    let f = foldTypes (stepFits standard (length (start .args .work .now))) (asMode (start .args .mode)) (listOf 16 (start .args .list .now)) in
-    fold-refused (start .args .mode) (start .args .schema .now) (start .args .list .now) (start .args .out .now) (length (start .args .work .now)) (mode-as (start .args .mode) (c .before .before .before .before .before .before .before .before .before .before .before .before .before .before .is-mode .result) (c .before .before .before .before .before .before .before .before .before .before .before .before .before .before .is-mode .ensures) (c .before .before .before .before .before .before .before .before .before .before .before .before .before .if1 .left)) _ (checked-there (start .args .schema .now) (start .args .check) (start .pre) (c .before .before .before .before .before .before .before .before .before .before .before .enum-told .given .0 .0) (c .before .before .before .before .before .before .before .before .before .before .before .enum-told .given .1)) (list-there (start .args .list .now) (c .before .before .before .before .before .before .before .before .before .before .whole-list .result) (c .before .before .before .before .before .before .before .before .before .before .whole-list .ensures) (c .before .before .before .before .before .before .before .before .before .if2 .left)) (c .before .e .given .0 .0) (folds-not f (start .args .out .now) (c .before .before .before .before .before .before .fold-types .last .1 .1 .0) (c .before .before .before .before .before .before .fold-types .result) (c .before .before .before .before .before .before .fold-types .ensures) (c .before .e .given .0 .0) (c .before .e .given .1))
+    let e = c .before .e in
+    let fold-types = c .before .before .before .before .before .before .fold-types in
+    let else1 = c .before .before .before .before .before .before .before .before .before in
+    let if1 = else1 .if1 in
+    let whole-list = else1 .before .whole-list in
+    let enum-told2 = else1 .before .before .enum-told2 in
+    let known = else1 .before .before .before .before .before in
+    let from = known .before .before in
+    let start = from .before .before .before .before .before in
+    let args = start .args in
+    let f = foldTypes (stepFits standard (length (args .work .now))) (asMode (known .m .given .0 .0)) (listOf 16 (args .list .now)) in
+    let by-mode-known = mode-known (args .mode) (from .from-number .result) (from .from-number .ensures) (known .m .given .0 .0) (known .m .given .1) in
+    let by-checked-there = checked-there (args .schema .now) (args .check) (start .pre) (enum-told2 .given .0 .0) (enum-told2 .given .1) in
+    let by-list-there = list-there (args .list .now) (whole-list .result) (whole-list .ensures) (if1 .left) in
+    let by-folds-not = folds-not f (args .out .now) (fold-types .last .1 .1 .0) (fold-types .result) (fold-types .ensures) (e .given .0 .0) (e .given .1) in
+    fold-refused (args .mode) (args .schema .now) (args .list .now) (args .out .now) (length (args .work .now)) _ by-mode-known _ by-checked-there by-list-there
+    (e .given .0 .0) by-folds-not
 
 pub reduced-spec : {M : Type 1} → statement M
 reduced-spec =
     tie.close
     (tie.spec
-    is-mode-requires
-    returns
+    from-number-requires
+    enum-known-m
     enum-told
+    returns
     enum-told-2
+    enum-told-3
     returns-2
     whole-list-requires
     returns-3

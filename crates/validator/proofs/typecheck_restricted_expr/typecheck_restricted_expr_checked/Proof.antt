@@ -32,42 +32,42 @@ whole-type-requires c κs = search needs
 
 returns-2 : tie.Need-returns-2
 returns-2 c =
-    let start = c .before .before .before .before .before .before .before .before in
+    let z = c .before .whole-type in
     let check = c .before .before .before in
-    let whole-type = c .before in
+    let start = check .before .before .before .before .before in
     let s = start .args in
     let x = check .check .given in
-    let z = whole-type .whole-type in
-    conforms-no-type (s .schema .now) (s .t .now) (s .v .now) (decS standard (s .schema .now)) (checked-there (s .schema .now) (s .check) (start .pre) (x .0 .0) (x .1)) (type-missing (s .t .now) (z .result) (z .ensures) (c .if1 .taken))
+    conforms-no-type (s .schema .now) (s .t .now) (s .v .now) (decS standard (s .schema .now))
+    (checked-there (s .schema .now) (s .check) (start .pre) (x .0 .0) (x .1)) (type-missing (s .t .now) (z .result) (z .ensures) (c .if1 .taken))
 
 whole-value-requires : tie.Need-whole-value-requires
 whole-value-requires c κs = search needs
 
 returns-3 : tie.Need-returns-3
 returns-3 c =
-    let start = c .before .before .before .before .before .before .before .before .before .before in
-    let check = c .before .before .before .before .before in
-    let whole-type = c .before .before .before in
+    let w = c .before .whole-value in
     let else1 = c .before .before in
-    let whole-value = c .before in
+    let z = else1 .before .whole-type in
+    let check = else1 .before .before .before in
+    let start = check .before .before .before .before .before in
     let s = start .args in
     let x = check .check .given in
-    let z = whole-type .whole-type in
-    let w = whole-value .whole-value in
-    conforms-no-value (s .schema .now) (s .t .now) (s .v .now) (decS standard (s .schema .now)) (checked-there (s .schema .now) (s .check) (start .pre) (x .0 .0) (x .1)) (dec 16 (s .t .now)) (type-there (s .t .now) (z .result) (z .ensures) (else1 .if1 .left)) (value-missing (s .v .now) (w .result) (w .ensures) (c .if2 .taken))
+    conforms-no-value (s .schema .now) (s .t .now) (s .v .now) (decS standard (s .schema .now))
+    (checked-there (s .schema .now) (s .check) (start .pre) (x .0 .0) (x .1)) (dec 16 (s .t .now))
+    (type-there (s .t .now) (z .result) (z .ensures) (else1 .if1 .left)) (value-missing (s .v .now) (w .result) (w .ensures) (c .if2 .taken))
 
 conforms-requires : tie.Need-conforms-requires
 conforms-requires c κs =
-    let start = c .before .before .before .before .before .before .before .before .before .before in
-    let check = c .before .before .before .before .before in
-    let whole-type = c .before .before .before in
+    let w = c .before .whole-value in
     let else1 = c .before .before in
-    let whole-value = c .before in
+    let z = else1 .before .whole-type in
+    let check = else1 .before .before .before in
+    let start = check .before .before .before .before .before in
     let s = start .args in
-    let x = check .check .given in
-    let z = whole-type .whole-type in
-    let w = whole-value .whole-value in
-    (kept (s .schema .now) (s .check) (start .pre) (x .0 .0) (x .1), (type-whole (s .t .now) (z .result) (z .ensures) (else1 .if1 .left), value-whole (s .v .now) (w .result) (w .ensures) (c .if2 .left)))
+    let x = check .check .given in (
+      kept (s .schema .now) (s .check) (start .pre) (x .0 .0) (x .1),
+      (type-whole (s .t .now) (z .result) (z .ensures) (else1 .if1 .left), value-whole (s .v .now) (w .result) (w .ensures) (c .if2 .left)),
+    )
 
 enum-told-2 : tie.Need-enum-told-2
 enum-told-2 c = search needs
@@ -83,67 +83,67 @@ enum-told-5 c = search needs
 
 returns-4 : tie.Need-returns-4
 returns-4 c =
-    let start = c .before .before .before .before .before .before .before .before .before .before .before .before .before in
-    let check = c .before .before .before .before .before .before .before .before in
-    let whole-type = c .before .before .before .before .before .before in
-    let else1 = c .before .before .before .before .before in
-    let whole-value = c .before .before .before .before in
+    let d = c .before .before .conforms in
     let else2 = c .before .before .before in
-    let conforms = c .before .before in
+    let w = else2 .before .whole-value in
+    let else1 = else2 .before .before in
+    let z = else1 .before .whole-type in
+    let check = else1 .before .before .before in
+    let start = check .before .before .before .before .before in
     let s = start .args in
     let x = check .check .given in
-    let z = whole-type .whole-type in
-    let w = whole-value .whole-value in
-    let d = conforms .conforms in
-    conforms-said (s .schema .now) (s .t .now) (s .v .now) (decS standard (s .schema .now)) (checked-there (s .schema .now) (s .check) (start .pre) (x .0 .0) (x .1)) (dec 16 (s .t .now)) (type-there (s .t .now) (z .result) (z .ensures) (else1 .if1 .left)) (decV 16 (s .v .now)) (value-there (s .v .now) (w .result) (w .ensures) (else2 .if2 .left)) (d .result) (d .ensures) Holds (c .enum-told2 .given .1)
+    conforms-said (s .schema .now) (s .t .now) (s .v .now) (decS standard (s .schema .now))
+    (checked-there (s .schema .now) (s .check) (start .pre) (x .0 .0) (x .1)) (dec 16 (s .t .now))
+    (type-there (s .t .now) (z .result) (z .ensures) (else1 .if1 .left)) (decV 16 (s .v .now))
+    (value-there (s .v .now) (w .result) (w .ensures) (else2 .if2 .left)) (d .result) (d .ensures) Holds (c .enum-told2 .given .1)
 
 returns-5 : tie.Need-returns-5
 returns-5 c =
-    let start = c .before .before .before .before .before .before .before .before .before .before .before .before .before in
-    let check = c .before .before .before .before .before .before .before .before in
-    let whole-type = c .before .before .before .before .before .before in
-    let else1 = c .before .before .before .before .before in
-    let whole-value = c .before .before .before .before in
+    let d = c .before .before .conforms in
     let else2 = c .before .before .before in
-    let conforms = c .before .before in
+    let w = else2 .before .whole-value in
+    let else1 = else2 .before .before in
+    let z = else1 .before .whole-type in
+    let check = else1 .before .before .before in
+    let start = check .before .before .before .before .before in
     let s = start .args in
     let x = check .check .given in
-    let z = whole-type .whole-type in
-    let w = whole-value .whole-value in
-    let d = conforms .conforms in
-    conforms-said (s .schema .now) (s .t .now) (s .v .now) (decS standard (s .schema .now)) (checked-there (s .schema .now) (s .check) (start .pre) (x .0 .0) (x .1)) (dec 16 (s .t .now)) (type-there (s .t .now) (z .result) (z .ensures) (else1 .if1 .left)) (decV 16 (s .v .now)) (value-there (s .v .now) (w .result) (w .ensures) (else2 .if2 .left)) (d .result) (d .ensures) Fails (c .enum-told3 .given .1)
+    conforms-said (s .schema .now) (s .t .now) (s .v .now) (decS standard (s .schema .now))
+    (checked-there (s .schema .now) (s .check) (start .pre) (x .0 .0) (x .1)) (dec 16 (s .t .now))
+    (type-there (s .t .now) (z .result) (z .ensures) (else1 .if1 .left)) (decV 16 (s .v .now))
+    (value-there (s .v .now) (w .result) (w .ensures) (else2 .if2 .left)) (d .result) (d .ensures) Fails (c .enum-told3 .given .1)
 
 returns-6 : tie.Need-returns-6
 returns-6 c =
-    let start = c .before .before .before .before .before .before .before .before .before .before .before .before .before in
-    let check = c .before .before .before .before .before .before .before .before in
-    let whole-type = c .before .before .before .before .before .before in
-    let else1 = c .before .before .before .before .before in
-    let whole-value = c .before .before .before .before in
+    let d = c .before .before .conforms in
     let else2 = c .before .before .before in
-    let conforms = c .before .before in
+    let w = else2 .before .whole-value in
+    let else1 = else2 .before .before in
+    let z = else1 .before .whole-type in
+    let check = else1 .before .before .before in
+    let start = check .before .before .before .before .before in
     let s = start .args in
     let x = check .check .given in
-    let z = whole-type .whole-type in
-    let w = whole-value .whole-value in
-    let d = conforms .conforms in
-    conforms-said (s .schema .now) (s .t .now) (s .v .now) (decS standard (s .schema .now)) (checked-there (s .schema .now) (s .check) (start .pre) (x .0 .0) (x .1)) (dec 16 (s .t .now)) (type-there (s .t .now) (z .result) (z .ensures) (else1 .if1 .left)) (decV 16 (s .v .now)) (value-there (s .v .now) (w .result) (w .ensures) (else2 .if2 .left)) (d .result) (d .ensures) FailsInside (c .enum-told4 .given .1)
+    conforms-said (s .schema .now) (s .t .now) (s .v .now) (decS standard (s .schema .now))
+    (checked-there (s .schema .now) (s .check) (start .pre) (x .0 .0) (x .1)) (dec 16 (s .t .now))
+    (type-there (s .t .now) (z .result) (z .ensures) (else1 .if1 .left)) (decV 16 (s .v .now))
+    (value-there (s .v .now) (w .result) (w .ensures) (else2 .if2 .left)) (d .result) (d .ensures) FailsInside (c .enum-told4 .given .1)
 
 returns-7 : tie.Need-returns-7
 returns-7 c =
-    let start = c .before .before .before .before .before .before .before .before .before .before .before .before .before in
-    let check = c .before .before .before .before .before .before .before .before in
-    let whole-type = c .before .before .before .before .before .before in
-    let else1 = c .before .before .before .before .before in
-    let whole-value = c .before .before .before .before in
+    let d = c .before .before .conforms in
     let else2 = c .before .before .before in
-    let conforms = c .before .before in
+    let w = else2 .before .whole-value in
+    let else1 = else2 .before .before in
+    let z = else1 .before .whole-type in
+    let check = else1 .before .before .before in
+    let start = check .before .before .before .before .before in
     let s = start .args in
     let x = check .check .given in
-    let z = whole-type .whole-type in
-    let w = whole-value .whole-value in
-    let d = conforms .conforms in
-    conforms-said (s .schema .now) (s .t .now) (s .v .now) (decS standard (s .schema .now)) (checked-there (s .schema .now) (s .check) (start .pre) (x .0 .0) (x .1)) (dec 16 (s .t .now)) (type-there (s .t .now) (z .result) (z .ensures) (else1 .if1 .left)) (decV 16 (s .v .now)) (value-there (s .v .now) (w .result) (w .ensures) (else2 .if2 .left)) (d .result) (d .ensures) Unknown (c .enum-told5 .given .1)
+    conforms-said (s .schema .now) (s .t .now) (s .v .now) (decS standard (s .schema .now))
+    (checked-there (s .schema .now) (s .check) (start .pre) (x .0 .0) (x .1)) (dec 16 (s .t .now))
+    (type-there (s .t .now) (z .result) (z .ensures) (else1 .if1 .left)) (decV 16 (s .v .now))
+    (value-there (s .v .now) (w .result) (w .ensures) (else2 .if2 .left)) (d .result) (d .ensures) Unknown (c .enum-told5 .given .1)
 
 pub typecheck-restricted-expr-checked-spec : {M : Type 1} → statement M
 typecheck-restricted-expr-checked-spec =

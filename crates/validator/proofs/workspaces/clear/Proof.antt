@@ -26,13 +26,19 @@ loop-less : tie.Need-loop-less Inv-loop μ-loop
 loop-less c = omega arith
 
 loop-again : tie.Need-loop-again Inv-loop μ-loop
-loop-again c = (clear-more ((c .before) .loop .work) ((c .before .before) .args .work .now) ((c .before) .loop .i) ((c .before) .loop .inv .0) (omega arith), simp length-set ((c .before) .loop .inv .1), omega arith)
+loop-again c =
+    let loop = c .before .loop in
+    let args = c .before .before .args in
+    (clear-more (loop .work) (args .work .now) (loop .i) (loop .inv .0) (omega arith), simp length-set (loop .inv .1), omega arith)
 
 same-length : tie.Need-same-length Inv-loop μ-loop
 same-length c = (c .before) .loop .inv .1
 
 returns : tie.Need-returns Inv-loop μ-loop
-returns c = clear-end ((c .before) .loop .work) ((c .before .before) .args .work .now) ((c .before) .loop .i) ((c .before) .loop .inv .0) (omega arith) (omega arith)
+returns c =
+    let loop = c .before .loop in
+    let args = c .before .before .args in
+    clear-end (loop .work) (args .work .now) (loop .i) (loop .inv .0) (omega arith) (omega arith)
 
 pub clear-spec : {M : Type 1} → statement M
 clear-spec =
