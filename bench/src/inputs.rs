@@ -12,23 +12,25 @@ pub struct Size {
     pub levels: usize,
 }
 
-pub const SIZES: [Size; 3] = [
-    Size {
-        name: "small",
-        width: 4,
-        levels: 2,
-    },
-    Size {
-        name: "wide",
-        width: 200,
-        levels: 2,
-    },
-    Size {
-        name: "deep",
-        width: 4,
-        levels: 16,
-    },
-];
+const SMALL: Size = Size {
+    name: "small",
+    width: 4,
+    levels: 2,
+};
+
+pub const WIDE: Size = Size {
+    name: "wide",
+    width: 200,
+    levels: 2,
+};
+
+const DEEP: Size = Size {
+    name: "deep",
+    width: 4,
+    levels: 16,
+};
+
+pub const SIZES: [Size; 3] = [SMALL, WIDE, DEEP];
 
 /// Kinds of one byte: Long, String, and one of True and False.
 fn atom(name: u16, side: u8) -> Ty {

@@ -4,6 +4,7 @@
 mod cases;
 mod growth;
 mod inputs;
+mod jobs;
 mod library;
 mod timing;
 
@@ -52,4 +53,6 @@ fn main() {
     }
     println!();
     growth::print();
+    println!();
+    jobs::print();
 }

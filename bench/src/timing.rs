@@ -6,6 +6,9 @@ use std::time::{Duration, Instant};
 const SAMPLES: usize = 15;
 const SAMPLE: Duration = Duration::from_millis(3);
 
+/// Runs of a call that is a process.
+const RUNS: usize = 200;
+
 /// Runs a call so many times and tells how long that took.
 pub type Timed<'a> = Box<dyn FnMut(usize) -> Duration + 'a>;
 
@@ -44,11 +47,21 @@ fn calls(timed: &mut Timed<'_>) -> usize {
     times
 }
 
-/// The best sample of each, the samples of all taken in turn.
+/// The best sample of each.
 pub fn best(all: &mut [Timed<'_>]) -> Vec<f64> {
     let times: Vec<usize> = all.iter_mut().map(calls).collect();
+    least(all, &times, SAMPLES)
+}
+
+/// The best of single calls, each a process.
+pub fn best_run(all: &mut [Timed<'_>]) -> Vec<f64> {
+    least(all, &vec![1; all.len()], RUNS)
+}
+
+/// The best of so many samples, those of all taken in turn.
+fn least(all: &mut [Timed<'_>], times: &[usize], samples: usize) -> Vec<f64> {
     let mut least = vec![f64::INFINITY; all.len()];
-    for _ in 0..SAMPLES {
+    for _ in 0..samples {
         for (i, timed) in all.iter_mut().enumerate() {
             let taken = timed(times[i]).as_nanos() as f64 / times[i] as f64;
             least[i] = least[i].min(taken);

@@ -1,12 +1,16 @@
 -- The job form in the borrow checker's terms: the test that one is whole, and where its parts lie. Assumes nothing: these are definitions.
 use Prim.Native.Nat.{ℕ, zero, suc, _+_, _*_, _-_}
 use mathlib.Core.List.{List, [], _∷_}
-use mathlib.Core.Bool.{Bool, _&&_}
+use mathlib.Core.Bool.{Bool, _&&_, cond}
 use lib.Dec.{eqb, leb}
 use lib.ListN.{length, getD}
-use Rattle.cedar.specs.JobForm.{Operation, subtypeOp, boundOp, disjointOp, lookupOp, mayHaveOp, namesOp, consistentOp, convertOp, conformsOp, foldOp, literalOp, takesMode, takesAttribute, takesSecond, takenOrZero, Question, Job}
+use Rattle.cedar.specs.JobForm.{Operation, subtypeOp, boundOp, disjointOp, lookupOp, mayHaveOp, namesOp, consistentOp, convertOp, conformsOp, foldOp, literalOp}
+use Rattle.cedar.specs.JobForm.{takesMode, takesAttribute, takesSecond, takenOrZero, Question, Job}
 use Rattle.cedar.specs.Limits.{blockBytes}
 use Rattle.forms.specs.Parts.{part, rd}
+use Rattle.schemas.specs.SchemaBytes.{checked}
+use Rattle.schemas.specs.declared.whole.Checked.{Checked}
+use Rattle.schemas.specs.declared.whole.Checked.the-variants.{Broken}
 
 -- The operation of a number of at most 10.
 abbrev pub opOf : ℕ → Operation
@@ -53,6 +57,10 @@ bodiesFrom b = schemaFrom b + rd b 0
 -- The schema of a job.
 unfoldable pub schemaOf : List ℕ → List ℕ
 schemaOf b = part (schemaFrom b) (bodiesFrom b) b
+
+-- The check of that schema; of a job that is cut short before its bodies, a broken one.
+unfoldable pub jobCheck : List ℕ → Checked
+jobCheck b = cond (leb (bodiesFrom b) (length b)) (checked (schemaOf b)) Broken
 
 -- A whole job, and its tree.
 abbrev pub jobFits : List ℕ → Bool

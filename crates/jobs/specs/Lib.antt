@@ -1,4 +1,3 @@
-pub mod Writing
 pub mod JobBytes
 pub mod LineBytes
 pub mod Walk

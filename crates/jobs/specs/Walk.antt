@@ -12,8 +12,8 @@ use Rattle.cedar.specs.Lines.{askCall, outcomeOf, line}
 use Rattle.forms.specs.Parts.{rd}
 use Rattle.jobs.specs.declared.questions.Cursor.{Cursor}
 use Rattle.jobs.specs.declared.questions.Question.{Question}
-use Rattle.jobs.specs.declared.steps.Step.{Step}
-use Rattle.jobs.specs.declared.steps.Step.the-variants.{Line, End}
+use Rattle.jobs.specs.declared.steps.NextLine.{NextLine}
+use Rattle.jobs.specs.declared.steps.NextLine.the-variants.{Line, End}
 use Rattle.jobs.specs.JobBytes.{entryAt, lengthsAt, bodiesAt, bodiesFrom, schemaOf}
 
 -- How many questions a job says it has, and where its first one stands.
@@ -69,7 +69,7 @@ unfoldable pub linesAlong : List ℕ → ℕ → Cursor → List ℕ
 linesAlong b zero c = []
 linesAlong b (suc n) c = lineAt b c ++ linesAlong b n (nextAt b c)
 
--- A step: the line over the front of the buffer, its length and the next cursor; where no question stands, nothing.
-pub record Stepped (b : List ℕ) (c : Cursor) (before after : List ℕ) (r : Step) : Type 0 where
+-- A question answered: its line over the front of the buffer, its length and the next cursor; where no question stands, nothing.
+pub record LineWritten (b : List ℕ) (c : Cursor) (before after : List ℕ) (r : NextLine) : Type 0 where
   pub answer : r ≡ cond (standsAt b c) (Line (length (lineAt b c)) (nextAt b c)) End
   pub bytes : after ≡ over (lineAt b c) before

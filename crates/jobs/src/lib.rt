@@ -1,5 +1,6 @@
-// Jobs: whether one is whole, its questions, and the line of each.
+// Jobs: whether one is whole, the check of its schema, its questions, and the line of each.
 mod answers;
+mod checks;
 mod lines;
 mod operations;
 mod questions;
@@ -7,14 +8,14 @@ mod steps;
 mod text;
 mod walk;
 mod whole;
-mod writing;
 
+pub use checks::check_job;
 pub use lines::put_bad_line;
 pub use operations::Operation;
 pub use questions::Cursor;
 pub use questions::count;
 pub use questions::start;
 pub use steps::Buffers;
-pub use steps::Step;
+pub use steps::NextLine;
 pub use walk::next_line;
 pub use whole::whole_job;

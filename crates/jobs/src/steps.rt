@@ -1,9 +1,9 @@
-// What a step over a job's questions is made of.
+// What a walk over a job's questions is made of.
 use crate::questions::Cursor;
 use forms::limits::Limits;
 
 // A line of so many bytes and the next cursor, or no question.
-pub enum Step {
+pub enum NextLine {
     Line(usize, Cursor),
     End,
 }

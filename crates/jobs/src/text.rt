@@ -1,11 +1,11 @@
 // Numbers and bytes as text, in ASCII.
-use crate::writing::put_one;
+use writing::writers::put_one;
 ghost use mathlib.Core.Path.{_≡_};
 ghost use mathlib.Core.List.{_∷_, []};
 ghost use Prim.Native.Nat.{_≤_, _<_};
 ghost use lib.ListN.{length};
 ghost use Rattle.cedar.specs.Lines.{digit as digitOf, decimal, hex};
-ghost use Rattle.jobs.specs.Writing.{Told};
+ghost use Rattle.writing.specs.Written.{Written};
 
 // A digit of base 16 at most.
 fn digit(d: usize) -> u8
@@ -22,7 +22,7 @@ fn digit(d: usize) -> u8
 // Writes n in decimal, and returns how many digits it has.
 pub fn put_decimal(n: usize, out: &mut [u8]) -> usize
     requires { ⌜ length (decimal n) ≤ length (now out) ⌝ }
-    ensures { λ r. ⌜ Told (decimal n) (now (out .entry)) (now (out .exit)) r ⌝ }
+    ensures { λ r. ⌜ Written (decimal n) (now (out .entry)) (now (out .exit)) r ⌝ }
 {
     if n < 10 {
         put_one(out, digit(n));
@@ -36,7 +36,7 @@ pub fn put_decimal(n: usize, out: &mut [u8]) -> usize
 // Writes a byte as two hex digits.
 fn put_byte(x: u8, out: &mut [u8])
     requires { ⌜ 2 ≤ length (now out) ⌝ }
-    ensures { λ _. ⌜ Told (hex (x ∷ [])) (now (out .entry)) (now (out .exit)) 2 ⌝ }
+    ensures { λ _. ⌜ Written (hex (x ∷ [])) (now (out .entry)) (now (out .exit)) 2 ⌝ }
 {
     let d = x as usize;
     put_one(out, digit(d / 16));
@@ -46,7 +46,7 @@ fn put_byte(x: u8, out: &mut [u8])
 // Writes b in lower-case hex, and returns how many digits that takes.
 pub fn put_hex(b: &[u8], out: &mut [u8]) -> usize
     requires { ⌜ length (hex (now b)) ≤ length (now out) ⌝ }
-    ensures { λ r. ⌜ Told (hex (now (b .entry))) (now (out .entry)) (now (out .exit)) r ⌝ }
+    ensures { λ r. ⌜ Written (hex (now (b .entry))) (now (out .entry)) (now (out .exit)) r ⌝ }
 {
     let mut ahead = b;
     let mut at = 0;

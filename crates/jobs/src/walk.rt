@@ -5,18 +5,27 @@ use crate::questions::Cursor;
 use crate::questions::next;
 use crate::questions::stands;
 use crate::steps::Buffers;
-use crate::steps::Step;
-ghost use Rattle.jobs.specs.Walk.{Stepped};
+use crate::steps::NextLine;
+use schemas::whole::Checked;
+ghost use mathlib.Core.Path.{_≡_};
+ghost use Rattle.jobs.specs.JobBytes.{jobCheck};
+ghost use Rattle.jobs.specs.Walk.{LineWritten};
 
-// Writes the line of the question at which a cursor stands.
-pub fn next_line(job: &[u8], cursor: Cursor, out: &mut [u8; Buffers::LINE]) -> Step
-    ensures { λ r. ⌜ Stepped (now (job .entry)) cursor (now (out .entry)) (now (out .exit)) r ⌝ }
+// Writes the line of the question at which a cursor stands, under the job's schema as it was checked.
+pub fn next_line(
+    job: &[u8],
+    check: Checked,
+    cursor: Cursor,
+    out: &mut [u8; Buffers::LINE],
+) -> NextLine
+    requires { ⌜ check ≡ jobCheck (now job) ⌝ }
+    ensures { λ r. ⌜ LineWritten (now (job .entry)) cursor (now (out .entry)) (now (out .exit)) r ⌝ }
 {
     if !stands(job, cursor) {
-        return Step::End;
+        return NextLine::End;
     }
     let mut result = [0u8; Buffers::RESULT];
-    let answer = answer_at(job, cursor, &mut result);
+    let answer = answer_at(job, check, cursor, &mut result);
     let n = put_line(cursor.index, answer, &result, out);
-    Step::Line(n, next(job, cursor))
+    NextLine::Line(n, next(job, cursor))
 }

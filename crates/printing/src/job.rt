@@ -1,15 +1,16 @@
 // The lines of one job.
 use jobs::Buffers;
-use jobs::Step;
+use jobs::NextLine;
 use streams::write_output;
 
-// Prints the lines of a whole job; false where they could not all be written.
+// Prints the lines of a whole job, whose schema is checked once; false where they could not all be written.
 fn print_lines(job: &[u8]) -> bool {
     let mut line = [0u8; Buffers::LINE];
+    let check = jobs::check_job(job);
     let mut cursor = jobs::start(job);
     let mut left = jobs::count(job);
     while 0 < left {
-        let Step::Line(n, next) = jobs::next_line(job, cursor, &mut line) else {
+        let NextLine::Line(n, next) = jobs::next_line(job, check, cursor, &mut line) else {
             return false;
         };
         if !write_output(&line[..n]) {

@@ -30,6 +30,7 @@ putWithin (put.Bytes n) m = n ≤ m
 putWithin put.Failed m = Unit {0}
 
 -- A part that comes back as long as it was leaves the buffer as long as it was.
-pub back-length : (at : ℕ) (xs ys : List ℕ) → at ≤ length xs → length ys ≡ length (rest at xs) → length (take at xs ++ (ys ++ drop (length xs - at) (drop at xs))) ≡ length xs
+pub back-length : (at : ℕ) (xs ys : List ℕ) → at ≤ length xs → length ys ≡ length (rest at xs) →
+    length (take at xs ++ (ys ++ drop (length xs - at) (drop at xs))) ≡ length xs
 back-length at xs ys h e =
     simp (length-append, length-take, length-drop) (omega (arith, e, length-rest at xs))

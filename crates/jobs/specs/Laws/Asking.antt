@@ -21,12 +21,12 @@ use Rattle.validator.specs.Answers.{answerOf, Answered, AnsweredIn}
 use Rattle.forms.specs.Parts.{part}
 use Rattle.jobs.specs.declared.questions.Cursor.{Cursor}
 use Rattle.jobs.specs.declared.questions.Question.{Question}
-use Rattle.jobs.specs.declared.steps.Step.{Step}
-use Rattle.jobs.specs.declared.steps.Step.the-variants.{Line, End}
-use Rattle.jobs.specs.Writing.{Told}
+use Rattle.jobs.specs.declared.steps.NextLine.{NextLine}
+use Rattle.jobs.specs.declared.steps.NextLine.the-variants.{Line, End}
+use Rattle.writing.specs.Written.{Written}
 use Rattle.jobs.specs.JobBytes.{opOf, entryAt, bodiesAt, schemaFrom, bodiesFrom, schemaOf}
 use Rattle.jobs.specs.LineBytes.{manyIn, lineIn, LineRoom}
-use Rattle.jobs.specs.Walk.{asked, standsAt, questionAt, nextAt, outcomeAt, lineAt, Stepped}
+use Rattle.jobs.specs.Walk.{asked, standsAt, questionAt, nextAt, outcomeAt, lineAt, LineWritten}
 use Rattle.jobs.specs.Laws.Lines.{line-is, many-is}
 use Rattle.jobs.specs.Laws.Walk.{stands-is, first-inside}
 
@@ -59,7 +59,9 @@ pub quiet-may-have : (s : List ℕ) (a : ℕ) (x : List ℕ) → Quiet (mayHaveC
 quiet-may-have s a x = quiet-ask badSchema (wholeSchema standard s) _ λ _. quiet-ask badFirst (wholeType standard x) _ λ _. quiet-said _
 
 pub quiet-consistent : (x y : List ℕ) → Quiet (consistentCall standard x y)
-quiet-consistent x y = quiet-ask badFirst (wholeType standard x) _ λ _. quiet-ask badSecond (wholeType standard y) _ λ b. quiet-ask notPlain (guard (plain b)) _ λ _. quiet-said _
+quiet-consistent x y =
+    quiet-ask badFirst (wholeType standard x) _ λ _. quiet-ask badSecond (wholeType standard y) _ λ b.
+    quiet-ask notPlain (guard (plain b)) _ λ _. quiet-said _
 
 pub quiet-conforms : (s x y : List ℕ) → Quiet (conformsCall standard s x y)
 quiet-conforms s x y =
@@ -91,7 +93,8 @@ module _ (b : List ℕ) (c : Cursor) where
   outcome-is q e n f k g = rw (e, f, g) refl
 
   pub answered-at : {before after : List ℕ} {r : Answer} (q : Question) → q ≡ questionAt b c → (n : ℕ) → n ≡ schemaFrom b → (k : ℕ) → k ≡ bodiesFrom b →
-      Answered (asked (opOf (q .operation)) (q .mode) (q .attribute) (part n k b) (part (q .first) (q .second) b) (part (q .second) (q .end) b)) before after r →
+      Answered (asked (opOf (q .operation)) (q .mode) (q .attribute) (part n k b) (part (q .first) (q .second) b) (part (q .second) (q .end) b))
+      before after r →
       Answered (outcomeAt b c) before after r
   answered-at {before} {after} {r} q e n f k g h = subst (λ (o : Outcome). Answered o before after r) (outcome-is q e n f k g) h
 
@@ -109,9 +112,9 @@ module _ (b : List ℕ) (c : Cursor) where
       rw e (record { known = t .operation; first = omega arith; second = omega (arith, first-inside b c); end = t .body })
 
   -- No question, no line.
-  pub step-end : standsAt b c ≡ false → (o : List ℕ) → Stepped b c o o End
+  pub no-line : standsAt b c ≡ false → (o : List ℕ) → LineWritten b c o o End
   unfolding lineAt
-  step-end s o = record { answer = rw s refl; bytes = rw s refl }
+  no-line s o = record { answer = rw s refl; bytes = rw s refl }
 
   module _ (s : standsAt b c ≡ true) {before res : List ℕ} {a : Answer} (h : Answered (outcomeAt b c) before res a) where
     pub line-fits : getD b 2 0 < 256 → getD b 3 0 < 256 → (o : List ℕ) → 15 + 2 * length res ≤ length o → LineRoom (c .index) a res o
@@ -128,17 +131,18 @@ module _ (b : List ℕ) (c : Cursor) where
     unfolding lineAt
     line-same = rw (s, h .answer, h .result) (line-is (c .index) (outcomeAt b c) before)
 
-    -- A question's step.
-    pub step-line : {o xs : List ℕ} {n : ℕ} → Told (lineIn (c .index) a res) o xs n → {d : Cursor} → d ≡ nextAt b c → Stepped b c o xs (Line n d)
-    step-line {o} {xs} {n} t {d} e =
+    -- A question's line.
+    pub line-written : {o xs : List ℕ} {n : ℕ} → Written (lineIn (c .index) a res) o xs n → {d : Cursor} → d ≡ nextAt b c → LineWritten b c o xs (Line n d)
+    line-written {o} {xs} {n} t {d} e =
         record {
           answer = rw (s, ← e, ← line-same, t .many) refl;
           bytes = rw (← line-same) (t .bytes);
         }
 
 -- A line lies inside the buffer.
-pub step-inside : {b : List ℕ} {c : Cursor} {before after : List ℕ} {r : Step} → Stepped b c before after r → (n : ℕ) (d : Cursor) → r ≡ Line n d → n ≤ length after
-step-inside {b} {c} {before} {after} {r} s n d e = go (standsAt b c) (sym (s .answer) ∙ e)
+pub line-inside : {b : List ℕ} {c : Cursor} {before after : List ℕ} {r : NextLine} → LineWritten b c before after r →
+    (n : ℕ) (d : Cursor) → r ≡ Line n d → n ≤ length after
+line-inside {b} {c} {before} {after} {r} s n d e = go (standsAt b c) (sym (s .answer) ∙ e)
   where
     go : (t : Bool) → cond t (Line (length (lineAt b c)) (nextAt b c)) End ≡ Line n d → n ≤ length after
     go true p = let q : length (lineAt b c) ≡ n = cc in omega (arith, ap length (s .bytes), length-append (lineAt b c) (drop (length (lineAt b c)) before))

@@ -15,10 +15,10 @@ use Rattle.forms.specs.Parts.{rest}
 use Rattle.validator.specs.declared.answers.Answer.{Answer}
 use Rattle.validator.specs.declared.answers.Answer.the-variants.{Refused, Yes, No, Nothing, Wrote, Attribute}
 use Rattle.validator.specs.Answers.{answerOf}
-use Rattle.jobs.specs.Writing.{Told}
+use Rattle.writing.specs.Written.{Written}
 use Rattle.jobs.specs.LineBytes.{numberIn, manyIn, requiredWord, textIn, field, lineIn, LineRoom}
 use Rattle.jobs.specs.Laws.Text.{decimal-short, length-hex}
-use Rattle.jobs.specs.Laws.Writing.{told-one, told-more, told-same, told-left}
+use Rattle.writing.specs.Laws.Writing.{written-one, written-more, written-same, written-left}
 
 -- A number and a space.
 module _ (n : ℕ) (o : List ℕ) (h : length (field n) ≤ length o) where
@@ -26,10 +26,10 @@ module _ (n : ℕ) (o : List ℕ) (h : length (field n) ≤ length o) where
   unfolding field
   field-room = omega (arith, h, length-append (decimal n) (32 ∷ []))
 
-  pub field-told : {xs ys : List ℕ} {at : ℕ} → Told (decimal n) o xs at → ys ≡ over (32 ∷ []) (rest at xs) →
-      Told (field n) o (take at xs ++ (ys ++ drop (length xs - at) (drop at xs))) (at + 1)
+  pub field-told : {xs ys : List ℕ} {at : ℕ} → Written (decimal n) o xs at → ys ≡ over (32 ∷ []) (rest at xs) →
+      Written (field n) o (take at xs ++ (ys ++ drop (length xs - at) (drop at xs))) (at + 1)
   unfolding field
-  field-told t u = told-more t (told-one 32 u) (omega (arith, field-room))
+  field-told t u = written-more t (written-one 32 u) (omega (arith, field-room))
 
 required-long : (r : Bool) → length (requiredWord r) ≡ 2
 required-long true = refl
@@ -40,9 +40,9 @@ module _ (r : Bool) (b o : List ℕ) (h : length (requiredWord r ++ hex b) ≤ l
   pub attribute-room : (2 + length (hex b) ≤ length o) × (length (requiredWord r) ≡ 2)
   attribute-room = (omega (arith, h, required-long r, length-append (requiredWord r) (hex b)), required-long r)
 
-  pub attribute-told : {xs ys : List ℕ} {at n : ℕ} → Told (requiredWord r) o xs at → Told (hex b) (rest at xs) ys n →
-      Told (requiredWord r ++ hex b) o (take at xs ++ (ys ++ drop (length xs - at) (drop at xs))) (at + n)
-  attribute-told t u = told-more t u (omega (arith, attribute-room))
+  pub attribute-told : {xs ys : List ℕ} {at n : ℕ} → Written (requiredWord r) o xs at → Written (hex b) (rest at xs) ys n →
+      Written (requiredWord r ++ hex b) o (take at xs ++ (ys ++ drop (length xs - at) (drop at xs))) (at + n)
+  attribute-told t u = written-more t u (omega (arith, attribute-room))
 
 field-short : (k n : ℕ) → n < 10 ^ suc k → length (field n) ≤ suc (suc k)
 unfolding field
@@ -54,7 +54,8 @@ text-short Yes res h = omega arith
 text-short No res h = omega arith
 text-short Nothing res h = omega arith
 text-short (Wrote n) res h = omega (arith, length-hex (take n res), length-take-le n res h)
-text-short (Attribute r n) res h = omega (arith, length-append (requiredWord r) (hex (take n res)), required-long r, length-hex (take n res), length-take-le n res h)
+text-short (Attribute r n) res h =
+    omega (arith, length-append (requiredWord r) (hex (take n res)), required-long r, length-hex (take n res), length-take-le n res h)
 
 -- The parts of a line, which are written one after the other.
 module _ (i : ℕ) (a : Answer) (res o : List ℕ) (fits : LineRoom i a res o) (number : ℕ) (e : (number ≡ numberIn a) × (number < 256)) where
@@ -65,7 +66,17 @@ module _ (i : ℕ) (a : Answer) (res o : List ℕ) (fits : LineRoom i a res o) (
   body = head ++ textIn a res
 
   pub line-room : length (field i) + length (field (numberIn a)) + length (textIn a res) + 1 ≤ length o
-  line-room = omega (arith, fits .room, fits .small, e .0, e .1, text-short a res (fits .inside), field-short 4 i (omega (arith, fits .small)), field-short 2 (numberIn a) (omega (arith, e .0, e .1)))
+  line-room =
+      omega (
+        arith,
+        fits .room,
+        fits .small,
+        e .0,
+        e .1,
+        text-short a res (fits .inside),
+        field-short 4 i (omega (arith, fits .small)),
+        field-short 2 (numberIn a) (omega (arith, e .0, e .1)),
+      )
 
   -- The lengths of the parts so far, and the room behind each.
   head-long : length head ≡ length (field i) + length (field (numberIn a))
@@ -74,34 +85,36 @@ module _ (i : ℕ) (a : Answer) (res o : List ℕ) (fits : LineRoom i a res o) (
   body-long : length body ≡ length head + length (textIn a res)
   body-long = length-append head (textIn a res)
 
-  module _ {v : List ℕ} {m : ℕ} (t : Told (field i) o v m) where
-    pub index-left : (m + length (field (numberIn a)) ≤ length v) × (length (field (numberIn a)) ≤ length (rest m v)) × (m + length (field (numberIn a)) ≤ length o)
-    index-left = told-left t (length (field (numberIn a))) (omega (arith, line-room))
+  module _ {v : List ℕ} {m : ℕ} (t : Written (field i) o v m) where
+    pub index-left : (m + length (field (numberIn a)) ≤ length v) × (length (field (numberIn a)) ≤ length (rest m v)) ×
+        (m + length (field (numberIn a)) ≤ length o)
+    index-left = written-left t (length (field (numberIn a))) (omega (arith, line-room))
 
-    module _ {w : List ℕ} {n : ℕ} (u : Told (field (numberIn a)) (rest m v) w n) where
+    module _ {w : List ℕ} {n : ℕ} (u : Written (field (numberIn a)) (rest m v) w n) where
       abbrev after : List ℕ
       after = take m v ++ (w ++ drop (length v - m) (drop m v))
 
-      head-told : Told head o after (m + n)
-      head-told = told-more t u (omega (arith, line-room))
+      head-told : Written head o after (m + n)
+      head-told = written-more t u (omega (arith, line-room))
 
-      pub head-left : (m + n + length (textIn a res) ≤ length after) × (length (textIn a res) ≤ length (rest (m + n) after)) × (m + n + length (textIn a res) ≤ length o)
-      head-left = told-left head-told (length (textIn a res)) (omega (arith, line-room, head-long))
+      pub head-left : (m + n + length (textIn a res) ≤ length after) × (length (textIn a res) ≤ length (rest (m + n) after)) ×
+          (m + n + length (textIn a res) ≤ length o)
+      head-left = written-left head-told (length (textIn a res)) (omega (arith, line-room, head-long))
 
-      module _ {x : List ℕ} {k : ℕ} (f : Told (textIn a res) (rest (m + n) after) x k) where
+      module _ {x : List ℕ} {k : ℕ} (f : Written (textIn a res) (rest (m + n) after) x k) where
         abbrev last : List ℕ
         last = take (m + n) after ++ (x ++ drop (length after - (m + n)) (drop (m + n) after))
 
-        body-told : Told body o last (m + n + k)
-        body-told = told-more head-told f (omega (arith, line-room, head-long))
+        body-told : Written body o last (m + n + k)
+        body-told = written-more head-told f (omega (arith, line-room, head-long))
 
         pub body-left : (m + n + k + 1 ≤ length last) × (1 ≤ length (rest (m + n + k) last)) × (m + n + k + 1 ≤ length o)
-        body-left = told-left body-told 1 (omega (arith, line-room, head-long, body-long))
+        body-left = written-left body-told 1 (omega (arith, line-room, head-long, body-long))
 
         pub line-told : {z : List ℕ} → z ≡ over (10 ∷ []) (rest (m + n + k) last) →
-            Told (lineIn i a res) o (take (m + n + k) last ++ (z ++ drop (length last - (m + n + k)) (drop (m + n + k) last))) (m + n + k + 1)
+            Written (lineIn i a res) o (take (m + n + k) last ++ (z ++ drop (length last - (m + n + k)) (drop (m + n + k) last))) (m + n + k + 1)
         unfolding lineIn
-        line-told g = told-more body-told (told-one 10 g) (omega (arith, line-room, head-long, body-long))
+        line-told g = written-more body-told (written-one 10 g) (omega (arith, line-room, head-long, body-long))
 
 -- The line of an outcome.
 line-text : (i n : ℕ) (w : List ℕ) → ((field i ++ field n) ++ w) ++ (10 ∷ []) ≡ decimal i ++ (32 ∷ decimal n ++ (32 ∷ w ++ (10 ∷ [])))
@@ -131,18 +144,19 @@ many-is (attribute r t) = refl
 many-is (named ns) = refl
 
 -- The line of a bad job: a dash and a space, the number, a dash and a newline.
-module _ {o v : List ℕ} {m : ℕ} (t : Told (45 ∷ 32 ∷ []) o v m) (h : 7 ≤ length o) (k : ℕ) (e : k ≡ badJob) where
+module _ {o v : List ℕ} {m : ℕ} (t : Written (45 ∷ 32 ∷ []) o v m) (h : 7 ≤ length o) (k : ℕ) (e : k ≡ badJob) where
   pub bad-number : field k ≡ 49 ∷ 54 ∷ 32 ∷ []
   unfolding field
   bad-number = rw e refl
 
-  module _ {w : List ℕ} {n : ℕ} (u : Told (field k) (rest m v) w n) where
-    pub bad-head : Told (45 ∷ 32 ∷ 49 ∷ 54 ∷ 32 ∷ []) o (take m v ++ (w ++ drop (length v - m) (drop m v))) (m + n)
-    bad-head = told-more t (told-same bad-number u) (omega arith)
+  module _ {w : List ℕ} {n : ℕ} (u : Written (field k) (rest m v) w n) where
+    pub bad-head : Written (45 ∷ 32 ∷ 49 ∷ 54 ∷ 32 ∷ []) o (take m v ++ (w ++ drop (length v - m) (drop m v))) (m + n)
+    bad-head = written-more t (written-same bad-number u) (omega arith)
 
-    pub bad-told : {x : List ℕ} {r : ℕ} → Told (45 ∷ 10 ∷ []) (rest (m + n) (take m v ++ (w ++ drop (length v - m) (drop m v)))) x r →
-        Told badLine o
+    pub bad-told : {x : List ℕ} {r : ℕ} → Written (45 ∷ 10 ∷ []) (rest (m + n) (take m v ++ (w ++ drop (length v - m) (drop m v)))) x r →
+        Written badLine o
         (take (m + n) (take m v ++ (w ++ drop (length v - m) (drop m v)))
-        ++ (x ++ drop (length (take m v ++ (w ++ drop (length v - m) (drop m v))) - (m + n)) (drop (m + n) (take m v ++ (w ++ drop (length v - m) (drop m v))))))
+        ++ (x ++ drop (length (take m v ++ (w ++ drop (length v - m) (drop m v))) - (m + n))
+        (drop (m + n) (take m v ++ (w ++ drop (length v - m) (drop m v))))))
         (m + n + r)
-    bad-told f = told-more bad-head f (omega arith)
+    bad-told f = written-more bad-head f (omega arith)

@@ -9,7 +9,8 @@ use native.Mathlib.Omega.{arith}
 use lib.Dec.{leb}
 use lib.ListN.{List·getD-eq-default}
 use borrow.Author.Tests.{lt-leb}
-use Rattle.cedar.specs.JobForm.{Operation, subtypeOp, boundOp, disjointOp, lookupOp, mayHaveOp, namesOp, consistentOp, convertOp, conformsOp, foldOp, literalOp, operationOf, takesMode, takesAttribute, takesSecond}
+use Rattle.cedar.specs.JobForm.{Operation, subtypeOp, boundOp, disjointOp, lookupOp, mayHaveOp, namesOp, consistentOp, convertOp, conformsOp, foldOp, literalOp}
+use Rattle.cedar.specs.JobForm.{operationOf, takesMode, takesAttribute, takesSecond}
 use Rattle.forms.specs.Laws.Sure.{Sure, sure-some-of}
 use Rattle.jobs.specs.JobBytes.{opOf}
 
@@ -45,7 +46,9 @@ second-not k h = each (λ k. (k ≡ 0 → ⊥) → (k ≡ 1 → ⊥) → (k ≡ 
     (λ a b c d e. absurd (d refl)) (λ a b c d e. refl) (λ a b c d e. absurd (e refl)) (λ a b c d e. refl) (λ a b c d e. refl) k h
 
 over-none : (k : ℕ) → 10 < k → operationOf k ≡ none
-over-none k h = List·getD-eq-default (some subtypeOp ∷ some boundOp ∷ some disjointOp ∷ some lookupOp ∷ some mayHaveOp ∷ some namesOp ∷ some consistentOp ∷ some convertOp ∷ some conformsOp ∷ some foldOp ∷ some literalOp ∷ []) none h
+over-none k h =
+    List·getD-eq-default (some subtypeOp ∷ some boundOp ∷ some disjointOp ∷ some lookupOp ∷ some mayHaveOp ∷ some namesOp ∷ some consistentOp ∷ some
+    convertOp ∷ some conformsOp ∷ some foldOp ∷ some literalOp ∷ []) none h
 
 -- A number has an operation just where it is at most 10.
 pub operation-to : (k : ℕ) → Sure (operationOf k) (leb k 10) (opOf k)
@@ -64,7 +67,8 @@ operation-to k = go (decLe k 10)
 past : {k n : ℕ} → n ≤ k → (k ≡ n → ⊥) → suc n ≤ k
 past h p = omega arith
 
-pub literal-is : (k : ℕ) → k ≤ 10 → (k ≡ 0 → ⊥) → (k ≡ 1 → ⊥) → (k ≡ 2 → ⊥) → (k ≡ 3 → ⊥) → (k ≡ 4 → ⊥) → (k ≡ 5 → ⊥) → (k ≡ 6 → ⊥) → (k ≡ 7 → ⊥) → (k ≡ 8 → ⊥) → (k ≡ 9 → ⊥) → opOf k ≡ literalOp
+pub literal-is : (k : ℕ) → k ≤ 10 → (k ≡ 0 → ⊥) → (k ≡ 1 → ⊥) → (k ≡ 2 → ⊥) → (k ≡ 3 → ⊥) → (k ≡ 4 → ⊥) → (k ≡ 5 → ⊥) → (k ≡ 6 → ⊥) → (k ≡ 7 → ⊥) →
+    (k ≡ 8 → ⊥) → (k ≡ 9 → ⊥) → opOf k ≡ literalOp
 literal-is k h p0 p1 p2 p3 p4 p5 p6 p7 p8 p9 =
     ten (past (past (past (past (past (past (past (past (past (past zero-le p0) p1) p2) p3) p4) p5) p6) p7) p8) p9)
   where

@@ -33,7 +33,8 @@ fields m a i j l o = do
   _ ← guard (fieldsFit o m a j)
   some (record { operation = o; mode = m; attribute = a; firstLength = i }, i + j, l)
 
-fields-to : (m a i j : ℕ) (l : List ℕ) (o : Operation) → Sure (fields m a i j l o) (fieldsFit o m a j) (record { operation = o; mode = m; attribute = a; firstLength = i }, i + j, l)
+fields-to : (m a i j : ℕ) (l : List ℕ) (o : Operation) →
+    Sure (fields m a i j l o) (fieldsFit o m a j) (record { operation = o; mode = m; attribute = a; firstLength = i }, i + j, l)
 fields-to m a i j l o = map-to (λ u. (record { operation = o; mode = m; attribute = a; firstLength = i }, i + j, l)) (guard-to (fieldsFit o m a j))
 
 -- An entry off the front.
@@ -123,7 +124,8 @@ abbrev after-entry : ℕ → List ℕ → Entry → Option Rows
 after-entry c bs r = guard (leb (r .1) (length bs)) >>= λ u. after-room c (r .0) (r .1) (r .2) bs u
 
 -- The entries from e on, whose bodies begin at a, and no byte over.
-pub questions-to : (b : List ℕ) (c e a : ℕ) → Sure (questionRows c (drop e b) (drop a b) >>= closed (λ xs. xs)) (fitsFrom b c e (length b - a)) (questionsFrom b c e a)
+pub questions-to : (b : List ℕ) (c e a : ℕ) →
+    Sure (questionRows c (drop e b) (drop a b) >>= closed (λ xs. xs)) (fitsFrom b c e (length b - a)) (questionsFrom b c e a)
 unfolding fitsFrom questionsFrom
 questions-to b zero e a = sure-same (finish-to [] (drop a b)) (ap (λ (n : ℕ). eqb n 0) (length-drop a b)) refl
 questions-to b (suc c) e a =

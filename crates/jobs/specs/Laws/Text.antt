@@ -11,8 +11,8 @@ use Rattle.cedar.specs.Lines.{digit, decimalFrom, decimal, hex}
 use Rattle.cedar.specs.Outcome.{over}
 use Rattle.forms.specs.Parts.{rest}
 use Rattle.forms.specs.Laws.Parts.{rest-is}
-use Rattle.jobs.specs.Writing.{Told}
-use Rattle.jobs.specs.Laws.Writing.{told-one, told-more}
+use Rattle.writing.specs.Written.{Written}
+use Rattle.writing.specs.Laws.Writing.{written-one, written-more}
 
 pub digit-low : (d : ℕ) → d < 10 → 48 + d ≡ digit d
 digit-low d h = rw (lt-ltb d 10 h) refl
@@ -53,21 +53,22 @@ module _ (n : ℕ) (o : List ℕ) (h : length (decimal n) ≤ length o) where
   pub high-room : 10 ≤ n → length (decimal (n / 10)) + 1 ≤ length o
   high-room p = omega (arith, ap length (decimal-high n p), length-append (decimal (n / 10)) (digit (n % 10) ∷ []))
 
-  pub low-told : n < 10 → {xs : List ℕ} (d : ℕ) → d ≡ digit n → xs ≡ over (d ∷ []) o → Told (decimal n) o xs 1
-  low-told p d e t = rw (decimal-low n p, ← e) (told-one d t)
+  pub low-told : n < 10 → {xs : List ℕ} (d : ℕ) → d ≡ digit n → xs ≡ over (d ∷ []) o → Written (decimal n) o xs 1
+  low-told p d e t = rw (decimal-low n p, ← e) (written-one d t)
 
-  pub high-told : 10 ≤ n → {xs ys : List ℕ} {at : ℕ} (d : ℕ) → Told (decimal (n / 10)) o xs at → d ≡ digit (n % 10) → ys ≡ over (d ∷ []) (rest at xs) →
-      Told (decimal n) o (take at xs ++ (ys ++ drop (length xs - at) (drop at xs))) (at + 1)
-  high-told p d t e u = rw (decimal-high n p, ← e) (told-more t (told-one d u) (omega (arith, high-room p)))
+  pub high-told : 10 ≤ n → {xs ys : List ℕ} {at : ℕ} (d : ℕ) → Written (decimal (n / 10)) o xs at → d ≡ digit (n % 10) → ys ≡ over (d ∷ []) (rest at xs) →
+      Written (decimal n) o (take at xs ++ (ys ++ drop (length xs - at) (drop at xs))) (at + 1)
+  high-told p d t e u = rw (decimal-high n p, ← e) (written-more t (written-one d u) (omega (arith, high-room p)))
 
 -- How many digits bytes take.
 pub length-hex : (b : List ℕ) → length (hex b) ≡ 2 * length b
 length-hex [] = refl
 length-hex (x ∷ b) = omega (arith, length-hex b)
 
-pub byte-told : (x : ℕ) {o xs ys : List ℕ} (c d : ℕ) → 2 ≤ length o → c ≡ digit (x / 16) → xs ≡ over (c ∷ []) o → d ≡ digit (x % 16) → ys ≡ over (d ∷ []) (rest 1 xs) →
-    Told (hex (x ∷ [])) o (take 1 xs ++ (ys ++ drop (length xs - 1) (drop 1 xs))) 2
-byte-told x c d h e t f u = rw (← e, ← f) (told-more (told-one c t) (told-one d u) h)
+pub byte-told : (x : ℕ) {o xs ys : List ℕ} (c d : ℕ) → 2 ≤ length o → c ≡ digit (x / 16) → xs ≡ over (c ∷ []) o → d ≡ digit (x % 16) →
+    ys ≡ over (d ∷ []) (rest 1 xs) →
+    Written (hex (x ∷ [])) o (take 1 xs ++ (ys ++ drop (length xs - 1) (drop 1 xs))) 2
+byte-told x c d h e t f u = rw (← e, ← f) (written-more (written-one c t) (written-one d u) h)
 
 pub hex-first : (b : List ℕ) → 0 < length b → hex b ≡ hex (getD b 0 0 ∷ []) ++ hex (rest 1 b)
 hex-first [] p = absurd (omega arith)

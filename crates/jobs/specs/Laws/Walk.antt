@@ -65,7 +65,8 @@ module _ (b : List ℕ) (c : Cursor) where
   stands-none h = and-not-l (ltb (c .index) (countOf b)) _ (le-ltb (c .index) (countOf b) h)
 
   module _ (p : c .index < countOf b) where
-    after-count : standsAt b c ≡ (leb (bodiesFrom b) (length b) && (leb (getD b e 0) 10 && (leb (c .body) (length b) && leb (lengthsAt b e) (length b - c .body))))
+    after-count : standsAt b
+        c ≡ (leb (bodiesFrom b) (length b) && (leb (getD b e 0) 10 && (leb (c .body) (length b) && leb (lengthsAt b e) (length b - c .body))))
     unfolding standsAt
     after-count = and-yes (ltb (c .index) (countOf b)) _ (lt-ltb (c .index) (countOf b) p)
 
@@ -90,7 +91,8 @@ module _ (b : List ℕ) (c : Cursor) where
         stands-over h = and-not-l (leb (c .body) (length b)) _ (lt-leb (c .body) (length b) h) ∙ sym after-operation
 
         pub stands-last : c .body ≤ length b → (n : ℕ) → n ≡ lengthsAt b e → leb n (length b - c .body) ≡ standsAt b c
-        stands-last h n f = ap (λ (m : ℕ). leb m (length b - c .body)) f ∙ sym (after-operation ∙ and-yes (leb (c .body) (length b)) _ (le-leb (c .body) (length b) h))
+        stands-last h n f =
+            ap (λ (m : ℕ). leb m (length b - c .body)) f ∙ sym (after-operation ∙ and-yes (leb (c .body) (length b)) _ (le-leb (c .body) (length b) h))
 
   pub stands-is : standsAt b c ≡ true → Stands b c
   unfolding standsAt
@@ -122,7 +124,8 @@ module _ (b : List ℕ) (c : Cursor) where
   first-inside = omega arith
 
   pub question-is : {a m n : ℕ} → a ≡ rd b (entryOf c + 2) → m ≡ rd b (entryOf c + 4) → n ≡ lengthsAt b (entryOf c) →
-      record { operation = getD b (entryOf c) 0; mode = getD b (entryOf c + 1) 0; attribute = a; first = c .body; second = c .body + m; end = c .body + n } ≡ questionAt b c
+      record { operation = getD b (entryOf c) 0; mode = getD b (entryOf c + 1) 0; attribute = a; first = c .body; second = c .body + m; end = c .body + n } ≡
+      questionAt b c
   unfolding questionAt
   question-is p q r = rw (p, q, r) refl
 
@@ -150,8 +153,11 @@ module _ (b : List ℕ) (n i a : ℕ) (h : Ahead b (suc n) i a) where
   unfolding fitsFrom
   parts =
       let h₁ = and-r (leb (e₁ + 8) (length b)) _ (h .fits) in
-      let h₂ = and-r (entryFits b e₁) _ h₁ in
-      (and-l (entryFits b e₁) _ h₁, leb-true (lengthsAt b e₁) (length b - a) (and-l (leb (lengthsAt b e₁) (length b - a)) _ h₂), and-r (leb (lengthsAt b e₁) (length b - a)) _ h₂)
+      let h₂ = and-r (entryFits b e₁) _ h₁ in (
+        and-l (entryFits b e₁) _ h₁,
+        leb-true (lengthsAt b e₁) (length b - a) (and-l (leb (lengthsAt b e₁) (length b - a)) _ h₂),
+        and-r (leb (lengthsAt b e₁) (length b - a)) _ h₂,
+      )
 
   known : getD b e₁ 0 ≤ 10
   unfolding entryFits

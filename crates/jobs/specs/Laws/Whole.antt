@@ -51,7 +51,8 @@ module _ (b : List ℕ) where
       record { is = rw drops (e ∙ map-to jobWith (questions-to b (rd b 2) 4 (bodiesFrom b)) .is) }
 
   -- The tests of a job, in the code's order.
-  tests : (leb 2 (length b) && (leb 4 (length b) && (leb (rd b 0) (length (drop (8 * rd b 2) (drop 4 b))) && fitsFrom b (rd b 2) 4 (length b - bodiesFrom b)))) ≡
+  tests : (leb 2 (length b) && (leb 4 (length b) && (leb (rd b 0) (length (drop (8 * rd b 2) (drop 4 b))) && fitsFrom b (rd b 2) 4 (length b - bodiesFrom b))))
+      ≡
       (leb 4 (length b) && (leb (bodiesFrom b) (length b) && fitsFrom b (rd b 2) 4 (length b - bodiesFrom b)))
   tests = go (decLe 4 (length b)) (decLe (4 + 8 * rd b 2) (length b))
     where
@@ -64,7 +65,8 @@ module _ (b : List ℕ) where
       long : n ≡ length b - 4 - 8 * rd b 2
       long = rw (length-drop (8 * rd b 2) (drop 4 b), length-drop 4 b) refl
 
-      go : Dec (4 ≤ length b) → Dec (4 + 8 * rd b 2 ≤ length b) → (leb 2 (length b) && (leb 4 (length b) && (leb (rd b 0) n && f))) ≡ (leb 4 (length b) && (leb (bodiesFrom b) (length b) && f))
+      go : Dec (4 ≤ length b) → Dec (4 + 8 * rd b 2 ≤ length b) →
+          (leb 2 (length b) && (leb 4 (length b) && (leb (rd b 0) n && f))) ≡ (leb 4 (length b) && (leb (bodiesFrom b) (length b) && f))
       go (no h) k = rw (lt-leb 4 (length b) (omega arith)) (and-false (leb 2 (length b)))
       go (yes h) (no k) =
           rw (le-leb 2 (length b) (omega arith), le-leb 4 (length b) h, ← fits-over b (rd b 2) 4 (length b - bodiesFrom b) (omega arith) h)
@@ -76,7 +78,8 @@ module _ (b : List ℕ) where
   parse-to : Sure (parseJob b) (leb 4 (length b) && (leb (bodiesFrom b) (length b) && fitsFrom b (rd b 2) 4 (length b - bodiesFrom b))) (jobOf b)
   parse-to =
       sure-same
-      (bind-to after-length (word-to b) λ h. bind-to after-count (word-at b 2) λ g. bind-to after-guard (guard-to (leb (rd b 0) (length (drop (8 * rd b 2) (drop 4 b))))) λ f. rows-to)
+      (bind-to after-length (word-to b) λ h. bind-to after-count (word-at b 2) λ g. bind-to after-guard
+      (guard-to (leb (rd b 0) (length (drop (8 * rd b 2) (drop 4 b))))) λ f. rows-to)
       tests
       (ap (λ (l : List ℕ). record { schema = l; questions = questionsFrom b (rd b 2) 4 (bodiesFrom b) }) cut)
     where
@@ -89,7 +92,9 @@ module _ (b : List ℕ) where
   pub whole-to : Sure (wholeJob b) (jobFits b) (jobOf b)
   whole-to = go (leb (length b) blockBytes)
     where
-      go : (t : Bool) → Sure (cond t (parseJob b) none) (t && (leb 4 (length b) && (leb (bodiesFrom b) (length b) && fitsFrom b (rd b 2) 4 (length b - bodiesFrom b)))) (jobOf b)
+      go : (t : Bool) →
+          Sure (cond t (parseJob b) none) (t && (leb 4 (length b) && (leb (bodiesFrom b) (length b) && fitsFrom b (rd b 2) 4 (length b - bodiesFrom b))))
+          (jobOf b)
       go true = parse-to
       go false = record { is = refl }
 
@@ -109,7 +114,8 @@ module _ (b : List ℕ) where
         whole-not (and-not-r (leb (length b) blockBytes) _ (sym (and-not-r (leb 4 (length b)) _ (sym (and-not-l (leb (bodiesFrom b) (length b)) _
         (lt-leb (bodiesFrom b) (length b) (rw (← e) h)))))))
 
-    pub whole-is : length b ≤ blockBytes → 4 ≤ length b → n ≤ length b → (q : ℕ) → q ≡ rd b 2 → (r : Bool) → r ≡ fitsFrom b q 4 (length b - n) → r ≡ present (wholeJob b)
+    pub whole-is : length b ≤ blockBytes → 4 ≤ length b → n ≤ length b → (q : ℕ) → q ≡ rd b 2 → (r : Bool) → r ≡ fitsFrom b q 4 (length b - n) →
+        r ≡ present (wholeJob b)
     whole-is h g k q f r x =
         x ∙ ap₂ (λ (i j : ℕ). fitsFrom b i 4 (length b - j)) f e
         ∙ sym (sure-present whole-to
@@ -129,14 +135,17 @@ module _ (b : List ℕ) (e : ℕ) where
   module _ (h : getD b e 0 ≤ 10) (x : Bool) (p : x ≡ takenOrZero (takesMode o) (getD b (e + 1) 0)) where
     entry-by : entryFits b e ≡ (x && (takenOrZero (takesAttribute o) (rd b (e + 2)) && takenOrZero (takesSecond o) (rd b (e + 6))))
     unfolding entryFits
-    entry-by = and-yes (leb (getD b e 0) 10) _ (le-leb (getD b e 0) 10 h) ∙ ap (λ (t : Bool). t && (takenOrZero (takesAttribute o) (rd b (e + 2)) && takenOrZero (takesSecond o) (rd b (e + 6)))) (sym p)
+    entry-by =
+        and-yes (leb (getD b e 0) 10) _ (le-leb (getD b e 0) 10 h) ∙
+        ap (λ (t : Bool). t && (takenOrZero (takesAttribute o) (rd b (e + 2)) && takenOrZero (takesSecond o) (rd b (e + 6)))) (sym p)
 
     pub entry-mode : not x ≡ true → false ≡ entryFits b e
     entry-mode f = and-not-l x _ (not-true x f) ∙ sym entry-by
 
     module _ (f : not x ≡ false) (y : Bool) (q : y ≡ takenOrZero (takesAttribute o) (rd b (e + 2))) where
       pub entry-attribute : not y ≡ true → false ≡ entryFits b e
-      entry-attribute g = and-not-l y _ (not-true y g) ∙ ap (λ (t : Bool). t && takenOrZero (takesSecond o) (rd b (e + 6))) q ∙ sym (and-yes x _ (not-false x f)) ∙ sym entry-by
+      entry-attribute g =
+          and-not-l y _ (not-true y g) ∙ ap (λ (t : Bool). t && takenOrZero (takesSecond o) (rd b (e + 6))) q ∙ sym (and-yes x _ (not-false x f)) ∙ sym entry-by
 
       pub entry-second : not y ≡ false → (z : Bool) → z ≡ takenOrZero (takesSecond o) (rd b (e + 6)) → z ≡ entryFits b e
       entry-second g z r =
@@ -179,7 +188,9 @@ module _ {b : List ℕ} {n bytes at left room : ℕ} (i : EntriesLeft b n bytes 
         both = omega arith
 
         pub entries-short : room < k + l → false ≡ fitsFrom b n 4 bytes
-        entries-short r = and-not-r (entryFits b at) _ (sym (and-not-l (leb (lengthsAt b at) room) _ (lt-leb (lengthsAt b at) room (omega (arith, both))))) ∙ sym entries-first
+        entries-short r =
+            and-not-r (entryFits b at) _ (sym (and-not-l (leb (lengthsAt b at) room) _ (lt-leb (lengthsAt b at) room (omega (arith, both))))) ∙
+            sym entries-first
 
         pub entries-again : k + l ≤ room → EntriesLeft b n bytes (at + 8) (left - 1) (room - (k + l))
         entries-again r =

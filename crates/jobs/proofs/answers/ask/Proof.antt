@@ -1,4 +1,5 @@
-use Rattle.jobs.specs.Laws.Asking.{asked-is, answered-quiet, answered-room, quiet-subtype, quiet-disjoint, quiet-may-have, quiet-consistent, quiet-conforms}
+use Rattle.jobs.specs.Laws.Asking.{asked-is, answered-quiet, answered-room}
+use Rattle.jobs.specs.Laws.Asking.{quiet-subtype, quiet-disjoint, quiet-may-have, quiet-consistent, quiet-conforms}
 use Rattle.jobs.specs.Laws.Operations.{literal-is}
 use Rattle.jobs.specs.JobBytes.{opOf}
 use Rattle.cedar.specs.Calls.{boundCall, convertCall, literalCall}
@@ -10,11 +11,11 @@ use borrow.Author.Needs.{needs}
 use Rattle.jobs.proofs.answers.ask.Statement.{statement}
 use Rattle.jobs.proofs.answers.ask.Tie as tie
 
-is-subtype-requires : tie.Need-is-subtype-requires
-is-subtype-requires c κs = search needs
+is-subtype-checked-requires : tie.Need-is-subtype-checked-requires
+is-subtype-checked-requires c κs = search needs
 
-least-upper-bound-requires : tie.Need-least-upper-bound-requires
-least-upper-bound-requires c κs = search needs
+least-upper-bound-checked-requires : tie.Need-least-upper-bound-checked-requires
+least-upper-bound-checked-requires c κs = search needs
 
 are-types-disjoint-requires : tie.Need-are-types-disjoint-requires
 are-types-disjoint-requires c κs = search needs
@@ -22,8 +23,8 @@ are-types-disjoint-requires c κs = search needs
 lookup-requires : tie.Need-lookup-requires
 lookup-requires c κs = search needs
 
-may-have-attr-requires : tie.Need-may-have-attr-requires
-may-have-attr-requires c κs = search needs
+may-have-attr-checked-requires : tie.Need-may-have-attr-checked-requires
+may-have-attr-checked-requires c κs = search needs
 
 names-requires : tie.Need-names-requires
 names-requires c κs = search needs
@@ -34,83 +35,141 @@ is-consistent-with-requires c κs = search needs
 convert-requires : tie.Need-convert-requires
 convert-requires c κs = search needs
 
-typecheck-restricted-expr-requires : tie.Need-typecheck-restricted-expr-requires
-typecheck-restricted-expr-requires c κs = search needs
+typecheck-restricted-expr-checked-requires : tie.Need-typecheck-restricted-expr-checked-requires
+typecheck-restricted-expr-checked-requires c κs = search needs
 
 fold-requires : tie.Need-fold-requires
 fold-requires c κs = search needs
 
-euid-literal-requires : tie.Need-euid-literal-requires
-euid-literal-requires c κs = search needs
+euid-literal-checked-requires : tie.Need-euid-literal-checked-requires
+euid-literal-checked-requires c κs = search needs
 
 returns : tie.Need-returns
-returns c = asked-is ((c .before .before .before .before .before .before) .args .q .mode) ((c .before .before .before .before .before .before) .args .q .attribute) ((c .before .before .before .before .before .before) .args .schema .now) ((c .before .before .before .before .before .before) .args .first .now) ((c .before .before .before .before .before .before) .args .second .now) subtypeOp ((c .before .before .before .before .before .before) .args .q .operation) (ap opOf ((c .before) .match .keys1)) (answered-quiet ((c .before .before .before .before .before .before) .args .result .now) (quiet-subtype ((c .before .before .before .before .before .before) .args .q .mode) ((c .before .before .before .before .before .before) .args .schema .now) ((c .before .before .before .before .before .before) .args .first .now) ((c .before .before .before .before .before .before) .args .second .now)) (c .is-subtype .ensures))
+returns c =
+    let start = c .before .before .before .before .before .before in
+    let at = start .args in
+    asked-is _ _ _ _ _ subtypeOp (at .q .operation)
+    (ap opOf (c .before .match .keys1))
+    (answered-quiet (at .result .now) (quiet-subtype (at .q .mode) (at .schema .now) (at .first .now) (at .second .now)) (c .is-subtype-checked .ensures))
 
 same-length : tie.Need-same-length
 same-length c = search needs
 
 returns-2 : tie.Need-returns-2
-returns-2 c = asked-is ((c .before .before .before .before .before .before .before .before .before) .args .q .mode) ((c .before .before .before .before .before .before .before .before .before) .args .q .attribute) ((c .before .before .before .before .before .before .before .before .before) .args .schema .now) ((c .before .before .before .before .before .before .before .before .before) .args .first .now) ((c .before .before .before .before .before .before .before .before .before) .args .second .now) boundOp ((c .before .before .before .before .before .before .before .before .before) .args .q .operation) (ap opOf ((c .before .before .before .before) .match .keys2)) (answered-room (λ (n : ℕ). boundCall standard ((c .before .before .before .before .before .before .before .before .before) .args .q .mode) ((c .before .before .before .before .before .before .before .before .before) .args .schema .now) ((c .before .before .before .before .before .before .before .before .before) .args .first .now) ((c .before .before .before .before .before .before .before .before .before) .args .second .now) n) ((c .before .before .before .before .before .before .before .before .before) .pre .1) ((c .before .before) .least-upper-bound .ensures))
+returns-2 c =
+    let least-upper-bound-checked = c .before .before .least-upper-bound-checked in
+    let match-keys2 = c .before .before .before .before .match in
+    let start = c .before .before .before .before .before .before .before .before .before in
+    let at = start .args in
+    let by-answered-room = answered-room (λ (n : ℕ). boundCall standard (at .q .mode) (at .schema .now) (at .first .now) (at .second .now) n) (start .pre .1 .1)
+    (least-upper-bound-checked .ensures) in
+    asked-is _ _ _ _ _ boundOp (at .q .operation) (ap opOf (match-keys2 .keys2)) by-answered-room
 
 returns-3 : tie.Need-returns-3
-returns-3 c = asked-is ((c .before .before .before .before .before .before) .args .q .mode) ((c .before .before .before .before .before .before) .args .q .attribute) ((c .before .before .before .before .before .before) .args .schema .now) ((c .before .before .before .before .before .before) .args .first .now) ((c .before .before .before .before .before .before) .args .second .now) disjointOp ((c .before .before .before .before .before .before) .args .q .operation) (ap opOf ((c .before) .match .keys3)) (answered-quiet ((c .before .before .before .before .before .before) .args .result .now) (quiet-disjoint ((c .before .before .before .before .before .before) .args .first .now) ((c .before .before .before .before .before .before) .args .second .now)) (c .are-types-disjoint .ensures))
+returns-3 c =
+    let start = c .before .before .before .before .before .before in
+    let at = start .args in
+    asked-is _ _ _ _ _ disjointOp (at .q .operation)
+    (ap opOf (c .before .match .keys3))
+    (answered-quiet (at .result .now) (quiet-disjoint (at .first .now) (at .second .now)) (c .are-types-disjoint .ensures))
 
 same-length-2 : tie.Need-same-length-2
 same-length-2 c = search needs
 
 returns-4 : tie.Need-returns-4
-returns-4 c = asked-is ((c .before .before .before .before .before .before .before .before .before) .args .q .mode) ((c .before .before .before .before .before .before .before .before .before) .args .q .attribute) ((c .before .before .before .before .before .before .before .before .before) .args .schema .now) ((c .before .before .before .before .before .before .before .before .before) .args .first .now) ((c .before .before .before .before .before .before .before .before .before) .args .second .now) lookupOp ((c .before .before .before .before .before .before .before .before .before) .args .q .operation) (ap opOf ((c .before .before .before .before) .match .keys4)) ((c .before .before) .lookup .ensures)
+returns-4 c =
+    let lookup = c .before .before .lookup in
+    let match-keys4 = c .before .before .before .before .match in
+    let start = c .before .before .before .before .before .before .before .before .before in
+    asked-is _ _ _ _ _ lookupOp (start .args .q .operation) (ap opOf (match-keys4 .keys4)) (lookup .ensures)
 
 returns-5 : tie.Need-returns-5
-returns-5 c = asked-is ((c .before .before .before .before .before .before) .args .q .mode) ((c .before .before .before .before .before .before) .args .q .attribute) ((c .before .before .before .before .before .before) .args .schema .now) ((c .before .before .before .before .before .before) .args .first .now) ((c .before .before .before .before .before .before) .args .second .now) mayHaveOp ((c .before .before .before .before .before .before) .args .q .operation) (ap opOf ((c .before) .match .keys5)) (answered-quiet ((c .before .before .before .before .before .before) .args .result .now) (quiet-may-have ((c .before .before .before .before .before .before) .args .schema .now) ((c .before .before .before .before .before .before) .args .q .attribute) ((c .before .before .before .before .before .before) .args .first .now)) (c .may-have-attr .ensures))
+returns-5 c =
+    let start = c .before .before .before .before .before .before in
+    let at = start .args in
+    asked-is _ _ _ _ _ mayHaveOp (at .q .operation)
+    (ap opOf (c .before .match .keys5))
+    (answered-quiet (at .result .now) (quiet-may-have (at .schema .now) (at .q .attribute) (at .first .now)) (c .may-have-attr-checked .ensures))
 
 same-length-3 : tie.Need-same-length-3
 same-length-3 c = search needs
 
 returns-6 : tie.Need-returns-6
-returns-6 c = asked-is ((c .before .before .before .before .before .before .before .before .before) .args .q .mode) ((c .before .before .before .before .before .before .before .before .before) .args .q .attribute) ((c .before .before .before .before .before .before .before .before .before) .args .schema .now) ((c .before .before .before .before .before .before .before .before .before) .args .first .now) ((c .before .before .before .before .before .before .before .before .before) .args .second .now) namesOp ((c .before .before .before .before .before .before .before .before .before) .args .q .operation) (ap opOf ((c .before .before .before .before) .match .keys6)) ((c .before .before) .names .ensures)
+returns-6 c =
+    let names = c .before .before .names in
+    let match-keys6 = c .before .before .before .before .match in
+    let start = c .before .before .before .before .before .before .before .before .before in
+    asked-is _ _ _ _ _ namesOp (start .args .q .operation) (ap opOf (match-keys6 .keys6)) (names .ensures)
 
 returns-7 : tie.Need-returns-7
-returns-7 c = asked-is ((c .before .before .before .before .before .before) .args .q .mode) ((c .before .before .before .before .before .before) .args .q .attribute) ((c .before .before .before .before .before .before) .args .schema .now) ((c .before .before .before .before .before .before) .args .first .now) ((c .before .before .before .before .before .before) .args .second .now) consistentOp ((c .before .before .before .before .before .before) .args .q .operation) (ap opOf ((c .before) .match .keys7)) (answered-quiet ((c .before .before .before .before .before .before) .args .result .now) (quiet-consistent ((c .before .before .before .before .before .before) .args .first .now) ((c .before .before .before .before .before .before) .args .second .now)) (c .is-consistent-with .ensures))
+returns-7 c =
+    let start = c .before .before .before .before .before .before in
+    let at = start .args in
+    asked-is _ _ _ _ _ consistentOp (at .q .operation)
+    (ap opOf (c .before .match .keys7))
+    (answered-quiet (at .result .now) (quiet-consistent (at .first .now) (at .second .now)) (c .is-consistent-with .ensures))
 
 same-length-4 : tie.Need-same-length-4
 same-length-4 c = search needs
 
 returns-8 : tie.Need-returns-8
-returns-8 c = asked-is ((c .before .before .before .before .before .before .before .before .before) .args .q .mode) ((c .before .before .before .before .before .before .before .before .before) .args .q .attribute) ((c .before .before .before .before .before .before .before .before .before) .args .schema .now) ((c .before .before .before .before .before .before .before .before .before) .args .first .now) ((c .before .before .before .before .before .before .before .before .before) .args .second .now) convertOp ((c .before .before .before .before .before .before .before .before .before) .args .q .operation) (ap opOf ((c .before .before .before .before) .match .keys8)) (answered-room (λ (n : ℕ). convertCall standard ((c .before .before .before .before .before .before .before .before .before) .args .first .now) n) ((c .before .before .before .before .before .before .before .before .before) .pre .1) ((c .before .before) .convert .ensures))
+returns-8 c =
+    let convert = c .before .before .convert in
+    let match-keys8 = c .before .before .before .before .match in
+    let start = c .before .before .before .before .before .before .before .before .before in
+    let at = start .args in
+    let by-answered-room = answered-room (λ (n : ℕ). convertCall standard (at .first .now) n) (start .pre .1 .1) (convert .ensures) in
+    asked-is _ _ _ _ _ convertOp (at .q .operation) (ap opOf (match-keys8 .keys8)) by-answered-room
 
 returns-9 : tie.Need-returns-9
-returns-9 c = asked-is ((c .before .before .before .before .before .before) .args .q .mode) ((c .before .before .before .before .before .before) .args .q .attribute) ((c .before .before .before .before .before .before) .args .schema .now) ((c .before .before .before .before .before .before) .args .first .now) ((c .before .before .before .before .before .before) .args .second .now) conformsOp ((c .before .before .before .before .before .before) .args .q .operation) (ap opOf ((c .before) .match .keys9)) (answered-quiet ((c .before .before .before .before .before .before) .args .result .now) (quiet-conforms ((c .before .before .before .before .before .before) .args .schema .now) ((c .before .before .before .before .before .before) .args .first .now) ((c .before .before .before .before .before .before) .args .second .now)) (c .typecheck-restricted-expr .ensures))
+returns-9 c =
+    let start = c .before .before .before .before .before .before in
+    let at = start .args in
+    asked-is _ _ _ _ _ conformsOp (at .q .operation)
+    (ap opOf (c .before .match .keys9))
+    (answered-quiet (at .result .now) (quiet-conforms (at .schema .now) (at .first .now) (at .second .now)) (c .typecheck-restricted-expr-checked .ensures))
 
 same-length-5 : tie.Need-same-length-5
 same-length-5 c = search needs
 
 returns-10 : tie.Need-returns-10
-returns-10 c = asked-is ((c .before .before .before .before .before .before .before .before .before) .args .q .mode) ((c .before .before .before .before .before .before .before .before .before) .args .q .attribute) ((c .before .before .before .before .before .before .before .before .before) .args .schema .now) ((c .before .before .before .before .before .before .before .before .before) .args .first .now) ((c .before .before .before .before .before .before .before .before .before) .args .second .now) foldOp ((c .before .before .before .before .before .before .before .before .before) .args .q .operation) (ap opOf ((c .before .before .before .before) .match .keys10)) ((c .before .before) .fold .ensures)
+returns-10 c =
+    let fold = c .before .before .fold in
+    let match-keys10 = c .before .before .before .before .match in
+    let start = c .before .before .before .before .before .before .before .before .before in
+    asked-is _ _ _ _ _ foldOp (start .args .q .operation) (ap opOf (match-keys10 .keys10)) (fold .ensures)
 
 same-length-6 : tie.Need-same-length-6
 same-length-6 c = search needs
 
 returns-11 : tie.Need-returns-11
 returns-11 c =
-    let m = (c .before .before .before .before) .match .rest in
-    asked-is ((c .before .before .before .before .before .before .before .before .before) .args .q .mode) ((c .before .before .before .before .before .before .before .before .before) .args .q .attribute) ((c .before .before .before .before .before .before .before .before .before) .args .schema .now) ((c .before .before .before .before .before .before .before .before .before) .args .first .now) ((c .before .before .before .before .before .before .before .before .before) .args .second .now) literalOp ((c .before .before .before .before .before .before .before .before .before) .args .q .operation) (literal-is ((c .before .before .before .before .before .before .before .before .before) .args .q .operation) ((c .before .before .before .before .before .before .before .before .before) .pre .0) (m .0 .0 .0 .0 .0 .0 .0 .0 .0 .1) (m .0 .0 .0 .0 .0 .0 .0 .0 .1) (m .0 .0 .0 .0 .0 .0 .0 .1) (m .0 .0 .0 .0 .0 .0 .1) (m .0 .0 .0 .0 .0 .1) (m .0 .0 .0 .0 .1) (m .0 .0 .0 .1) (m .0 .0 .1) (m .0 .1) (m .1)) (answered-room (λ (n : ℕ). literalCall standard ((c .before .before .before .before .before .before .before .before .before) .args .schema .now) ((c .before .before .before .before .before .before .before .before .before) .args .first .now) n) ((c .before .before .before .before .before .before .before .before .before) .pre .1) ((c .before .before) .euid-literal .ensures))
+    let euid-literal-checked = c .before .before .euid-literal-checked in
+    let match-rest = c .before .before .before .before .match in
+    let start = c .before .before .before .before .before .before .before .before .before in
+    let at = start .args in
+    let m = match-rest .rest in
+    let by-literal-is = literal-is (at .q .operation) (start .pre .0) (m .0 .0 .0 .0 .0 .0 .0 .0 .0 .1) (m .0 .0 .0 .0 .0 .0 .0 .0 .1)
+    (m .0 .0 .0 .0 .0 .0 .0 .1) (m .0 .0 .0 .0 .0 .0 .1) (m .0 .0 .0 .0 .0 .1) (m .0 .0 .0 .0 .1) (m .0 .0 .0 .1) (m .0 .0 .1) (m .0 .1) (m .1) in
+    let by-answered-room = answered-room (λ (n : ℕ). literalCall standard (at .schema .now) (at .first .now) n) (start .pre .1 .1)
+    (euid-literal-checked .ensures) in
+    asked-is _ _ _ _ _ literalOp (at .q .operation) by-literal-is by-answered-room
 
 pub ask-spec : {M : Type 1} → statement M
 ask-spec =
     tie.close
     (tie.spec
-    is-subtype-requires
-    least-upper-bound-requires
+    is-subtype-checked-requires
+    least-upper-bound-checked-requires
     are-types-disjoint-requires
     lookup-requires
-    may-have-attr-requires
+    may-have-attr-checked-requires
     names-requires
     is-consistent-with-requires
     convert-requires
-    typecheck-restricted-expr-requires
+    typecheck-restricted-expr-checked-requires
     fold-requires
-    euid-literal-requires
+    euid-literal-checked-requires
     returns
     same-length
     returns-2

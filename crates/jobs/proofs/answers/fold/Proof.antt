@@ -7,23 +7,28 @@ use borrow.Author.Needs.{needs}
 use Rattle.jobs.proofs.answers.fold.Statement.{statement}
 use Rattle.jobs.proofs.answers.fold.Tie as tie
 
-slice-aggregate-reduce-to-least-upper-bound : tie.Need-slice-aggregate-reduce-to-least-upper-bound
-slice-aggregate-reduce-to-least-upper-bound c = search needs
+slice-aggregate-reduce-to-least-upper-bound-checked : tie.Need-slice-aggregate-reduce-to-least-upper-bound-checked
+slice-aggregate-reduce-to-least-upper-bound-checked c = search needs
 
-reduce-to-least-upper-bound-requires : tie.Need-reduce-to-least-upper-bound-requires
-reduce-to-least-upper-bound-requires c κs = search needs
+reduce-to-least-upper-bound-checked-requires : tie.Need-reduce-to-least-upper-bound-checked-requires
+reduce-to-least-upper-bound-checked-requires c κs = search needs
 
 same-length : tie.Need-same-length
 same-length c = search needs
 
 returns : tie.Need-returns
-returns c = answered-room (λ (n : ℕ). foldCall standard ((c .before .before .before .before .before .before .before .before .before) .args .mode) ((c .before .before .before .before .before .before .before .before .before) .args .schema .now) ((c .before .before .before .before .before .before .before .before .before) .args .list .now) n jobWork) ((c .before .before .before .before .before .before .before .before .before) .pre) (answered-in ((c .before .before .before) .reduce-to-least-upper-bound .ensures))
+returns c =
+    let reduce-to-least-upper-bound-checked = c .before .before .before .reduce-to-least-upper-bound-checked in
+    let start = c .before .before .before .before .before .before .before .before .before in
+    let args = start .args in
+    answered-room (λ (n : ℕ). foldCall standard (args .mode) (args .schema .now) (args .list .now) n jobWork) (start .pre .1)
+    (answered-in (reduce-to-least-upper-bound-checked .ensures))
 
 pub fold-spec : {M : Type 1} → statement M
 fold-spec =
     tie.close
     (tie.spec
-    slice-aggregate-reduce-to-least-upper-bound
-    reduce-to-least-upper-bound-requires
+    slice-aggregate-reduce-to-least-upper-bound-checked
+    reduce-to-least-upper-bound-checked-requires
     same-length
     returns)

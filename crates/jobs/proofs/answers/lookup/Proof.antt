@@ -7,23 +7,28 @@ use borrow.Author.Needs.{needs}
 use Rattle.jobs.proofs.answers.lookup.Statement.{statement}
 use Rattle.jobs.proofs.answers.lookup.Tie as tie
 
-slice-aggregate-lookup-attribute-type : tie.Need-slice-aggregate-lookup-attribute-type
-slice-aggregate-lookup-attribute-type c = search needs
+slice-aggregate-lookup-attribute-type-checked : tie.Need-slice-aggregate-lookup-attribute-type-checked
+slice-aggregate-lookup-attribute-type-checked c = search needs
 
-lookup-attribute-type-requires : tie.Need-lookup-attribute-type-requires
-lookup-attribute-type-requires c κs = search needs
+lookup-attribute-type-checked-requires : tie.Need-lookup-attribute-type-checked-requires
+lookup-attribute-type-checked-requires c κs = search needs
 
 same-length : tie.Need-same-length
 same-length c = search needs
 
 returns : tie.Need-returns
-returns c = answered-room (λ (n : ℕ). lookupCall standard ((c .before .before .before .before .before .before .before .before .before) .args .schema .now) ((c .before .before .before .before .before .before .before .before .before) .args .attribute) ((c .before .before .before .before .before .before .before .before .before) .args .t .now) n jobWork) ((c .before .before .before .before .before .before .before .before .before) .pre) (answered-in ((c .before .before .before) .lookup-attribute-type .ensures))
+returns c =
+    let lookup-attribute-type-checked = c .before .before .before .lookup-attribute-type-checked in
+    let start = c .before .before .before .before .before .before .before .before .before in
+    let args = start .args in
+    answered-room (λ (n : ℕ). lookupCall standard (args .schema .now) (args .attribute) (args .t .now) n jobWork) (start .pre .1)
+    (answered-in (lookup-attribute-type-checked .ensures))
 
 pub lookup-spec : {M : Type 1} → statement M
 lookup-spec =
     tie.close
     (tie.spec
-    slice-aggregate-lookup-attribute-type
-    lookup-attribute-type-requires
+    slice-aggregate-lookup-attribute-type-checked
+    lookup-attribute-type-checked-requires
     same-length
     returns)

@@ -7,18 +7,22 @@ use borrow.Author.Needs.{needs}
 use Rattle.jobs.proofs.answers.names.Statement.{statement}
 use Rattle.jobs.proofs.answers.names.Tie as tie
 
-slice-aggregate-all-attributes : tie.Need-slice-aggregate-all-attributes
-slice-aggregate-all-attributes c = search needs
+slice-aggregate-all-attributes-checked : tie.Need-slice-aggregate-all-attributes-checked
+slice-aggregate-all-attributes-checked c = search needs
 
-all-attributes-requires : tie.Need-all-attributes-requires
-all-attributes-requires c κs = search needs
+all-attributes-checked-requires : tie.Need-all-attributes-checked-requires
+all-attributes-checked-requires c κs = search needs
 
 same-length : tie.Need-same-length
 same-length c = search needs
 
 returns : tie.Need-returns
-returns c = answered-room (λ (n : ℕ). namesCall standard ((c .before .before .before .before .before .before .before .before .before) .args .schema .now) ((c .before .before .before .before .before .before .before .before .before) .args .t .now) n jobWork) ((c .before .before .before .before .before .before .before .before .before) .pre) (answered-in ((c .before .before .before) .all-attributes .ensures))
+returns c =
+    let all-attributes-checked = c .before .before .before .all-attributes-checked in
+    let start = c .before .before .before .before .before .before .before .before .before in
+    answered-room (λ (n : ℕ). namesCall standard (start .args .schema .now) (start .args .t .now) n jobWork) (start .pre .1)
+    (answered-in (all-attributes-checked .ensures))
 
 pub names-spec : {M : Type 1} → statement M
 names-spec =
-    tie.close (tie.spec slice-aggregate-all-attributes all-attributes-requires same-length returns)
+    tie.close (tie.spec slice-aggregate-all-attributes-checked all-attributes-checked-requires same-length returns)

@@ -19,7 +19,9 @@ add-result : tie.Need-add-result
 add-result c = search needs
 
 returns : tie.Need-returns
-returns c = lengths-are ((c .before .before .before) .args .job .now) ((c .before .before .before) .args .at) ((c .before) .u16-at .ensures .0) (c .u16-at2 .ensures .0)
+returns c =
+    let args = c .before .before .before .args in
+    lengths-are (args .job .now) (args .at) (c .before .u16-at .ensures .0) (c .u16-at2 .ensures .0)
 
 pub lengths-spec : {M : Type 1} → statement M
 lengths-spec =

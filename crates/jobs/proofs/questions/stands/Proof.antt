@@ -8,37 +8,91 @@ count-requires : tie.Need-count-requires
 count-requires c κs = search needs
 
 returns : tie.Need-returns
-returns c = stands-none ((c .before .before .before) .args .job .now) ((c .before .before .before) .args .cursor) (omega (arith, (c .before) .count .ensures, c .if1 .taken))
+returns c =
+    let args = c .before .before .before .args in
+    stands-none (args .job .now) (args .cursor) (omega (arith, c .before .count .ensures, c .if1 .taken))
 
 bodies-from-requires : tie.Need-bodies-from-requires
-bodies-from-requires c κs = counted ((c .before .before .before) .args .job .now) ((c .before .before .before) .args .cursor .index) (omega (arith, (c .before) .count .ensures, c .if1 .left)) .0
+bodies-from-requires c κs =
+    let args = c .before .before .before .args in
+    counted (args .job .now) (args .cursor .index) (omega (arith, c .before .count .ensures, c .if1 .left)) .0
 
 returns-2 : tie.Need-returns-2
-returns-2 c = stands-short ((c .before .before .before .before .before) .args .job .now) ((c .before .before .before .before .before) .args .cursor) (omega (arith, (c .before .before .before) .count .ensures, (c .before .before) .if1 .left)) (omega (arith, (c .before) .bodies-from .ensures, c .if2 .taken))
+returns-2 c =
+    let if1 = c .before .before .if1 in
+    let count = c .before .before .before .count in
+    let args = c .before .before .before .before .before .args in
+    stands-short (args .job .now) (args .cursor) (omega (arith, count .ensures, if1 .left)) (omega (arith, c .before .bodies-from .ensures, c .if2 .taken))
 
 mul-at : tie.Need-mul-at
-mul-at c = omega (arith, stands-entry ((c .before .before .before .before .before) .args .job .now) ((c .before .before .before .before .before) .args .cursor) (omega (arith, (c .before .before .before) .count .ensures, (c .before .before) .if1 .left)) (omega (arith, (c .before) .bodies-from .ensures, c .if2 .left)), (c .before .before .before .before .before) .good)
+mul-at c =
+    let if1 = c .before .before .if1 in
+    let count = c .before .before .before .count in
+    let start = c .before .before .before .before .before in
+    let by-stands-entry = stands-entry (start .args .job .now) (start .args .cursor) (omega (arith, count .ensures, if1 .left))
+    (omega (arith, c .before .bodies-from .ensures, c .if2 .left)) in
+    omega (arith, by-stands-entry, start .good)
 
 add-at : tie.Need-add-at
-add-at c = omega (arith, stands-entry ((c .before .before .before .before .before) .args .job .now) ((c .before .before .before .before .before) .args .cursor) (omega (arith, (c .before .before .before) .count .ensures, (c .before .before) .if1 .left)) (omega (arith, (c .before) .bodies-from .ensures, c .if2 .left)), (c .before .before .before .before .before) .good)
+add-at c =
+    let if1 = c .before .before .if1 in
+    let count = c .before .before .before .count in
+    let start = c .before .before .before .before .before in
+    let by-stands-entry = stands-entry (start .args .job .now) (start .args .cursor) (omega (arith, count .ensures, if1 .left))
+    (omega (arith, c .before .bodies-from .ensures, c .if2 .left)) in
+    omega (arith, by-stands-entry, start .good)
 
 shared-slice-read-if3 : tie.Need-shared-slice-read-if3
-shared-slice-read-if3 c = omega (arith, stands-entry ((c .before .before .before .before .before .before) .args .job .now) ((c .before .before .before .before .before .before) .args .cursor) (omega (arith, (c .before .before .before .before) .count .ensures, (c .before .before .before) .if1 .left)) (omega (arith, (c .before .before) .bodies-from .ensures, (c .before) .if2 .left)))
+shared-slice-read-if3 c =
+    let bodies-from = c .before .before .bodies-from in
+    let if1 = c .before .before .before .if1 in
+    let count = c .before .before .before .before .count in
+    let args = c .before .before .before .before .before .before .args in
+    let by-stands-entry = stands-entry (args .job .now) (args .cursor) (omega (arith, count .ensures, if1 .left))
+    (omega (arith, bodies-from .ensures, c .before .if2 .left)) in
+    omega (arith, by-stands-entry)
 
 returns-3 : tie.Need-returns-3
-returns-3 c = stands-unknown ((c .before .before .before .before .before .before .before) .args .job .now) ((c .before .before .before .before .before .before .before) .args .cursor) (omega (arith, (c .before .before .before .before .before) .count .ensures, (c .before .before .before .before) .if1 .left)) (omega (arith, (c .before .before .before) .bodies-from .ensures, (c .before .before) .if2 .left)) (c .if3 .taken)
+returns-3 c =
+    let if2 = c .before .before .if2 in
+    let bodies-from = c .before .before .before .bodies-from in
+    let if1 = c .before .before .before .before .if1 in
+    let count = c .before .before .before .before .before .count in
+    let args = c .before .before .before .before .before .before .before .args in
+    stands-unknown (args .job .now) (args .cursor) (omega (arith, count .ensures, if1 .left)) (omega (arith, bodies-from .ensures, if2 .left)) (c .if3 .taken)
 
 returns-4 : tie.Need-returns-4
-returns-4 c = stands-over ((c .before .before .before .before .before .before .before .before) .args .job .now) ((c .before .before .before .before .before .before .before .before) .args .cursor) (omega (arith, (c .before .before .before .before .before .before) .count .ensures, (c .before .before .before .before .before) .if1 .left)) (omega (arith, (c .before .before .before .before) .bodies-from .ensures, (c .before .before .before) .if2 .left)) ((c .before) .if3 .left) (c .if4 .taken)
+returns-4 c =
+    let if2 = c .before .before .before .if2 in
+    let bodies-from = c .before .before .before .before .bodies-from in
+    let if1 = c .before .before .before .before .before .if1 in
+    let count = c .before .before .before .before .before .before .count in
+    let args = c .before .before .before .before .before .before .before .before .args in
+    stands-over (args .job .now) (args .cursor) (omega (arith, count .ensures, if1 .left)) (omega (arith, bodies-from .ensures, if2 .left))
+    (c .before .if3 .left) (c .if4 .taken)
 
 lengths-requires : tie.Need-lengths-requires
-lengths-requires c κs = stands-entry ((c .before .before .before .before .before .before .before .before) .args .job .now) ((c .before .before .before .before .before .before .before .before) .args .cursor) (omega (arith, (c .before .before .before .before .before .before) .count .ensures, (c .before .before .before .before .before) .if1 .left)) (omega (arith, (c .before .before .before .before) .bodies-from .ensures, (c .before .before .before) .if2 .left))
+lengths-requires c κs =
+    let if2 = c .before .before .before .if2 in
+    let bodies-from = c .before .before .before .before .bodies-from in
+    let if1 = c .before .before .before .before .before .if1 in
+    let count = c .before .before .before .before .before .before .count in
+    let args = c .before .before .before .before .before .before .before .before .args in
+    stands-entry (args .job .now) (args .cursor) (omega (arith, count .ensures, if1 .left)) (omega (arith, bodies-from .ensures, if2 .left))
 
 sub-result : tie.Need-sub-result
 sub-result c = search needs
 
 returns-5 : tie.Need-returns-5
-returns-5 c = stands-last ((c .before .before .before .before .before .before .before .before .before) .args .job .now) ((c .before .before .before .before .before .before .before .before .before) .args .cursor) (omega (arith, (c .before .before .before .before .before .before .before) .count .ensures, (c .before .before .before .before .before .before) .if1 .left)) (omega (arith, (c .before .before .before .before .before) .bodies-from .ensures, (c .before .before .before .before) .if2 .left)) ((c .before .before) .if3 .left) ((c .before) .if4 .left) (c .lengths .result) (c .lengths .ensures)
+returns-5 c =
+    let if3 = c .before .before .if3 in
+    let if2 = c .before .before .before .before .if2 in
+    let bodies-from = c .before .before .before .before .before .bodies-from in
+    let if1 = c .before .before .before .before .before .before .if1 in
+    let count = c .before .before .before .before .before .before .before .count in
+    let args = c .before .before .before .before .before .before .before .before .before .args in
+    stands-last (args .job .now) (args .cursor) (omega (arith, count .ensures, if1 .left)) (omega (arith, bodies-from .ensures, if2 .left)) (if3 .left)
+    (c .before .if4 .left) (c .lengths .result) (c .lengths .ensures)
 
 pub stands-spec : {M : Type 1} → statement M
 stands-spec =

@@ -1,4 +1,4 @@
-use Rattle.jobs.specs.Laws.Writing.{told-room}
+use Rattle.writing.specs.Laws.Writing.{written-room}
 use Rattle.jobs.specs.Laws.Text.{low-room, low-told, high-room, high-told}
 use native.Mathlib.Omega.{arith}
 use borrow.Author.Needs.{needs}
@@ -9,7 +9,7 @@ use Rattle.jobs.proofs.text.put_decimal.Reads as put-decimal
 use Rattle.jobs.proofs.text.put_decimal.Kinds as put-decimal-kinds
 use Rattle.jobs.proofs.text.+put_decimal.Lts-put_decimal as put-decimal-lts
 use Rattle.jobs.proofs.text.digit.Reads as digit-reads
-use Rattle.jobs.proofs.writing.put_one.Reads as put-one-reads
+use Rattle.writing.proofs.writers.put_one.Reads as put-one-reads
 use Rattle.jobs.proofs.text.+put_decimal.{statement}
 use Rattle.jobs.proofs.text.+put_decimal.Tie.{close}
 
@@ -43,8 +43,9 @@ put-decimal-put-one-requires : (t : ℕ) → put-decimal-lts.Need-put-one-requir
   put-decimal.Post,
 ) (put-decimal-at t) put-decimal.Post
 put-decimal-put-one-requires t c κs =
+    let if1 = c .before .before .if1 in
     let start = c .before .before .before .before in
-    low-room (start .args .n) (start .args .out .now) (start .pre .1) (c .before .before .if1 .taken)
+    low-room (start .args .n) (start .args .out .now) (start .pre .1) (if1 .taken)
 
 put-decimal-same-length : (t : ℕ) → put-decimal-lts.Need-same-length (
   digit-reads.Asked,
@@ -65,8 +66,11 @@ put-decimal-returns : (t : ℕ) → put-decimal-lts.Need-returns (
   put-decimal.Post,
 ) (put-decimal-at t) put-decimal.Post
 put-decimal-returns t c =
+    let put-one = c .before .before .put-one in
+    let digit = c .before .before .before .digit in
+    let if1 = c .before .before .before .before .before .if1 in
     let start = c .before .before .before .before .before .before .before in
-    low-told (start .args .n) (start .args .out .now) (start .pre .1) (c .before .before .before .before .before .if1 .taken) _ (c .before .before .before .digit .ensures) (c .before .before .put-one .ensures)
+    low-told (start .args .n) (start .args .out .now) (start .pre .1) (if1 .taken) _ (digit .ensures) (put-one .ensures)
 
 put-decimal-put-decimal-requires : (t : ℕ) → put-decimal-lts.Need-put-decimal-requires (
   digit-reads.Asked,
@@ -89,8 +93,10 @@ put-decimal-sub-put-one : (t : ℕ) → put-decimal-lts.Need-sub-put-one (
   put-decimal.Post,
 ) (put-decimal-at t) put-decimal.Post
 put-decimal-sub-put-one t c =
+    let put-decimal-step = c .before .before .put-decimal in
+    let if1 = c .before .before .before .before .if1 in
     let start = c .before .before .before .before .before .before in
-    omega (arith, high-room (start .args .n) (start .args .out .now) (start .pre .1) (c .before .before .before .before .if1 .left), c .before .before .put-decimal .ensures .many, c .before .before .put-decimal .kept .1 .0)
+    omega (arith, high-room (start .args .n) (start .args .out .now) (start .pre .1) (if1 .left), put-decimal-step .ensures .many, put-decimal-step .kept .1 .0)
 
 put-decimal-part-put-one-start : (t : ℕ) → put-decimal-lts.Need-part-put-one-start (
   digit-reads.Asked,
@@ -100,9 +106,7 @@ put-decimal-part-put-one-start : (t : ℕ) → put-decimal-lts.Need-part-put-one
   put-decimal-below t,
   put-decimal.Post,
 ) (put-decimal-at t) put-decimal.Post
-put-decimal-part-put-one-start t c =
-    let start = c .before .before .before .before .before .before in
-    omega (arith, high-room (start .args .n) (start .args .out .now) (start .pre .1) (c .before .before .before .before .if1 .left), c .before .before .put-decimal .ensures .many, c .before .before .put-decimal .kept .1 .0)
+put-decimal-part-put-one-start t c = put-decimal-sub-put-one t c
 
 put-decimal-part-put-one-end : (t : ℕ) → put-decimal-lts.Need-part-put-one-end (
   digit-reads.Asked,
@@ -133,8 +137,12 @@ put-decimal-put-one-requires-2 : (t : ℕ) → put-decimal-lts.Need-put-one-requ
   put-decimal.Post,
 ) (put-decimal-at t) put-decimal.Post
 put-decimal-put-one-requires-2 t c κs =
+    let put-decimal-step = c .before .before .before .before .put-decimal in
+    let if1 = c .before .before .before .before .before .before .if1 in
     let start = c .before .before .before .before .before .before .before .before in
-    omega (arith, high-room (start .args .n) (start .args .out .now) (start .pre .1) (c .before .before .before .before .before .before .if1 .left), told-room (c .before .before .before .before .put-decimal .ensures) (omega (arith, high-room (start .args .n) (start .args .out .now) (start .pre .1) (c .before .before .before .before .before .before .if1 .left))))
+    let args = start .args in
+    let by-high-room = high-room (args .n) (args .out .now) (start .pre .1) (if1 .left) in
+    omega (arith, by-high-room, written-room (put-decimal-step .ensures) (omega (arith, by-high-room)))
 
 put-decimal-add-result : (t : ℕ) → put-decimal-lts.Need-add-result (
   digit-reads.Asked,
@@ -145,8 +153,10 @@ put-decimal-add-result : (t : ℕ) → put-decimal-lts.Need-add-result (
   put-decimal.Post,
 ) (put-decimal-at t) put-decimal.Post
 put-decimal-add-result t c =
+    let put-decimal-step = c .before .before .before .before .before .before .before .put-decimal in
+    let if1 = c .before .before .before .before .before .before .before .before .before .if1 in
     let start = c .before .before .before .before .before .before .before .before .before .before .before in
-    omega (arith, high-room (start .args .n) (start .args .out .now) (start .pre .1) (c .before .before .before .before .before .before .before .before .before .if1 .left), c .before .before .before .before .before .before .before .put-decimal .ensures .many, start .good)
+    omega (arith, high-room (start .args .n) (start .args .out .now) (start .pre .1) (if1 .left), put-decimal-step .ensures .many, start .good)
 
 put-decimal-same-length-2 : (t : ℕ) → put-decimal-lts.Need-same-length-2 (
   digit-reads.Asked,
@@ -167,8 +177,12 @@ put-decimal-returns-2 : (t : ℕ) → put-decimal-lts.Need-returns-2 (
   put-decimal.Post,
 ) (put-decimal-at t) put-decimal.Post
 put-decimal-returns-2 t c =
+    let put-one2 = c .before .before .put-one2 in
+    let digit2 = c .before .before .before .digit2 in
+    let put-decimal-step = c .before .before .before .before .before .before .before .put-decimal in
+    let if1 = c .before .before .before .before .before .before .before .before .before .if1 in
     let start = c .before .before .before .before .before .before .before .before .before .before .before in
-    high-told (start .args .n) (start .args .out .now) (start .pre .1) (c .before .before .before .before .before .before .before .before .before .if1 .left) _ (c .before .before .before .before .before .before .before .put-decimal .ensures) (c .before .before .before .digit2 .ensures) (c .before .before .put-one2 .ensures)
+    high-told (start .args .n) (start .args .out .now) (start .pre .1) (if1 .left) _ (put-decimal-step .ensures) (digit2 .ensures) (put-one2 .ensures)
 
 pub +put-decimal-spec : {M : Type 1} → statement M
 +put-decimal-spec = close μ-put-decimal λ t. put-decimal-lts.spec (

@@ -28,7 +28,13 @@ same-length : tie.Need-same-length
 same-length c = search needs
 
 returns : tie.Need-returns
-returns c = byte-told (c .before .before .before .before .before .before .before .before .before .before .before .args .x) _ _ (c .before .before .before .before .before .before .before .before .before .before .before .pre) (c .before .before .before .before .before .before .before .before .digit .ensures) (c .before .before .before .before .before .before .before .put-one .ensures) (c .before .before .before .digit2 .ensures) (c .before .before .put-one2 .ensures)
+returns c =
+    let put-one2 = c .before .before .put-one2 in
+    let digit2 = c .before .before .before .digit2 in
+    let put-one = c .before .before .before .before .before .before .before .put-one in
+    let digit = c .before .before .before .before .before .before .before .before .digit in
+    let start = c .before .before .before .before .before .before .before .before .before .before .before in
+    byte-told (start .args .x) _ _ (start .pre) (digit .ensures) (put-one .ensures) (digit2 .ensures) (put-one2 .ensures)
 
 pub put-byte-spec : {M : Type 1} → statement M
 put-byte-spec =

@@ -1,4 +1,4 @@
-use Rattle.jobs.specs.Laws.Writing.{Writing, writing-start, writing-room, writing-length, writing-again, writing-end}
+use Rattle.writing.specs.Laws.Writing.{Writing, writing-start, writing-at, writing-length, writing-more, writing-end}
 use Rattle.jobs.specs.Laws.Text.{length-hex, hex-first, hex-none}
 use Rattle.forms.specs.Laws.Parts.{length-rest}
 use Rattle.cedar.specs.Lines.{hex}
@@ -9,28 +9,36 @@ use Rattle.jobs.proofs.text.put_hex.Statement.{statement}
 use Rattle.jobs.proofs.text.put_hex.Tie as tie
 
 abbrev Inv-loop : tie.InvT-loop
-Inv-loop b out₀ ahead₀ at₀ out ahead at = Writing hex b out₀ ahead out at
+Inv-loop b out₀ ahead₀ at₀ out ahead at = Writing (hex b) (hex ahead) out₀ at out
 
 abbrev μ-loop : tie.MeasureT-loop
 μ-loop b out₀ ahead₀ at₀ out ahead at = length ahead
 
 loop-holds : tie.Need-loop-holds Inv-loop μ-loop
-loop-holds c = writing-start (c .before .before .pre)
+loop-holds c =
+    let pre = c .before .before .pre in
+    writing-start _ _ pre
 
 shared-slice-read-put-byte : tie.Need-shared-slice-read-put-byte Inv-loop μ-loop
 shared-slice-read-put-byte c = search needs
 
 sub-put-byte : tie.Need-sub-put-byte Inv-loop μ-loop
-sub-put-byte c = omega (arith, writing-room (c .before .before .loop .inv))
+sub-put-byte c =
+    let loop = c .before .before .loop in
+    omega (arith, writing-at (loop .inv))
 
 part-put-byte-start : tie.Need-part-put-byte-start Inv-loop μ-loop
-part-put-byte-start c = omega (arith, writing-room (c .before .before .loop .inv))
+part-put-byte-start c =
+    let loop = c .before .before .loop in
+    omega (arith, writing-at (loop .inv))
 
 part-put-byte-end : tie.Need-part-put-byte-end Inv-loop μ-loop
 part-put-byte-end c = search needs
 
 put-byte-requires : tie.Need-put-byte-requires Inv-loop μ-loop
-put-byte-requires c κs = omega (arith, writing-room (c .before .before .before .loop .inv), length-hex (c .before .before .before .loop .ahead .now), length-rest (c .before .before .before .loop .at) (c .before .before .before .loop .out))
+put-byte-requires c κs =
+    let loop = c .before .before .before .loop in
+    omega (arith, writing-at (loop .inv), length-hex (loop .ahead .now), length-rest (loop .at) (loop .out))
 
 sub-ahead : tie.Need-sub-ahead Inv-loop μ-loop
 sub-ahead c = search needs
@@ -42,13 +50,21 @@ part-ahead-end : tie.Need-part-ahead-end Inv-loop μ-loop
 part-ahead-end c = search needs
 
 add-at : tie.Need-add-at Inv-loop μ-loop
-add-at c = omega (arith, writing-room (c .before .before .before .before .before .before .before .loop .inv), length-hex (c .before .before .before .before .before .before .before .loop .ahead .now), writing-length (c .before .before .before .before .before .before .before .loop .inv), c .before .before .before .before .before .before .loop-test .taken, c .before .before .before .before .before .before .before .before .before .before .good)
+add-at c =
+    let loop-test = c .before .before .before .before .before .before .loop-test in
+    let loop = c .before .before .before .before .before .before .before .loop in
+    let good = c .before .before .before .before .before .before .before .before .before .before .good in
+    omega (arith, writing-at (loop .inv), length-hex (loop .ahead .now), writing-length (loop .inv), loop-test .taken, good)
 
 loop-less : tie.Need-loop-less Inv-loop μ-loop
 loop-less c = search needs
 
 loop-again : tie.Need-loop-again Inv-loop μ-loop
-loop-again c = writing-again (c .before .before .before .before .before .before .before .loop .inv) _ _ (hex-first (c .before .before .before .before .before .before .before .loop .ahead .now) (c .before .before .before .before .before .before .loop-test .taken)) (c .before .before .before .put-byte .ensures)
+loop-again c =
+    let put-byte = c .before .before .before .put-byte in
+    let loop-test = c .before .before .before .before .before .before .loop-test in
+    let loop = c .before .before .before .before .before .before .before .loop in
+    writing-more (loop .inv) _ _ _ _ (hex-first (loop .ahead .now) (loop-test .taken)) (put-byte .ensures)
 
 same-length : tie.Need-same-length Inv-loop μ-loop
 same-length c = writing-length (c .before .loop .inv)

@@ -16,7 +16,11 @@ entry-fits-requires : tie.Need-entry-fits-requires Inv-loop μ-loop
 entry-fits-requires c κs = search needs
 
 returns : tie.Need-returns Inv-loop μ-loop
-returns c = entries-unfit (c .before .before .before .loop .inv) (c .before .before .loop-test .taken) (c .before .entry-fits .result) (c .before .entry-fits .ensures) (c .if1 .taken)
+returns c =
+    let entry-fits = c .before .entry-fits in
+    let loop-test = c .before .before .loop-test in
+    let loop = c .before .before .before .loop in
+    entries-unfit (loop .inv) (loop-test .taken) (entry-fits .result) (entry-fits .ensures) (c .if1 .taken)
 
 add-u16-at : tie.Need-add-u16-at Inv-loop μ-loop
 add-u16-at c = search needs
@@ -34,7 +38,15 @@ add-lengths : tie.Need-add-lengths Inv-loop μ-loop
 add-lengths c = search needs
 
 returns-2 : tie.Need-returns-2 Inv-loop μ-loop
-returns-2 c = entries-short (c .before .before .before .before .before .before .loop .inv) (c .before .before .before .before .before .loop-test .taken) (c .before .before .before .before .entry-fits .result) (c .before .before .before .before .entry-fits .ensures) (c .before .before .before .if1 .left) (c .before .before .u16-at .result) (c .before .u16-at2 .result) (c .before .before .u16-at .ensures .0) (c .before .u16-at2 .ensures .0) (c .if2 .taken)
+returns-2 c =
+    let u16-at2 = c .before .u16-at2 in
+    let u16-at = c .before .before .u16-at in
+    let if1 = c .before .before .before .if1 in
+    let entry-fits = c .before .before .before .before .entry-fits in
+    let loop-test = c .before .before .before .before .before .loop-test in
+    let loop = c .before .before .before .before .before .before .loop in
+    entries-short (loop .inv) (loop-test .taken) (entry-fits .result) (entry-fits .ensures) (if1 .left) (u16-at .result) (u16-at2 .result) (u16-at .ensures .0)
+    (u16-at2 .ensures .0) (c .if2 .taken)
 
 add-at : tie.Need-add-at Inv-loop μ-loop
 add-at c = search needs
@@ -46,7 +58,15 @@ loop-less : tie.Need-loop-less Inv-loop μ-loop
 loop-less c = search needs
 
 loop-again : tie.Need-loop-again Inv-loop μ-loop
-loop-again c = entries-again (c .before .before .before .before .before .before .loop .inv) (c .before .before .before .before .before .loop-test .taken) (c .before .before .before .before .entry-fits .result) (c .before .before .before .before .entry-fits .ensures) (c .before .before .before .if1 .left) (c .before .before .u16-at .result) (c .before .u16-at2 .result) (c .before .before .u16-at .ensures .0) (c .before .u16-at2 .ensures .0) (c .if2 .left)
+loop-again c =
+    let u16-at2 = c .before .u16-at2 in
+    let u16-at = c .before .before .u16-at in
+    let if1 = c .before .before .before .if1 in
+    let entry-fits = c .before .before .before .before .entry-fits in
+    let loop-test = c .before .before .before .before .before .loop-test in
+    let loop = c .before .before .before .before .before .before .loop in
+    entries-again (loop .inv) (loop-test .taken) (entry-fits .result) (entry-fits .ensures) (if1 .left) (u16-at .result) (u16-at2 .result) (u16-at .ensures .0)
+    (u16-at2 .ensures .0) (c .if2 .left)
 
 returns-3 : tie.Need-returns-3 Inv-loop μ-loop
 returns-3 c = entries-end (c .before .loop .inv) (c .loop-test .left)

@@ -32,8 +32,13 @@ taken-or-zero-requires c κs = search needs
 
 returns-2 : tie.Need-returns-2
 returns-2 c =
+    let taken-or-zero = c .before .taken-or-zero in
+    let wide = c .before .before .wide in
+    let takes-mode = c .before .before .before .before .takes-mode in
+    let if1 = c .before .before .before .before .before .if1 in
     let start = c .before .before .before .before .before .before .before .before in
-    entry-mode (start .args .job .now) (start .args .at) (c .before .before .before .before .before .if1 .left) (c .before .taken-or-zero .result) (c .before .taken-or-zero .ensures ∙ ap₂ (λ (t : Bool) (n : ℕ). takenOrZero t n) (c .before .before .before .before .takes-mode .ensures) (c .before .before .wide .ensures .0)) (c .if2 .taken)
+    let ap₂-ensures = ap₂ (λ (t : Bool) (n : ℕ). takenOrZero t n) (takes-mode .ensures) (wide .ensures .0) in
+    entry-mode (start .args .job .now) (start .args .at) (if1 .left) (taken-or-zero .result) (taken-or-zero .ensures ∙ ap₂-ensures) (c .if2 .taken)
 
 takes-attribute-requires : tie.Need-takes-attribute-requires
 takes-attribute-requires c κs = search needs
@@ -49,8 +54,19 @@ taken-or-zero-requires-2 c κs = search needs
 
 returns-3 : tie.Need-returns-3
 returns-3 c =
+    let taken-or-zero2 = c .before .taken-or-zero2 in
+    let u16-at = c .before .before .u16-at in
+    let takes-attribute = c .before .before .before .takes-attribute in
+    let if2 = c .before .before .before .before .if2 in
+    let taken-or-zero = c .before .before .before .before .before .taken-or-zero in
+    let wide = c .before .before .before .before .before .before .wide in
+    let takes-mode = c .before .before .before .before .before .before .before .before .takes-mode in
+    let if1 = c .before .before .before .before .before .before .before .before .before .if1 in
     let start = c .before .before .before .before .before .before .before .before .before .before .before .before in
-    entry-attribute (start .args .job .now) (start .args .at) (c .before .before .before .before .before .before .before .before .before .if1 .left) (c .before .before .before .before .before .taken-or-zero .result) (c .before .before .before .before .before .taken-or-zero .ensures ∙ ap₂ (λ (t : Bool) (n : ℕ). takenOrZero t n) (c .before .before .before .before .before .before .before .before .takes-mode .ensures) (c .before .before .before .before .before .before .wide .ensures .0)) (c .before .before .before .before .if2 .left) (c .before .taken-or-zero2 .result) (c .before .taken-or-zero2 .ensures ∙ ap₂ (λ (t : Bool) (n : ℕ). takenOrZero t n) (c .before .before .before .takes-attribute .ensures) (c .before .before .u16-at .ensures .0)) (c .if3 .taken)
+    let ap₂-ensures = ap₂ (λ (t : Bool) (n : ℕ). takenOrZero t n) (takes-mode .ensures) (wide .ensures .0) in
+    let ap₂-ensures-2 = ap₂ (λ (t : Bool) (n : ℕ). takenOrZero t n) (takes-attribute .ensures) (u16-at .ensures .0) in
+    entry-attribute (start .args .job .now) (start .args .at) (if1 .left) (taken-or-zero .result) (taken-or-zero .ensures ∙ ap₂-ensures) (if2 .left)
+    (taken-or-zero2 .result) (taken-or-zero2 .ensures ∙ ap₂-ensures-2) (c .if3 .taken)
 
 takes-second-requires : tie.Need-takes-second-requires
 takes-second-requires c κs = search needs
@@ -66,9 +82,23 @@ taken-or-zero-requires-3 c κs = search needs
 
 returns-4 : tie.Need-returns-4
 returns-4 c =
-    let start = c .before .before .before .before .before .before .before .before .before .before .before .before .before .before .before in
-    entry-second (start .args .job .now) (start .args .at) (c .before .before .before .before .before .before .before .before .before .before .before .before .if1 .left) (c .before .before .before .before .before .before .before .before .taken-or-zero .result) (c .before .before .before .before .before .before .before .before .taken-or-zero .ensures ∙ ap₂ (λ (t : Bool) (n : ℕ). takenOrZero t n) (c .before .before .before .before .before .before .before .before .before .before .before .takes-mode .ensures) (c .before .before .before .before .before .before .before .before .before .wide .ensures .0)) (c .before .before .before .before .before .before .before .if2 .left) (c .before .before .before .before .taken-or-zero2 .result) (c .before .before .before .before .taken-or-zero2 .ensures ∙ ap₂ (λ (t : Bool) (n : ℕ). takenOrZero t n) (c .before .before .before .before .before .before .takes-attribute .ensures) (c .before .before .before .before .before .u16-at .ensures .0)) (c .before .before .before .if3 .left) (c .taken-or-zero3 .result)
-    (c .taken-or-zero3 .ensures ∙ ap₂ (λ (t : Bool) (n : ℕ). takenOrZero t n) (c .before .before .takes-second .ensures) (c .before .u16-at2 .ensures .0))
+    let takes-second = c .before .before .takes-second in
+    let if3 = c .before .before .before .if3 in
+    let taken-or-zero2 = c .before .before .before .before .taken-or-zero2 in
+    let u16-at = c .before .before .before .before .before .u16-at in
+    let takes-attribute = c .before .before .before .before .before .before .takes-attribute in
+    let if2 = c .before .before .before .before .before .before .before .if2 in
+    let taken-or-zero = c .before .before .before .before .before .before .before .before .taken-or-zero in
+    let after-wide = c .before .before .before .before .before .before .before .before .before in
+    let wide = after-wide .wide in
+    let takes-mode = after-wide .before .before .takes-mode in
+    let if1 = after-wide .before .before .before .if1 in
+    let start = after-wide .before .before .before .before .before .before in
+    let ap₂-ensures = ap₂ (λ (t : Bool) (n : ℕ). takenOrZero t n) (takes-mode .ensures) (wide .ensures .0) in
+    let ap₂-ensures-2 = ap₂ (λ (t : Bool) (n : ℕ). takenOrZero t n) (takes-attribute .ensures) (u16-at .ensures .0) in
+    let ap₂-ensures-3 = ap₂ (λ (t : Bool) (n : ℕ). takenOrZero t n) (takes-second .ensures) (c .before .u16-at2 .ensures .0) in
+    entry-second (start .args .job .now) (start .args .at) (if1 .left) (taken-or-zero .result) (taken-or-zero .ensures ∙ ap₂-ensures) (if2 .left)
+    (taken-or-zero2 .result) (taken-or-zero2 .ensures ∙ ap₂-ensures-2) (if3 .left) (c .taken-or-zero3 .result) (c .taken-or-zero3 .ensures ∙ ap₂-ensures-3)
 
 pub entry-fits-spec : {M : Type 1} → statement M
 entry-fits-spec =

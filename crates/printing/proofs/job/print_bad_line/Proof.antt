@@ -1,4 +1,4 @@
-use Rattle.jobs.specs.Laws.Writing.{told-inside}
+use Rattle.writing.specs.Laws.Writing.{written-inside}
 use native.Mathlib.Omega.{arith}
 use borrow.Author.Needs.{needs}
 use Rattle.printing.proofs.job.print_bad_line.Statement.{statement}
@@ -8,7 +8,7 @@ put-bad-line-requires : tie.Need-put-bad-line-requires
 put-bad-line-requires c κs = search needs
 
 array-share-prefix-line : tie.Need-array-share-prefix-line
-array-share-prefix-line c = told-inside (c .put-bad-line .ensures)
+array-share-prefix-line c = written-inside (c .put-bad-line .ensures)
 
 slice-aggregate-write-output : tie.Need-slice-aggregate-write-output
 slice-aggregate-write-output c = search needs

@@ -1,6 +1,6 @@
 use lib.Seq.{length-take-le}
 use mathlib.Core.Path.{sym}
-use Rattle.jobs.specs.Laws.Asking.{step-inside}
+use Rattle.jobs.specs.Laws.Asking.{line-inside}
 use Prim.Native.Nat.{_≤_}
 use native.Mathlib.Omega.{arith}
 use borrow.Author.Needs.{needs}
@@ -8,10 +8,13 @@ use Rattle.printing.proofs.job.print_lines.Statement.{statement}
 use Rattle.printing.proofs.job.print_lines.Tie as tie
 
 abbrev Inv-loop : tie.InvT-loop
-Inv-loop job line₀ cursor₀ left₀ line cursor left = 0 ≤ left
+Inv-loop job line₀ check cursor₀ left₀ line cursor left = 0 ≤ left
 
 abbrev μ-loop : tie.MeasureT-loop
-μ-loop job line₀ cursor₀ left₀ line cursor left = left
+μ-loop job line₀ check cursor₀ left₀ line cursor left = left
+
+check-job-requires : tie.Need-check-job-requires Inv-loop μ-loop
+check-job-requires c κs = search needs
 
 start-requires : tie.Need-start-requires Inv-loop μ-loop
 start-requires c κs = search needs
@@ -23,7 +26,7 @@ loop-holds : tie.Need-loop-holds Inv-loop μ-loop
 loop-holds c = search needs
 
 next-line-requires : tie.Need-next-line-requires Inv-loop μ-loop
-next-line-requires c κs = search needs
+next-line-requires c κs = c .before .before .before .before .before .check-job .ensures
 
 enum-known-n : tie.Need-enum-known-n Inv-loop μ-loop
 enum-known-n c = search needs
@@ -35,10 +38,12 @@ returns : tie.Need-returns Inv-loop μ-loop
 returns c = search needs
 
 array-share-prefix-line : tie.Need-array-share-prefix-line Inv-loop μ-loop
-array-share-prefix-line c = step-inside ((c .before .before .before) .next-line .ensures) _ _ ((c .before) .n .given .1)
+array-share-prefix-line c = line-inside (c .before .before .before .next-line .ensures) _ _ (c .before .n .given .1)
 
 slice-aggregate-write-output : tie.Need-slice-aggregate-write-output Inv-loop μ-loop
-slice-aggregate-write-output c = sym (length-take-le _ ((c .before .before .before .before) .next-line .last .1 .1 .0) (step-inside ((c .before .before .before .before) .next-line .ensures) _ _ ((c .before .before) .n .given .1)))
+slice-aggregate-write-output c =
+    let written = c .before .before .before .before .next-line in
+    sym (length-take-le _ (written .last .1 .1 .1 .0) (line-inside (written .ensures) _ _ (c .before .before .n .given .1)))
 
 write-output-requires : tie.Need-write-output-requires Inv-loop μ-loop
 write-output-requires c κs = search needs
@@ -64,6 +69,7 @@ print-lines-spec =
     (tie.spec
     Inv-loop
     μ-loop
+    check-job-requires
     start-requires
     count-requires
     loop-holds

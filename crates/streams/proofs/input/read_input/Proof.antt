@@ -18,7 +18,9 @@ loop-holds : tie.Need-loop-holds Inv-loop μ-loop
 loop-holds c = search needs
 
 same-length : tie.Need-same-length Inv-loop μ-loop
-same-length c = (c .before .before) .loop .inv .1
+same-length c =
+    let loop = c .before .before .loop in
+    loop .inv .1
 
 returns : tie.Need-returns Inv-loop μ-loop
 returns c = search needs
@@ -42,28 +44,48 @@ enum-known-n : tie.Need-enum-known-n Inv-loop μ-loop
 enum-known-n c = search needs
 
 add-at : tie.Need-add-at Inv-loop μ-loop
-add-at c = let w = rw ((c .before) .n .given .1) at ((c .before .before .before .before .before) .read-some .ensures) in omega (arith, w, length-rest ((c .before .before .before .before .before .before .before .before .before) .loop .at) ((c .before .before .before .before .before .before .before .before .before) .loop .buf), (c .before .before .before .before .before .before .before .before .before .before .before) .good)
+add-at c =
+    let read-some = c .before .before .before .before .before .read-some in
+    let loop = c .before .before .before .before .before .before .before .before .before .loop in
+    let good = c .before .before .before .before .before .before .before .before .before .before .before .good in
+    let w = rw (c .before .n .given .1) at (read-some .ensures) in
+    omega (arith, w, length-rest (loop .at) (loop .buf), good)
 
 loop-less : tie.Need-loop-less Inv-loop μ-loop
 loop-less c = search needs
 
 loop-again : tie.Need-loop-again Inv-loop μ-loop
-loop-again c = let w = rw ((c .before) .n .given .1) at ((c .before .before .before .before .before) .read-some .ensures) in (omega (arith, w, back-length ((c .before .before .before .before .before .before .before .before .before) .loop .at) ((c .before .before .before .before .before .before .before .before .before) .loop .buf) ((c .before .before .before .before .before) .read-some .last .0) ((c .before .before .before .before .before .before .before .before .before) .loop .inv .0) ((c .before .before .before .before .before) .read-some .kept .0), length-rest ((c .before .before .before .before .before .before .before .before .before) .loop .at) ((c .before .before .before .before .before .before .before .before .before) .loop .buf), (c .before .before .before .before .before .before .before .before .before .before .before) .good), back-length ((c .before .before .before .before .before .before .before .before .before) .loop .at) ((c .before .before .before .before .before .before .before .before .before) .loop .buf) ((c .before .before .before .before .before) .read-some .last .0) ((c .before .before .before .before .before .before .before .before .before) .loop .inv .0) ((c .before .before .before .before .before) .read-some .kept .0) ∙ (c .before .before .before .before .before .before .before .before .before) .loop .inv .1)
+loop-again c =
+    let read-some = c .before .before .before .before .before .read-some in
+    let loop = c .before .before .before .before .before .before .before .before .before .loop in
+    let good = c .before .before .before .before .before .before .before .before .before .before .before .good in
+    let w = rw (c .before .n .given .1) at (read-some .ensures) in
+    let back-length-at = back-length (loop .at) (loop .buf) (read-some .last .0) (loop .inv .0) (read-some .kept .0) in
+    (omega (arith, w, back-length-at, length-rest (loop .at) (loop .buf), good), back-length-at ∙ loop .inv .1)
 
 enum-told : tie.Need-enum-told Inv-loop μ-loop
 enum-told c = search needs
 
 same-length-2 : tie.Need-same-length-2 Inv-loop μ-loop
-same-length-2 c = back-length ((c .before .before .before .before .before .before .before .before) .loop .at) ((c .before .before .before .before .before .before .before .before) .loop .buf) ((c .before .before .before .before) .read-some .last .0) ((c .before .before .before .before .before .before .before .before) .loop .inv .0) ((c .before .before .before .before) .read-some .kept .0) ∙ (c .before .before .before .before .before .before .before .before) .loop .inv .1
+same-length-2 c =
+    let read-some = c .before .before .before .before .read-some in
+    let loop = c .before .before .before .before .before .before .before .before .loop in
+    back-length (loop .at) (loop .buf) (read-some .last .0) (loop .inv .0) (read-some .kept .0) ∙ loop .inv .1
 
 returns-2 : tie.Need-returns-2 Inv-loop μ-loop
-returns-2 c = omega (arith, back-length ((c .before .before .before .before .before .before .before .before) .loop .at) ((c .before .before .before .before .before .before .before .before) .loop .buf) ((c .before .before .before .before) .read-some .last .0) ((c .before .before .before .before .before .before .before .before) .loop .inv .0) ((c .before .before .before .before) .read-some .kept .0), (c .before .before .before .before .before .before .before .before) .loop .inv .0)
+returns-2 c =
+    let read-some = c .before .before .before .before .read-some in
+    let loop = c .before .before .before .before .before .before .before .before .loop in
+    omega (arith, back-length (loop .at) (loop .buf) (read-some .last .0) (loop .inv .0) (read-some .kept .0), loop .inv .0)
 
 enum-told-2 : tie.Need-enum-told-2 Inv-loop μ-loop
 enum-told-2 c = search needs
 
 same-length-3 : tie.Need-same-length-3 Inv-loop μ-loop
-same-length-3 c = back-length ((c .before .before .before .before .before .before .before .before) .loop .at) ((c .before .before .before .before .before .before .before .before) .loop .buf) ((c .before .before .before .before) .read-some .last .0) ((c .before .before .before .before .before .before .before .before) .loop .inv .0) ((c .before .before .before .before) .read-some .kept .0) ∙ (c .before .before .before .before .before .before .before .before) .loop .inv .1
+same-length-3 c =
+    let read-some = c .before .before .before .before .read-some in
+    let loop = c .before .before .before .before .before .before .before .before .loop in
+    back-length (loop .at) (loop .buf) (read-some .last .0) (loop .inv .0) (read-some .kept .0) ∙ loop .inv .1
 
 returns-3 : tie.Need-returns-3 Inv-loop μ-loop
 returns-3 c = search needs

@@ -38,10 +38,13 @@ returns-2 : tie.Need-returns-2 Inv-loop μ-loop
 returns-2 c = search needs
 
 sub-left : tie.Need-sub-left Inv-loop μ-loop
-sub-left c = let w = rw ((c .before) .n .given .1) at ((c .before .before .before) .write-some .ensures) in omega (arith, w)
+sub-left c =
+    let write-some = c .before .before .before .write-some in
+    let w = rw (c .before .n .given .1) at (write-some .ensures) in
+    omega (arith, w)
 
 part-left-start : tie.Need-part-left-start Inv-loop μ-loop
-part-left-start c = let w = rw ((c .before) .n .given .1) at ((c .before .before .before) .write-some .ensures) in omega (arith, w)
+part-left-start c = sub-left c
 
 part-left-end : tie.Need-part-left-end Inv-loop μ-loop
 part-left-end c = search needs
