@@ -1,8 +1,13 @@
 #!/usr/bin/env python3
-"""Writes the batch (stdin) and the expected lines (stdout) of each program crate that has a text here.
+"""Writes what the test programs batches and rooms read (stdin) and must print (stdout).
 
-    tests/batches.py            write crates/NAME/stdin and crates/NAME/stdout for each tests/NAME.txt
-    tests/batches.py --check    say whether they are as the texts have them
+    tests/batches.py                          write them as the texts here have them
+    tests/batches.py --check                  say whether they are so
+    tests/batches.py --recorded JOBS LINES    write them with another recorded sample
+
+crates/batches has the sample that oracle/record.sh recorded and then the jobs of settled.txt, answers.txt and edges.txt; its
+parts.txt has the parts in turn, each with its jobs and its questions. The sample stands nowhere else, and is kept. crates/rooms
+has the calls of rooms.txt.
 
 A text, line by line; '#' starts a comment.
 
@@ -24,6 +29,8 @@ import sys
 from pathlib import Path
 
 HERE = Path(__file__).resolve().parent
+CRATES = HERE.parent / "crates"
+TEXTS = ["settled", "answers", "edges"]
 OPERATIONS = ["subtype", "bound", "disjoint", "lookup", "may-have", "names", "consistent", "convert", "conforms", "fold",
               "literal", "own"]
 TOKEN = re.compile(r"\s*(?:%(?P<first>\d+)(?:\.\.(?P<last>\d+)(?P<each>\()?)?|(?P<times>\d+)\*\(|(?P<wraps>\d+)?@(?P<length>\()"
@@ -129,23 +136,53 @@ def read(path):
     return entries
 
 
-def files(path):
-    rooms = path.stem == "rooms"
+def batch(path):
+    """A text's batch and its lines."""
     entries = read(path)
-    put, end = (calls, "") if rooms else (job, ".\n")
-    return {"stdin": b"".join(put(e) for e in entries), "stdout": "".join(e["lines"] + end for e in entries).encode()}
+    return b"".join(job(e) for e in entries), "".join(e["lines"] + ".\n" for e in entries).encode()
+
+
+def counted(lines):
+    """How many jobs some lines are of, and how many questions."""
+    lines = lines.splitlines()
+    return lines.count(b"."), sum(line[:1].isdigit() for line in lines)
+
+
+def recorded():
+    """The recorded sample, as it stands before the texts' jobs."""
+    jobs, lines = (CRATES / "batches/stdin").read_bytes(), (CRATES / "batches/stdout").read_bytes().splitlines(True)
+    at = below = 0
+    for _ in range(int((CRATES / "batches/parts.txt").read_text().split()[1])):
+        at += 4 + int.from_bytes(jobs[at:at + 4], "little")
+        below = lines.index(b".\n", below) + 1
+    return jobs[:at], b"".join(lines[:below])
+
+
+def files(sample):
+    """What each file has."""
+    parts = {"recorded": sample, **{name: batch(HERE / f"{name}.txt") for name in TEXTS}}
+    entries = read(HERE / "rooms.txt")
+    return {
+        "batches/stdin": b"".join(jobs for jobs, _ in parts.values()),
+        "batches/stdout": b"".join(lines for _, lines in parts.values()),
+        "batches/parts.txt": "".join("{} {} {}\n".format(name, *counted(lines)) for name, (_, lines) in parts.items()).encode(),
+        "rooms/stdin": b"".join(calls(e) for e in entries),
+        "rooms/stdout": "".join(e["lines"] for e in entries).encode(),
+    }
 
 
 def main():
-    check, bad = sys.argv[1:] == ["--check"], 0
-    for path in sorted(HERE.glob("*.txt")):
-        for name, content in files(path).items():
-            target = HERE.parent / "crates" / path.stem / name
-            if not check:
-                target.write_bytes(content)
-            elif not target.exists() or target.read_bytes() != content:
-                bad, _ = 1, print(f"{path.stem}/{name} is not as {path.name} has it")
-    sys.exit(bad)
+    if sys.argv[1:2] == ["--recorded"]:
+        sample = tuple(Path(name).read_bytes() for name in sys.argv[2:])
+    else:
+        sample = recorded()
+    changed = {name: content for name, content in files(sample).items() if (CRATES / name).read_bytes() != content}
+    if sys.argv[1:] == ["--check"]:
+        for name in changed:
+            print(f"crates/{name} is not as the texts have it")
+        sys.exit(bool(changed))
+    for name, content in changed.items():
+        (CRATES / name).write_bytes(content)
 
 
 if __name__ == "__main__":

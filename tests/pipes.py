@@ -12,13 +12,21 @@ import tempfile
 import time
 from pathlib import Path
 
+import batches
+
 ROOT = Path(__file__).resolve().parent.parent
 BIN = ROOT / "target" / "bin"
 F_SETPIPE_SZ = 1031
 
 
-def file(crate, name):
-    return (ROOT / "crates" / crate / name).read_bytes()
+def case(crate):
+    """What a test program is given, and what it must print."""
+    return tuple((ROOT / "crates" / crate / name).read_bytes() for name in ("stdin", "stdout"))
+
+
+def part(name):
+    """The same for the batch of one text."""
+    return batches.batch(ROOT / "tests" / f"{name}.txt")
 
 
 def without_waiting(end):
@@ -31,42 +39,46 @@ def full_pipe():
     out, into = os.pipe()
     fcntl.fcntl(into, F_SETPIPE_SZ, 4096)
     without_waiting(into)
-    with open(ROOT / "crates/edges/stdin", "rb") as batch:
-        program = subprocess.Popen([BIN / "replay"], stdin=batch, stdout=into)
+    given, expected = part("edges")
+    with tempfile.TemporaryFile() as batch:
+        batch.write(given)
+        batch.seek(0)
+        program = subprocess.Popen([BIN / "batches"], stdin=batch, stdout=into)
     os.close(into)
     time.sleep(0.2)
     waits, got = program.poll() is None, b""
     while piece := os.read(out, 199):
         got += piece
     program.wait()
-    return waits and got == file("edges", "stdout")
+    return waits and got == expected
 
 
 def slow_pipe():
     """Standard input is a pipe that is empty most of the time, and a read from it does not wait."""
     out, into = os.pipe()
     without_waiting(out)
-    program = subprocess.Popen([BIN / "replay"], stdin=out, stdout=subprocess.PIPE)
-    batch = file("settled", "stdin")
+    program = subprocess.Popen([BIN / "batches"], stdin=out, stdout=subprocess.PIPE)
+    batch, expected = part("settled")
     for at in range(0, len(batch), 97):
         os.write(into, batch[at:at + 97])
         time.sleep(0.001)
     os.close(into)
-    return program.communicate()[0] == file("settled", "stdout")
+    return program.communicate()[0] == expected
 
 
 def cut_tests():
     """Each read or each write is short, interrupted or told to wait: what is printed is the same."""
     tests = {}
+    cases = {"tirncheav": case("tirncheav"), "batches": part("settled"), "rooms": case("rooms")}
     with tempfile.TemporaryDirectory() as folder:
         shim = Path(folder) / "cut.so"
         subprocess.run(["cc", "-Wall", "-Wextra", "-Werror", "-shared", "-fPIC", ROOT / "tests/cut.c", "-o", shim], check=True)
-        for program, crate in (("tirncheav", "tirncheav"), ("replay", "settled"), ("rooms", "rooms")):
+        for program, (given, expected) in cases.items():
             for call in ("read", "write"):
                 for cut in ("short", "interrupted", "not yet"):
                     env = {**os.environ, "LD_PRELOAD": str(shim), f"CUT_{call.upper()}": cut}
-                    got = subprocess.run([BIN / program], input=file(crate, "stdin"), env=env, capture_output=True)
-                    tests[f"{program}: each {call} {cut}"] = (got.stdout, got.stderr) == (file(crate, "stdout"), b"")
+                    got = subprocess.run([BIN / program], input=given, env=env, capture_output=True)
+                    tests[f"{program}: each {call} {cut}"] = (got.stdout, got.stderr) == (expected, b"")
     return tests
 
 
@@ -83,7 +95,7 @@ def said(program, given, output=subprocess.PIPE):
 
 
 def main():
-    batch, calls, job = file("settled", "stdin"), file("rooms", "stdin"), file("tirncheav", "stdin")
+    batch, calls, job = part("settled")[0], case("rooms")[0], case("tirncheav")[0]
     whole = int.from_bytes(batch[:4], "little") + 4
     first = b"0 0 08010000\n1 15 -\n.\n"
     with open("/dev/full", "wb") as nowhere:
@@ -92,11 +104,11 @@ def main():
     tests = {
         "a full pipe": full_pipe(),
         "a slow pipe": slow_pipe(),
-        "no batch": said("replay", b"") == (b"", ""),
-        "one job": said("replay", batch[:whole]) == (first, ""),
-        "a length that is cut short": said("replay", batch[:whole + 2]) == (first, "standard input: a length is cut short\n"),
-        "a job that is cut short": said("replay", batch[:whole + 9]) == (first, "standard input: a job is cut short\n"),
-        "a job that is too long": said("replay", b"\1\0\1\0") == (b"", "standard input: a job is too long\n"),
+        "no batch": said("batches", b"") == (b"", ""),
+        "one job": said("batches", batch[:whole]) == (first, ""),
+        "a length that is cut short": said("batches", batch[:whole + 2]) == (first, "standard input: a length is cut short\n"),
+        "a job that is cut short": said("batches", batch[:whole + 9]) == (first, "standard input: a job is cut short\n"),
+        "a job that is too long": said("batches", b"\1\0\1\0") == (b"", "standard input: a job is too long\n"),
         "a call that is cut short": said("rooms", calls[:30]) == (b"", "standard input: a call is cut short\n"),
         "a job with a byte over": said("tirncheav", job + b"\0") == (b"- 16 -\n", ""),
         "a job of 32,768 bytes": said("tirncheav", longest_job()) == (b"0 3 -\n", ""),

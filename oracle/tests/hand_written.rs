@@ -1,4 +1,4 @@
-//! The batches of the repository's programs: the published functions give the
+//! What the repository's test programs read: the published functions give the
 //! lines that are written there, and the model's faults are seen by them.
 
 use oracle::jobs::{batch, lines};
@@ -11,24 +11,48 @@ fn file(path: &str) -> Vec<u8> {
     std::fs::read(&path).unwrap_or_else(|e| panic!("{path}: {e}"))
 }
 
-/// The lines of a crate's batch.
-fn batch_lines(name: &str, lines: &dyn Fn(&[u8]) -> Vec<u8>) -> Vec<u8> {
-    let input = file(&format!("{name}/stdin"));
-    let jobs = batch(&input).expect("a batch");
-    jobs.into_iter()
-        .flat_map(|job| [lines(job), b".\n".to_vec()].concat())
+/// A part of the batch: its jobs, and the lines that stand there for them.
+struct Part {
+    name: String,
+    jobs: Vec<Vec<u8>>,
+    lines: Vec<u8>,
+}
+
+/// The parts in turn, as many jobs each as parts.txt says.
+fn parts() -> Vec<Part> {
+    let (input, output) = (file("batches/stdin"), file("batches/stdout"));
+    let mut jobs = batch(&input).expect("a batch").into_iter();
+    let mut written = output.split_inclusive(|byte| *byte == b'\n');
+    let counts = String::from_utf8(file("batches/parts.txt")).expect("text");
+    let mut part = |line: &str| {
+        let mut words = line.split(' ');
+        let name = words.next().expect("a name").to_string();
+        let count: usize = words.next().and_then(|n| n.parse().ok()).expect("jobs");
+        let jobs = (0..count).map(|_| jobs.next().expect("a job").to_vec());
+        let jobs = jobs.collect();
+        let mut lines = Vec::new();
+        for _ in 0..count {
+            let end = written.by_ref().take_while(|line| *line != b".\n");
+            lines.extend(end.flatten().chain(b".\n"));
+        }
+        Part { name, jobs, lines }
+    };
+    let parts = counts.lines().map(&mut part).collect();
+    assert!(jobs.next().is_none() && written.next().is_none(), "more");
+    parts
+}
+
+/// A part's lines, as some rule gives them.
+fn given(part: &Part, lines: &dyn Fn(&[u8]) -> Vec<u8>) -> Vec<u8> {
+    let jobs = part.jobs.iter();
+    jobs.flat_map(|job| [lines(job), b".\n".to_vec()].concat())
         .collect()
 }
 
-const BATCHES: [&str; 4] = ["settled", "answers", "edges", "replay"];
-
 #[test]
 fn batches_have_the_published_lines() {
-    for name in BATCHES {
-        assert!(
-            batch_lines(name, &lines) == file(&format!("{name}/stdout")),
-            "{name}"
-        );
+    for part in parts() {
+        assert!(given(&part, &lines) == part.lines, "{}", part.name);
     }
 }
 
@@ -38,27 +62,31 @@ fn rooms_have_the_published_lines() {
     assert!(lines.as_bytes() == file("rooms/stdout"));
 }
 
-/// Does a crate's input tell the model with this fault from the rule?
-fn catches(name: &str, fault: u32) -> bool {
+/// Do the calls of `rooms` tell the model with this fault from the rule?
+fn rooms_catch(fault: u32) -> bool {
     let rules = Rules { fault };
-    let wanted = file(&format!("{name}/stdout"));
-    if name == "rooms" {
-        let part = |s: &[u8], t: &[u8], n: u16| model::part(rules, s, t, n);
-        let lines = rooms::lines(&file("rooms/stdin"), &|call| rules.answer(call), &part);
-        return lines.expect("calls").as_bytes() != wanted;
-    }
-    batch_lines(name, &|job| model::lines(rules, job)) != wanted
+    let part = |s: &[u8], t: &[u8], n: u16| model::part(rules, s, t, n);
+    let lines = rooms::lines(&file("rooms/stdin"), &|call| rules.answer(call), &part);
+    lines.expect("calls").as_bytes() != file("rooms/stdout")
 }
 
 #[test]
 fn each_fault_is_seen() {
-    let all = ["rooms"].into_iter().chain(BATCHES);
+    let caught = |catches: &dyn Fn(u32) -> bool| -> Vec<u32> {
+        let faults = FAULTS.iter().map(|(fault, _)| *fault);
+        faults.filter(|fault| catches(*fault)).collect()
+    };
+    let mut seen = vec![("rooms".to_string(), caught(&rooms_catch))];
+    for part in parts() {
+        let catches = |fault| given(&part, &|job| model::lines(Rules { fault }, job)) != part.lines;
+        let faults = caught(&catches);
+        seen.push((part.name, faults));
+    }
+    for (name, faults) in &seen {
+        println!("{name}: {} of {} faults", faults.len(), FAULTS.len());
+    }
     let unseen = FAULTS
         .iter()
-        .filter(|(fault, _)| !all.clone().any(|name| catches(name, *fault)));
+        .filter(|(fault, _)| !seen.iter().any(|(_, faults)| faults.contains(fault)));
     assert_eq!(unseen.collect::<Vec<_>>(), [] as [&(u32, &str); 0]);
-    for name in all {
-        let seen = FAULTS.iter().filter(|(fault, _)| catches(name, *fault));
-        println!("{name}: {} of {} faults", seen.count(), FAULTS.len());
-    }
 }

@@ -3,7 +3,7 @@
 //! `compare --model --exhaustive` does so on every small question.
 //! `compare --program PATH --seed N --jobs K` compares a program that reads
 //! one job on standard input.
-//! `compare --replay PATH --seed N --jobs K` compares a program that reads a
+//! `compare --batch PATH --seed N --jobs K` compares a program that reads a
 //! batch, with some thousand jobs to a run; with `--exhaustive` for seed and
 //! jobs, on every small question.
 //! `compare --rooms PATH --seed N --jobs K` compares the program `rooms`.
@@ -204,7 +204,7 @@ fn main() -> ExitCode {
     if let Some(path) = args.text("--rooms") {
         return compare_rooms(path, &args);
     }
-    if let Some(path) = args.text("--replay") {
+    if let Some(path) = args.text("--batch") {
         return compare_program(path, programs::batch, 4000, &args);
     }
     match (args.word(0), args.word(1)) {

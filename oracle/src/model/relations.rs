@@ -88,7 +88,7 @@ impl Rules {
         }
     }
 
-    /// Could one value have both types? The second one is plain.
+    /// The Rust's test of consistency, case by case. The second type is plain.
     pub fn consistent(self, a: &Ty, plain: &Ty) -> bool {
         let alike = match (a, plain) {
             (Ty::Atom(1 | 2), Ty::Atom(3)) => !self.fault(77),
