@@ -40,7 +40,7 @@ enum tirncheav_kind {
 
 /* ---- Calls that check the schema each time. They ask nothing of their bytes. */
 
-/* Yes if no entity is of both types, else no. */
+/* Yes if both are of kind 10 or 11 and share no name, so that no value has both, else no; a no says nothing. */
 uint64_t tirncheav_are_types_disjoint(const uint8_t *t0, size_t t0_len, const uint8_t *t1, size_t t1_len);
 
 /* Yes if t0 is a subtype of t1 in mode 0 (strict) or 1 (permissive), else no. */

@@ -53,7 +53,8 @@ pub enum Mode {
     Permissive = 1,
 }
 
-/// Whether no value has both types.
+/// Whether both types are of kind 10 or 11 and share no name, so that no value
+/// has both. A no says nothing.
 ///
 /// ```
 /// // The entity types 2 and 4.
@@ -66,7 +67,8 @@ pub fn are_types_disjoint(t0: &[u8], t1: &[u8]) -> Result<bool, Refusal> {
     })
 }
 
-/// Whether a type is consistent with a plain one.
+/// Whether a type is consistent with a plain one, by the Rust's test: neither
+/// answer says whether a value has both.
 ///
 /// ```
 /// use tirncheav::{is_consistent_with, Refusal};

@@ -36,9 +36,12 @@ const ALL: [(Refusal, &str); 15] = [
     (Conversion, "the type has no core type"),
     (
         Workspace,
-        "a step's bound is longer than half of the workspace",
+        "a step's bound is longer than half of the workspace or than a form may be",
     ),
-    (Result, "the answer is longer than the result buffer"),
+    (
+        Result,
+        "the answer is longer than the result buffer or than a form may be",
+    ),
     (
         AttributeQualifier,
         "an attribute is required on one side only",
