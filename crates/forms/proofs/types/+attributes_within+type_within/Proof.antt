@@ -58,8 +58,8 @@ attributes-within-Inv-loop t at levels start n end e₀ b₀ left₀ low₀ e b 
 abbrev attributes-within-μ-loop : attributes-within-lts.MeasureT-loop
 attributes-within-μ-loop t at levels start n end e₀ b₀ left₀ low₀ e b left low = left
 
--- src/types.rt:71:17
-attributes-within-add-start : (t : ℕ) → attributes-within-lts.Need-add-start (
+abbrev attributes-within-callees : ℕ → attributes-within-lts.Claims
+attributes-within-callees t = (
   u16-at-reads.Asked,
   u16-at-reads.Learnt,
   attribute-follows-reads.Asked,
@@ -67,6 +67,12 @@ attributes-within-add-start : (t : ℕ) → attributes-within-lts.Need-add-start
   type-within-below t,
   type-within.Post,
 )
+
+abbrev type-within-callees : ℕ → type-within-lts.Claims
+type-within-callees t = (attributes-within-below t, attributes-within.Post, entity-within-reads.Asked, entity-within-reads.Learnt)
+
+-- src/types.rt:71:17
+attributes-within-add-start : (t : ℕ) → attributes-within-lts.Need-add-start (attributes-within-callees t)
     (attributes-within-at t)
     attributes-within.Post
     attributes-within-Inv-loop
@@ -74,14 +80,7 @@ attributes-within-add-start : (t : ℕ) → attributes-within-lts.Need-add-start
 attributes-within-add-start t c = omega arith
 
 -- src/types.rt:73:9
-attributes-within-returns : (t : ℕ) → attributes-within-lts.Need-returns (
-  u16-at-reads.Asked,
-  u16-at-reads.Learnt,
-  attribute-follows-reads.Asked,
-  attribute-follows-reads.Learnt,
-  type-within-below t,
-  type-within.Post,
-)
+attributes-within-returns : (t : ℕ) → attributes-within-lts.Need-returns (attributes-within-callees t)
     (attributes-within-at t)
     attributes-within.Post
     attributes-within-Inv-loop
@@ -91,14 +90,7 @@ attributes-within-returns t c =
     table-short attrRow (λ _. whole (args .levels)) 0 (args .at) (args .t .now) (c .if1 .taken)
 
 -- src/types.rt:75:9
-attributes-within-u16-at-requires : (t : ℕ) → attributes-within-lts.Need-u16-at-requires (
-  u16-at-reads.Asked,
-  u16-at-reads.Learnt,
-  attribute-follows-reads.Asked,
-  attribute-follows-reads.Learnt,
-  type-within-below t,
-  type-within.Post,
-)
+attributes-within-u16-at-requires : (t : ℕ) → attributes-within-lts.Need-u16-at-requires (attributes-within-callees t)
     (attributes-within-at t)
     attributes-within.Post
     attributes-within-Inv-loop
@@ -106,14 +98,7 @@ attributes-within-u16-at-requires : (t : ℕ) → attributes-within-lts.Need-u16
 attributes-within-u16-at-requires t c κs = omega arith
 
 -- src/types.rt:76:23
-attributes-within-mul-end : (t : ℕ) → attributes-within-lts.Need-mul-end (
-  u16-at-reads.Asked,
-  u16-at-reads.Learnt,
-  attribute-follows-reads.Asked,
-  attribute-follows-reads.Learnt,
-  type-within-below t,
-  type-within.Post,
-)
+attributes-within-mul-end : (t : ℕ) → attributes-within-lts.Need-mul-end (attributes-within-callees t)
     (attributes-within-at t)
     attributes-within.Post
     attributes-within-Inv-loop
@@ -121,14 +106,7 @@ attributes-within-mul-end : (t : ℕ) → attributes-within-lts.Need-mul-end (
 attributes-within-mul-end t c = omega arith
 
 -- src/types.rt:76:15
-attributes-within-add-end : (t : ℕ) → attributes-within-lts.Need-add-end (
-  u16-at-reads.Asked,
-  u16-at-reads.Learnt,
-  attribute-follows-reads.Asked,
-  attribute-follows-reads.Learnt,
-  type-within-below t,
-  type-within.Post,
-)
+attributes-within-add-end : (t : ℕ) → attributes-within-lts.Need-add-end (attributes-within-callees t)
     (attributes-within-at t)
     attributes-within.Post
     attributes-within-Inv-loop
@@ -136,14 +114,7 @@ attributes-within-add-end : (t : ℕ) → attributes-within-lts.Need-add-end (
 attributes-within-add-end t c = omega arith
 
 -- src/types.rt:78:9
-attributes-within-returns-2 : (t : ℕ) → attributes-within-lts.Need-returns-2 (
-  u16-at-reads.Asked,
-  u16-at-reads.Learnt,
-  attribute-follows-reads.Asked,
-  attribute-follows-reads.Learnt,
-  type-within-below t,
-  type-within.Post,
-)
+attributes-within-returns-2 : (t : ℕ) → attributes-within-lts.Need-returns-2 (attributes-within-callees t)
     (attributes-within-at t)
     attributes-within.Post
     attributes-within-Inv-loop
@@ -154,14 +125,7 @@ attributes-within-returns-2 t c =
     table-over attrRow (λ _. whole (args .levels)) 0 (args .at) (args .t .now) (u16-at .result) (u16-at .ensures .0) (c .if2 .taken)
 
 -- src/types.rt:80:17
-attributes-within-sub-e : (t : ℕ) → attributes-within-lts.Need-sub-e (
-  u16-at-reads.Asked,
-  u16-at-reads.Learnt,
-  attribute-follows-reads.Asked,
-  attribute-follows-reads.Learnt,
-  type-within-below t,
-  type-within.Post,
-)
+attributes-within-sub-e : (t : ℕ) → attributes-within-lts.Need-sub-e (attributes-within-callees t)
     (attributes-within-at t)
     attributes-within.Post
     attributes-within-Inv-loop
@@ -169,14 +133,7 @@ attributes-within-sub-e : (t : ℕ) → attributes-within-lts.Need-sub-e (
 attributes-within-sub-e t c = omega arith
 
 -- src/types.rt:80:17
-attributes-within-part-e-start : (t : ℕ) → attributes-within-lts.Need-part-e-start (
-  u16-at-reads.Asked,
-  u16-at-reads.Learnt,
-  attribute-follows-reads.Asked,
-  attribute-follows-reads.Learnt,
-  type-within-below t,
-  type-within.Post,
-)
+attributes-within-part-e-start : (t : ℕ) → attributes-within-lts.Need-part-e-start (attributes-within-callees t)
     (attributes-within-at t)
     attributes-within.Post
     attributes-within-Inv-loop
@@ -184,14 +141,7 @@ attributes-within-part-e-start : (t : ℕ) → attributes-within-lts.Need-part-e
 attributes-within-part-e-start t c = omega arith
 
 -- src/types.rt:80:17
-attributes-within-part-e-end : (t : ℕ) → attributes-within-lts.Need-part-e-end (
-  u16-at-reads.Asked,
-  u16-at-reads.Learnt,
-  attribute-follows-reads.Asked,
-  attribute-follows-reads.Learnt,
-  type-within-below t,
-  type-within.Post,
-)
+attributes-within-part-e-end : (t : ℕ) → attributes-within-lts.Need-part-e-end (attributes-within-callees t)
     (attributes-within-at t)
     attributes-within.Post
     attributes-within-Inv-loop
@@ -199,14 +149,7 @@ attributes-within-part-e-end : (t : ℕ) → attributes-within-lts.Need-part-e-e
 attributes-within-part-e-end t c = omega arith
 
 -- src/types.rt:81:17
-attributes-within-sub-b : (t : ℕ) → attributes-within-lts.Need-sub-b (
-  u16-at-reads.Asked,
-  u16-at-reads.Learnt,
-  attribute-follows-reads.Asked,
-  attribute-follows-reads.Learnt,
-  type-within-below t,
-  type-within.Post,
-)
+attributes-within-sub-b : (t : ℕ) → attributes-within-lts.Need-sub-b (attributes-within-callees t)
     (attributes-within-at t)
     attributes-within.Post
     attributes-within-Inv-loop
@@ -214,14 +157,7 @@ attributes-within-sub-b : (t : ℕ) → attributes-within-lts.Need-sub-b (
 attributes-within-sub-b t c = omega arith
 
 -- src/types.rt:81:17
-attributes-within-part-b-start : (t : ℕ) → attributes-within-lts.Need-part-b-start (
-  u16-at-reads.Asked,
-  u16-at-reads.Learnt,
-  attribute-follows-reads.Asked,
-  attribute-follows-reads.Learnt,
-  type-within-below t,
-  type-within.Post,
-)
+attributes-within-part-b-start : (t : ℕ) → attributes-within-lts.Need-part-b-start (attributes-within-callees t)
     (attributes-within-at t)
     attributes-within.Post
     attributes-within-Inv-loop
@@ -229,14 +165,7 @@ attributes-within-part-b-start : (t : ℕ) → attributes-within-lts.Need-part-b
 attributes-within-part-b-start t c = omega arith
 
 -- src/types.rt:81:17
-attributes-within-part-b-end : (t : ℕ) → attributes-within-lts.Need-part-b-end (
-  u16-at-reads.Asked,
-  u16-at-reads.Learnt,
-  attribute-follows-reads.Asked,
-  attribute-follows-reads.Learnt,
-  type-within-below t,
-  type-within.Post,
-)
+attributes-within-part-b-end : (t : ℕ) → attributes-within-lts.Need-part-b-end (attributes-within-callees t)
     (attributes-within-at t)
     attributes-within.Post
     attributes-within-Inv-loop
@@ -244,14 +173,7 @@ attributes-within-part-b-end : (t : ℕ) → attributes-within-lts.Need-part-b-e
 attributes-within-part-b-end t c = omega arith
 
 -- src/types.rt:84:5
-attributes-within-loop-holds : (t : ℕ) → attributes-within-lts.Need-loop-holds (
-  u16-at-reads.Asked,
-  u16-at-reads.Learnt,
-  attribute-follows-reads.Asked,
-  attribute-follows-reads.Learnt,
-  type-within-below t,
-  type-within.Post,
-)
+attributes-within-loop-holds : (t : ℕ) → attributes-within-lts.Need-loop-holds (attributes-within-callees t)
     (attributes-within-at t)
     attributes-within.Post
     attributes-within-Inv-loop
@@ -264,14 +186,7 @@ attributes-within-loop-holds t c =
 
 -- src/types.rt:85:13
 attributes-within-attribute-follows-requires :
-    (t : ℕ) → attributes-within-lts.Need-attribute-follows-requires (
-      u16-at-reads.Asked,
-      u16-at-reads.Learnt,
-      attribute-follows-reads.Asked,
-      attribute-follows-reads.Learnt,
-      type-within-below t,
-      type-within.Post,
-    )
+    (t : ℕ) → attributes-within-lts.Need-attribute-follows-requires (attributes-within-callees t)
     (attributes-within-at t)
     attributes-within.Post
     attributes-within-Inv-loop
@@ -279,14 +194,7 @@ attributes-within-attribute-follows-requires :
 attributes-within-attribute-follows-requires t c κs = omega arith
 
 -- src/types.rt:86:13
-attributes-within-returns-3 : (t : ℕ) → attributes-within-lts.Need-returns-3 (
-  u16-at-reads.Asked,
-  u16-at-reads.Learnt,
-  attribute-follows-reads.Asked,
-  attribute-follows-reads.Learnt,
-  type-within-below t,
-  type-within.Post,
-)
+attributes-within-returns-3 : (t : ℕ) → attributes-within-lts.Need-returns-3 (attributes-within-callees t)
     (attributes-within-at t)
     attributes-within.Post
     attributes-within-Inv-loop
@@ -304,14 +212,7 @@ attributes-within-returns-3 t c =
     sym (table-open attrRow (λ _. whole (args .levels)) 0 (args .at) (args .t .now) (u16-at .result) (u16-at .ensures .0) (if1 .left) (if2 .left))
 
 -- src/types.rt:88:13
-attributes-within-u16-at-requires-2 : (t : ℕ) → attributes-within-lts.Need-u16-at-requires-2 (
-  u16-at-reads.Asked,
-  u16-at-reads.Learnt,
-  attribute-follows-reads.Asked,
-  attribute-follows-reads.Learnt,
-  type-within-below t,
-  type-within.Post,
-)
+attributes-within-u16-at-requires-2 : (t : ℕ) → attributes-within-lts.Need-u16-at-requires-2 (attributes-within-callees t)
     (attributes-within-at t)
     attributes-within.Post
     attributes-within-Inv-loop
@@ -319,14 +220,7 @@ attributes-within-u16-at-requires-2 : (t : ℕ) → attributes-within-lts.Need-u
 attributes-within-u16-at-requires-2 t c κs = omega arith
 
 -- src/types.rt:90:13
-attributes-within-returns-4 : (t : ℕ) → attributes-within-lts.Need-returns-4 (
-  u16-at-reads.Asked,
-  u16-at-reads.Learnt,
-  attribute-follows-reads.Asked,
-  attribute-follows-reads.Learnt,
-  type-within-below t,
-  type-within.Post,
-)
+attributes-within-returns-4 : (t : ℕ) → attributes-within-lts.Need-returns-4 (attributes-within-callees t)
     (attributes-within-at t)
     attributes-within.Post
     attributes-within-Inv-loop
@@ -344,14 +238,7 @@ attributes-within-returns-4 t c =
     sym (table-open attrRow (λ _. whole (args .levels)) 0 (args .at) (args .t .now) (u16-at .result) (u16-at .ensures .0) (if1 .left) (if2 .left))
 
 -- src/types.rt:92:25
-attributes-within-sub-type-within : (t : ℕ) → attributes-within-lts.Need-sub-type-within (
-  u16-at-reads.Asked,
-  u16-at-reads.Learnt,
-  attribute-follows-reads.Asked,
-  attribute-follows-reads.Learnt,
-  type-within-below t,
-  type-within.Post,
-)
+attributes-within-sub-type-within : (t : ℕ) → attributes-within-lts.Need-sub-type-within (attributes-within-callees t)
     (attributes-within-at t)
     attributes-within.Post
     attributes-within-Inv-loop
@@ -360,14 +247,7 @@ attributes-within-sub-type-within t c = omega arith
 
 -- src/types.rt:92:25
 attributes-within-part-type-within-start :
-    (t : ℕ) → attributes-within-lts.Need-part-type-within-start (
-      u16-at-reads.Asked,
-      u16-at-reads.Learnt,
-      attribute-follows-reads.Asked,
-      attribute-follows-reads.Learnt,
-      type-within-below t,
-      type-within.Post,
-    )
+    (t : ℕ) → attributes-within-lts.Need-part-type-within-start (attributes-within-callees t)
     (attributes-within-at t)
     attributes-within.Post
     attributes-within-Inv-loop
@@ -375,14 +255,7 @@ attributes-within-part-type-within-start :
 attributes-within-part-type-within-start t c = omega arith
 
 -- src/types.rt:92:25
-attributes-within-part-type-within-end : (t : ℕ) → attributes-within-lts.Need-part-type-within-end (
-  u16-at-reads.Asked,
-  u16-at-reads.Learnt,
-  attribute-follows-reads.Asked,
-  attribute-follows-reads.Learnt,
-  type-within-below t,
-  type-within.Post,
-)
+attributes-within-part-type-within-end : (t : ℕ) → attributes-within-lts.Need-part-type-within-end (attributes-within-callees t)
     (attributes-within-at t)
     attributes-within.Post
     attributes-within-Inv-loop
@@ -390,14 +263,7 @@ attributes-within-part-type-within-end : (t : ℕ) → attributes-within-lts.Nee
 attributes-within-part-type-within-end t c = omega arith
 
 -- src/types.rt:92:13
-attributes-within-type-within-requires : (t : ℕ) → attributes-within-lts.Need-type-within-requires (
-  u16-at-reads.Asked,
-  u16-at-reads.Learnt,
-  attribute-follows-reads.Asked,
-  attribute-follows-reads.Learnt,
-  type-within-below t,
-  type-within.Post,
-)
+attributes-within-type-within-requires : (t : ℕ) → attributes-within-lts.Need-type-within-requires (attributes-within-callees t)
     (attributes-within-at t)
     attributes-within.Post
     attributes-within-Inv-loop
@@ -405,14 +271,7 @@ attributes-within-type-within-requires : (t : ℕ) → attributes-within-lts.Nee
 attributes-within-type-within-requires t c κs = omega arith
 
 -- src/types.rt:93:13
-attributes-within-returns-5 : (t : ℕ) → attributes-within-lts.Need-returns-5 (
-  u16-at-reads.Asked,
-  u16-at-reads.Learnt,
-  attribute-follows-reads.Asked,
-  attribute-follows-reads.Learnt,
-  type-within-below t,
-  type-within.Post,
-)
+attributes-within-returns-5 : (t : ℕ) → attributes-within-lts.Need-returns-5 (attributes-within-callees t)
     (attributes-within-at t)
     attributes-within.Post
     attributes-within-Inv-loop
@@ -433,14 +292,7 @@ attributes-within-returns-5 t c =
     sym (table-open attrRow (λ _. whole (args .levels)) 0 (args .at) (args .t .now) (u16-at .result) (u16-at .ensures .0) (if1 .left) (if2 .left))
 
 -- src/types.rt:95:15
-attributes-within-u16-at-requires-3 : (t : ℕ) → attributes-within-lts.Need-u16-at-requires-3 (
-  u16-at-reads.Asked,
-  u16-at-reads.Learnt,
-  attribute-follows-reads.Asked,
-  attribute-follows-reads.Learnt,
-  type-within-below t,
-  type-within.Post,
-)
+attributes-within-u16-at-requires-3 : (t : ℕ) → attributes-within-lts.Need-u16-at-requires-3 (attributes-within-callees t)
     (attributes-within-at t)
     attributes-within.Post
     attributes-within-Inv-loop
@@ -448,14 +300,7 @@ attributes-within-u16-at-requires-3 : (t : ℕ) → attributes-within-lts.Need-u
 attributes-within-u16-at-requires-3 t c κs = omega arith
 
 -- src/types.rt:95:15
-attributes-within-add-low : (t : ℕ) → attributes-within-lts.Need-add-low (
-  u16-at-reads.Asked,
-  u16-at-reads.Learnt,
-  attribute-follows-reads.Asked,
-  attribute-follows-reads.Learnt,
-  type-within-below t,
-  type-within.Post,
-)
+attributes-within-add-low : (t : ℕ) → attributes-within-lts.Need-add-low (attributes-within-callees t)
     (attributes-within-at t)
     attributes-within.Post
     attributes-within-Inv-loop
@@ -463,14 +308,7 @@ attributes-within-add-low : (t : ℕ) → attributes-within-lts.Need-add-low (
 attributes-within-add-low t c = omega arith
 
 -- src/types.rt:96:13
-attributes-within-sub-e-2 : (t : ℕ) → attributes-within-lts.Need-sub-e-2 (
-  u16-at-reads.Asked,
-  u16-at-reads.Learnt,
-  attribute-follows-reads.Asked,
-  attribute-follows-reads.Learnt,
-  type-within-below t,
-  type-within.Post,
-)
+attributes-within-sub-e-2 : (t : ℕ) → attributes-within-lts.Need-sub-e-2 (attributes-within-callees t)
     (attributes-within-at t)
     attributes-within.Post
     attributes-within-Inv-loop
@@ -478,14 +316,7 @@ attributes-within-sub-e-2 : (t : ℕ) → attributes-within-lts.Need-sub-e-2 (
 attributes-within-sub-e-2 t c = omega arith
 
 -- src/types.rt:96:13
-attributes-within-part-e-start-2 : (t : ℕ) → attributes-within-lts.Need-part-e-start-2 (
-  u16-at-reads.Asked,
-  u16-at-reads.Learnt,
-  attribute-follows-reads.Asked,
-  attribute-follows-reads.Learnt,
-  type-within-below t,
-  type-within.Post,
-)
+attributes-within-part-e-start-2 : (t : ℕ) → attributes-within-lts.Need-part-e-start-2 (attributes-within-callees t)
     (attributes-within-at t)
     attributes-within.Post
     attributes-within-Inv-loop
@@ -493,14 +324,7 @@ attributes-within-part-e-start-2 : (t : ℕ) → attributes-within-lts.Need-part
 attributes-within-part-e-start-2 t c = omega arith
 
 -- src/types.rt:96:13
-attributes-within-part-e-end-2 : (t : ℕ) → attributes-within-lts.Need-part-e-end-2 (
-  u16-at-reads.Asked,
-  u16-at-reads.Learnt,
-  attribute-follows-reads.Asked,
-  attribute-follows-reads.Learnt,
-  type-within-below t,
-  type-within.Post,
-)
+attributes-within-part-e-end-2 : (t : ℕ) → attributes-within-lts.Need-part-e-end-2 (attributes-within-callees t)
     (attributes-within-at t)
     attributes-within.Post
     attributes-within-Inv-loop
@@ -508,14 +332,7 @@ attributes-within-part-e-end-2 : (t : ℕ) → attributes-within-lts.Need-part-e
 attributes-within-part-e-end-2 t c = omega arith
 
 -- src/types.rt:97:13
-attributes-within-sub-b-2 : (t : ℕ) → attributes-within-lts.Need-sub-b-2 (
-  u16-at-reads.Asked,
-  u16-at-reads.Learnt,
-  attribute-follows-reads.Asked,
-  attribute-follows-reads.Learnt,
-  type-within-below t,
-  type-within.Post,
-)
+attributes-within-sub-b-2 : (t : ℕ) → attributes-within-lts.Need-sub-b-2 (attributes-within-callees t)
     (attributes-within-at t)
     attributes-within.Post
     attributes-within-Inv-loop
@@ -523,14 +340,7 @@ attributes-within-sub-b-2 : (t : ℕ) → attributes-within-lts.Need-sub-b-2 (
 attributes-within-sub-b-2 t c = omega arith
 
 -- src/types.rt:97:13
-attributes-within-part-b-start-2 : (t : ℕ) → attributes-within-lts.Need-part-b-start-2 (
-  u16-at-reads.Asked,
-  u16-at-reads.Learnt,
-  attribute-follows-reads.Asked,
-  attribute-follows-reads.Learnt,
-  type-within-below t,
-  type-within.Post,
-)
+attributes-within-part-b-start-2 : (t : ℕ) → attributes-within-lts.Need-part-b-start-2 (attributes-within-callees t)
     (attributes-within-at t)
     attributes-within.Post
     attributes-within-Inv-loop
@@ -538,14 +348,7 @@ attributes-within-part-b-start-2 : (t : ℕ) → attributes-within-lts.Need-part
 attributes-within-part-b-start-2 t c = omega arith
 
 -- src/types.rt:97:13
-attributes-within-part-b-end-2 : (t : ℕ) → attributes-within-lts.Need-part-b-end-2 (
-  u16-at-reads.Asked,
-  u16-at-reads.Learnt,
-  attribute-follows-reads.Asked,
-  attribute-follows-reads.Learnt,
-  type-within-below t,
-  type-within.Post,
-)
+attributes-within-part-b-end-2 : (t : ℕ) → attributes-within-lts.Need-part-b-end-2 (attributes-within-callees t)
     (attributes-within-at t)
     attributes-within.Post
     attributes-within-Inv-loop
@@ -553,14 +356,7 @@ attributes-within-part-b-end-2 : (t : ℕ) → attributes-within-lts.Need-part-b
 attributes-within-part-b-end-2 t c = omega arith
 
 -- src/types.rt:98:9
-attributes-within-sub-left : (t : ℕ) → attributes-within-lts.Need-sub-left (
-  u16-at-reads.Asked,
-  u16-at-reads.Learnt,
-  attribute-follows-reads.Asked,
-  attribute-follows-reads.Learnt,
-  type-within-below t,
-  type-within.Post,
-)
+attributes-within-sub-left : (t : ℕ) → attributes-within-lts.Need-sub-left (attributes-within-callees t)
     (attributes-within-at t)
     attributes-within.Post
     attributes-within-Inv-loop
@@ -568,14 +364,7 @@ attributes-within-sub-left : (t : ℕ) → attributes-within-lts.Need-sub-left (
 attributes-within-sub-left t c = omega arith
 
 -- src/types.rt:84:5
-attributes-within-loop-less : (t : ℕ) → attributes-within-lts.Need-loop-less (
-  u16-at-reads.Asked,
-  u16-at-reads.Learnt,
-  attribute-follows-reads.Asked,
-  attribute-follows-reads.Learnt,
-  type-within-below t,
-  type-within.Post,
-)
+attributes-within-loop-less : (t : ℕ) → attributes-within-lts.Need-loop-less (attributes-within-callees t)
     (attributes-within-at t)
     attributes-within.Post
     attributes-within-Inv-loop
@@ -583,14 +372,7 @@ attributes-within-loop-less : (t : ℕ) → attributes-within-lts.Need-loop-less
 attributes-within-loop-less t c = omega arith
 
 -- src/types.rt:84:5
-attributes-within-loop-again : (t : ℕ) → attributes-within-lts.Need-loop-again (
-  u16-at-reads.Asked,
-  u16-at-reads.Learnt,
-  attribute-follows-reads.Asked,
-  attribute-follows-reads.Learnt,
-  type-within-below t,
-  type-within.Post,
-)
+attributes-within-loop-again : (t : ℕ) → attributes-within-lts.Need-loop-again (attributes-within-callees t)
     (attributes-within-at t)
     attributes-within.Post
     attributes-within-Inv-loop
@@ -609,14 +391,7 @@ attributes-within-loop-again t c =
     (if4 .left) (type-within-step .result) (type-within-step .ensures) (if5 .left) _ (ap (λ (j : ℕ). j + 1) (u16-at3 .ensures .0))
 
 -- src/types.rt:67:1
-attributes-within-returns-6 : (t : ℕ) → attributes-within-lts.Need-returns-6 (
-  u16-at-reads.Asked,
-  u16-at-reads.Learnt,
-  attribute-follows-reads.Asked,
-  attribute-follows-reads.Learnt,
-  type-within-below t,
-  type-within.Post,
-)
+attributes-within-returns-6 : (t : ℕ) → attributes-within-lts.Need-returns-6 (attributes-within-callees t)
     (attributes-within-at t)
     attributes-within.Post
     attributes-within-Inv-loop
@@ -636,124 +411,69 @@ abbrev type-within-μ-loop : type-within-lts.MeasureT-loop
 type-within-μ-loop t levels b₀ left₀ b left = left
 
 -- src/types.rt:108:17
-type-within-sub-b : (t : ℕ) → type-within-lts.Need-sub-b (
-  attributes-within-below t,
-  attributes-within.Post,
-  entity-within-reads.Asked,
-  entity-within-reads.Learnt,
-) (type-within-at t) type-within.Post type-within-Inv-loop type-within-μ-loop
+type-within-sub-b : (t : ℕ) → type-within-lts.Need-sub-b (type-within-callees t) (type-within-at t) type-within.Post type-within-Inv-loop type-within-μ-loop
 type-within-sub-b t c = omega arith
 
 -- src/types.rt:108:17
-type-within-part-b-start : (t : ℕ) → type-within-lts.Need-part-b-start (
-  attributes-within-below t,
-  attributes-within.Post,
-  entity-within-reads.Asked,
-  entity-within-reads.Learnt,
-) (type-within-at t) type-within.Post type-within-Inv-loop type-within-μ-loop
+type-within-part-b-start : (t : ℕ) → type-within-lts.Need-part-b-start (type-within-callees t)
+    (type-within-at t) type-within.Post type-within-Inv-loop type-within-μ-loop
 type-within-part-b-start t c = omega arith
 
 -- src/types.rt:108:17
-type-within-part-b-end : (t : ℕ) → type-within-lts.Need-part-b-end (
-  attributes-within-below t,
-  attributes-within.Post,
-  entity-within-reads.Asked,
-  entity-within-reads.Learnt,
-) (type-within-at t) type-within.Post type-within-Inv-loop type-within-μ-loop
+type-within-part-b-end : (t : ℕ) → type-within-lts.Need-part-b-end (type-within-callees t)
+    (type-within-at t) type-within.Post type-within-Inv-loop type-within-μ-loop
 type-within-part-b-end t c = omega arith
 
 -- src/types.rt:110:5
-type-within-loop-holds : (t : ℕ) → type-within-lts.Need-loop-holds (
-  attributes-within-below t,
-  attributes-within.Post,
-  entity-within-reads.Asked,
-  entity-within-reads.Learnt,
-) (type-within-at t) type-within.Post type-within-Inv-loop type-within-μ-loop
+type-within-loop-holds : (t : ℕ) → type-within-lts.Need-loop-holds (type-within-callees t)
+    (type-within-at t) type-within.Post type-within-Inv-loop type-within-μ-loop
 type-within-loop-holds t c =
     let args = c .before .before .args in
     sets-start (args .levels) (args .t .now)
 
 -- src/types.rt:112:13
-type-within-returns : (t : ℕ) → type-within-lts.Need-returns (
-  attributes-within-below t,
-  attributes-within.Post,
-  entity-within-reads.Asked,
-  entity-within-reads.Learnt,
-) (type-within-at t) type-within.Post type-within-Inv-loop type-within-μ-loop
+type-within-returns : (t : ℕ) → type-within-lts.Need-returns (type-within-callees t) (type-within-at t) type-within.Post type-within-Inv-loop type-within-μ-loop
 type-within-returns t c = whole-none ((c .before) .loop .left) ((c .before) .loop .b .now) (c .if1 .taken) ∙ sym ((c .before) .loop .inv .same)
 
 -- src/types.rt:115:13
-type-within-returns-2 : (t : ℕ) → type-within-lts.Need-returns-2 (
-  attributes-within-below t,
-  attributes-within.Post,
-  entity-within-reads.Asked,
-  entity-within-reads.Learnt,
-) (type-within-at t) type-within.Post type-within-Inv-loop type-within-μ-loop
+type-within-returns-2 : (t : ℕ) → type-within-lts.Need-returns-2 (type-within-callees t)
+    (type-within-at t) type-within.Post type-within-Inv-loop type-within-μ-loop
 type-within-returns-2 t c =
     let loop = c .before .before .loop in
     whole-empty (loop .left) (loop .b .now) (c .before .if1 .left) (c .if2 .taken) ∙ sym (loop .inv .same)
 
 -- src/types.rt:117:12
-type-within-shared-slice-read-if3 : (t : ℕ) → type-within-lts.Need-shared-slice-read-if3 (
-  attributes-within-below t,
-  attributes-within.Post,
-  entity-within-reads.Asked,
-  entity-within-reads.Learnt,
-) (type-within-at t) type-within.Post type-within-Inv-loop type-within-μ-loop
+type-within-shared-slice-read-if3 : (t : ℕ) → type-within-lts.Need-shared-slice-read-if3 (type-within-callees t)
+    (type-within-at t) type-within.Post type-within-Inv-loop type-within-μ-loop
 type-within-shared-slice-read-if3 t c = omega arith
 
 -- src/types.rt:120:13
-type-within-sub-b-2 : (t : ℕ) → type-within-lts.Need-sub-b-2 (
-  attributes-within-below t,
-  attributes-within.Post,
-  entity-within-reads.Asked,
-  entity-within-reads.Learnt,
-) (type-within-at t) type-within.Post type-within-Inv-loop type-within-μ-loop
+type-within-sub-b-2 : (t : ℕ) → type-within-lts.Need-sub-b-2 (type-within-callees t) (type-within-at t) type-within.Post type-within-Inv-loop type-within-μ-loop
 type-within-sub-b-2 t c = omega arith
 
 -- src/types.rt:120:13
-type-within-part-b-start-2 : (t : ℕ) → type-within-lts.Need-part-b-start-2 (
-  attributes-within-below t,
-  attributes-within.Post,
-  entity-within-reads.Asked,
-  entity-within-reads.Learnt,
-) (type-within-at t) type-within.Post type-within-Inv-loop type-within-μ-loop
+type-within-part-b-start-2 : (t : ℕ) → type-within-lts.Need-part-b-start-2 (type-within-callees t)
+    (type-within-at t) type-within.Post type-within-Inv-loop type-within-μ-loop
 type-within-part-b-start-2 t c = omega arith
 
 -- src/types.rt:120:13
-type-within-part-b-end-2 : (t : ℕ) → type-within-lts.Need-part-b-end-2 (
-  attributes-within-below t,
-  attributes-within.Post,
-  entity-within-reads.Asked,
-  entity-within-reads.Learnt,
-) (type-within-at t) type-within.Post type-within-Inv-loop type-within-μ-loop
+type-within-part-b-end-2 : (t : ℕ) → type-within-lts.Need-part-b-end-2 (type-within-callees t)
+    (type-within-at t) type-within.Post type-within-Inv-loop type-within-μ-loop
 type-within-part-b-end-2 t c = omega arith
 
 -- src/types.rt:121:9
-type-within-sub-left : (t : ℕ) → type-within-lts.Need-sub-left (
-  attributes-within-below t,
-  attributes-within.Post,
-  entity-within-reads.Asked,
-  entity-within-reads.Learnt,
-) (type-within-at t) type-within.Post type-within-Inv-loop type-within-μ-loop
+type-within-sub-left : (t : ℕ) → type-within-lts.Need-sub-left (type-within-callees t)
+    (type-within-at t) type-within.Post type-within-Inv-loop type-within-μ-loop
 type-within-sub-left t c = omega arith
 
 -- src/types.rt:110:5
-type-within-loop-less : (t : ℕ) → type-within-lts.Need-loop-less (
-  attributes-within-below t,
-  attributes-within.Post,
-  entity-within-reads.Asked,
-  entity-within-reads.Learnt,
-) (type-within-at t) type-within.Post type-within-Inv-loop type-within-μ-loop
+type-within-loop-less : (t : ℕ) → type-within-lts.Need-loop-less (type-within-callees t)
+    (type-within-at t) type-within.Post type-within-Inv-loop type-within-μ-loop
 type-within-loop-less t c = omega arith
 
 -- src/types.rt:110:5
-type-within-loop-again : (t : ℕ) → type-within-lts.Need-loop-again (
-  attributes-within-below t,
-  attributes-within.Post,
-  entity-within-reads.Asked,
-  entity-within-reads.Learnt,
-) (type-within-at t) type-within.Post type-within-Inv-loop type-within-μ-loop
+type-within-loop-again : (t : ℕ) → type-within-lts.Need-loop-again (type-within-callees t)
+    (type-within-at t) type-within.Post type-within-Inv-loop type-within-μ-loop
 type-within-loop-again t c =
     let if2 = c .before .before .before .if2 in
     let if1 = c .before .before .before .before .if1 in
@@ -761,21 +481,13 @@ type-within-loop-again t c =
     sets-again (loop .inv) (if1 .left) (if2 .left) (c .before .if3 .left)
 
 -- src/types.rt:123:13
-type-within-shared-slice-read-k : (t : ℕ) → type-within-lts.Need-shared-slice-read-k (
-  attributes-within-below t,
-  attributes-within.Post,
-  entity-within-reads.Asked,
-  entity-within-reads.Learnt,
-) (type-within-at t) type-within.Post type-within-Inv-loop type-within-μ-loop
+type-within-shared-slice-read-k : (t : ℕ) → type-within-lts.Need-shared-slice-read-k (type-within-callees t)
+    (type-within-at t) type-within.Post type-within-Inv-loop type-within-μ-loop
 type-within-shared-slice-read-k t c = omega arith
 
 -- src/types.rt:127:17
-type-within-returns-3 : (t : ℕ) → type-within-lts.Need-returns-3 (
-  attributes-within-below t,
-  attributes-within.Post,
-  entity-within-reads.Asked,
-  entity-within-reads.Learnt,
-) (type-within-at t) type-within.Post type-within-Inv-loop type-within-μ-loop
+type-within-returns-3 : (t : ℕ) → type-within-lts.Need-returns-3 (type-within-callees t)
+    (type-within-at t) type-within.Post type-within-Inv-loop type-within-μ-loop
 type-within-returns-3 t c =
     let if2 = c .before .before .before .before .before .if2 in
     let if1 = c .before .before .before .before .before .before .if1 in
@@ -783,21 +495,13 @@ type-within-returns-3 t c =
     record-short (loop .left) (loop .b .now) (if1 .left) (if2 .left) (c .before .match .keys1) (c .if4 .taken) ∙ sym (loop .inv .same)
 
 -- src/types.rt:129:33
-type-within-shared-slice-read-if5 : (t : ℕ) → type-within-lts.Need-shared-slice-read-if5 (
-  attributes-within-below t,
-  attributes-within.Post,
-  entity-within-reads.Asked,
-  entity-within-reads.Learnt,
-) (type-within-at t) type-within.Post type-within-Inv-loop type-within-μ-loop
+type-within-shared-slice-read-if5 : (t : ℕ) → type-within-lts.Need-shared-slice-read-if5 (type-within-callees t)
+    (type-within-at t) type-within.Post type-within-Inv-loop type-within-μ-loop
 type-within-shared-slice-read-if5 t c = omega arith
 
 -- src/types.rt:130:17
-type-within-returns-4 : (t : ℕ) → type-within-lts.Need-returns-4 (
-  attributes-within-below t,
-  attributes-within.Post,
-  entity-within-reads.Asked,
-  entity-within-reads.Learnt,
-) (type-within-at t) type-within.Post type-within-Inv-loop type-within-μ-loop
+type-within-returns-4 : (t : ℕ) → type-within-lts.Need-returns-4 (type-within-callees t)
+    (type-within-at t) type-within.Post type-within-Inv-loop type-within-μ-loop
 type-within-returns-4 t c =
     let match-keys1 = c .before .before .before .match in
     let if2 = c .before .before .before .before .before .before .before .if2 in
@@ -806,62 +510,38 @@ type-within-returns-4 t c =
     record-flag (loop .left) (loop .b .now) (if1 .left) (if2 .left) (match-keys1 .keys1) (c .if5 .taken) ∙ sym (loop .inv .same)
 
 -- src/types.rt:132:56
-type-within-sub-attributes-within : (t : ℕ) → type-within-lts.Need-sub-attributes-within (
-  attributes-within-below t,
-  attributes-within.Post,
-  entity-within-reads.Asked,
-  entity-within-reads.Learnt,
-) (type-within-at t) type-within.Post type-within-Inv-loop type-within-μ-loop
+type-within-sub-attributes-within : (t : ℕ) → type-within-lts.Need-sub-attributes-within (type-within-callees t)
+    (type-within-at t) type-within.Post type-within-Inv-loop type-within-μ-loop
 type-within-sub-attributes-within t c = omega arith
 
 -- src/types.rt:132:13
-type-within-attributes-within-requires : (t : ℕ) → type-within-lts.Need-attributes-within-requires (
-  attributes-within-below t,
-  attributes-within.Post,
-  entity-within-reads.Asked,
-  entity-within-reads.Learnt,
-) (type-within-at t) type-within.Post type-within-Inv-loop type-within-μ-loop
+type-within-attributes-within-requires : (t : ℕ) → type-within-lts.Need-attributes-within-requires (type-within-callees t)
+    (type-within-at t) type-within.Post type-within-Inv-loop type-within-μ-loop
 type-within-attributes-within-requires t c κs =
     let loop = c .before .before .before .before .before .before .before .before .before .loop in
     omega (arith, loop .inv .few)
 
 -- src/types.rt:134:25
-type-within-entity-within-requires : (t : ℕ) → type-within-lts.Need-entity-within-requires (
-  attributes-within-below t,
-  attributes-within.Post,
-  entity-within-reads.Asked,
-  entity-within-reads.Learnt,
-) (type-within-at t) type-within.Post type-within-Inv-loop type-within-μ-loop
+type-within-entity-within-requires : (t : ℕ) → type-within-lts.Need-entity-within-requires (type-within-callees t)
+    (type-within-at t) type-within.Post type-within-Inv-loop type-within-μ-loop
 type-within-entity-within-requires t c κs = omega arith
 
 -- src/types.rt:135:68
-type-within-sub-attributes-within-2 : (t : ℕ) → type-within-lts.Need-sub-attributes-within-2 (
-  attributes-within-below t,
-  attributes-within.Post,
-  entity-within-reads.Asked,
-  entity-within-reads.Learnt,
-) (type-within-at t) type-within.Post type-within-Inv-loop type-within-μ-loop
+type-within-sub-attributes-within-2 : (t : ℕ) → type-within-lts.Need-sub-attributes-within-2 (type-within-callees t)
+    (type-within-at t) type-within.Post type-within-Inv-loop type-within-μ-loop
 type-within-sub-attributes-within-2 t c = omega arith
 
 -- src/types.rt:135:25
 type-within-attributes-within-requires-2 :
-    (t : ℕ) → type-within-lts.Need-attributes-within-requires-2 (
-      attributes-within-below t,
-      attributes-within.Post,
-      entity-within-reads.Asked,
-      entity-within-reads.Learnt,
-    ) (type-within-at t) type-within.Post type-within-Inv-loop type-within-μ-loop
+    (t : ℕ) → type-within-lts.Need-attributes-within-requires-2 (type-within-callees t)
+    (type-within-at t) type-within.Post type-within-Inv-loop type-within-μ-loop
 type-within-attributes-within-requires-2 t c κs =
     let loop = c .before .before .before .before .before .before .loop in
     omega (arith, loop .inv .few)
 
 -- src/types.rt:139:17
-type-within-returns-5 : (t : ℕ) → type-within-lts.Need-returns-5 (
-  attributes-within-below t,
-  attributes-within.Post,
-  entity-within-reads.Asked,
-  entity-within-reads.Learnt,
-) (type-within-at t) type-within.Post type-within-Inv-loop type-within-μ-loop
+type-within-returns-5 : (t : ℕ) → type-within-lts.Need-returns-5 (type-within-callees t)
+    (type-within-at t) type-within.Post type-within-Inv-loop type-within-μ-loop
 type-within-returns-5 t c =
     let if2 = c .before .before .before .before .before .if2 in
     let if1 = c .before .before .before .before .before .before .if1 in
@@ -869,12 +549,8 @@ type-within-returns-5 t c =
     unknown-not (loop .left) (loop .b .now) (if1 .left) (if2 .left) (c .if6 .taken) ∙ sym (loop .inv .same)
 
 -- src/types.rt:104:1
-type-within-returns-6 : (t : ℕ) → type-within-lts.Need-returns-6 (
-  attributes-within-below t,
-  attributes-within.Post,
-  entity-within-reads.Asked,
-  entity-within-reads.Learnt,
-) (type-within-at t) type-within.Post type-within-Inv-loop type-within-μ-loop
+type-within-returns-6 : (t : ℕ) → type-within-lts.Need-returns-6 (type-within-callees t)
+    (type-within-at t) type-within.Post type-within-Inv-loop type-within-μ-loop
 type-within-returns-6 t c =
     let if4 = c .before .before .before .if4 in
     let match-keys1 = c .before .before .before .before .match in
@@ -885,12 +561,8 @@ type-within-returns-6 t c =
     c .attributes-within .ensures ∙ sym (loop .inv .same ∙ by-record-open)
 
 -- src/types.rt:104:1
-type-within-returns-7 : (t : ℕ) → type-within-lts.Need-returns-7 (
-  attributes-within-below t,
-  attributes-within.Post,
-  entity-within-reads.Asked,
-  entity-within-reads.Learnt,
-) (type-within-at t) type-within.Post type-within-Inv-loop type-within-μ-loop
+type-within-returns-7 : (t : ℕ) → type-within-lts.Need-returns-7 (type-within-callees t)
+    (type-within-at t) type-within.Post type-within-Inv-loop type-within-μ-loop
 type-within-returns-7 t c =
     let if2 = c .before .before .before .before .before .if2 in
     let if1 = c .before .before .before .before .before .before .if1 in
@@ -898,12 +570,8 @@ type-within-returns-7 t c =
     c .entity-within .ensures ∙ sym (loop .inv .same ∙ whole-by (loop .left) (loop .b .now) (if1 .left) (if2 .left) 10 (c .before .match .keys2))
 
 -- src/types.rt:104:1
-type-within-returns-8 : (t : ℕ) → type-within-lts.Need-returns-8 (
-  attributes-within-below t,
-  attributes-within.Post,
-  entity-within-reads.Asked,
-  entity-within-reads.Learnt,
-) (type-within-at t) type-within.Post type-within-Inv-loop type-within-μ-loop
+type-within-returns-8 : (t : ℕ) → type-within-lts.Need-returns-8 (type-within-callees t)
+    (type-within-at t) type-within.Post type-within-Inv-loop type-within-μ-loop
 type-within-returns-8 t c =
     let if2 = c .before .before .before .before .before .if2 in
     let if1 = c .before .before .before .before .before .before .if1 in
@@ -911,12 +579,8 @@ type-within-returns-8 t c =
     c .attributes-within2 .ensures ∙ sym (loop .inv .same ∙ whole-by (loop .left) (loop .b .now) (if1 .left) (if2 .left) 11 (c .before .match .keys3))
 
 -- src/types.rt:104:1
-type-within-returns-9 : (t : ℕ) → type-within-lts.Need-returns-9 (
-  attributes-within-below t,
-  attributes-within.Post,
-  entity-within-reads.Asked,
-  entity-within-reads.Learnt,
-) (type-within-at t) type-within.Post type-within-Inv-loop type-within-μ-loop
+type-within-returns-9 : (t : ℕ) → type-within-lts.Need-returns-9 (type-within-callees t)
+    (type-within-at t) type-within.Post type-within-Inv-loop type-within-μ-loop
 type-within-returns-9 t c =
     let if2 = c .before .before .before .before .if2 in
     let if1 = c .before .before .before .before .before .if1 in
@@ -924,12 +588,8 @@ type-within-returns-9 t c =
     sym (loop .inv .same ∙ whole-by (loop .left) (loop .b .now) (if1 .left) (if2 .left) 12 (c .match .keys4))
 
 -- src/types.rt:104:1
-type-within-returns-10 : (t : ℕ) → type-within-lts.Need-returns-10 (
-  attributes-within-below t,
-  attributes-within.Post,
-  entity-within-reads.Asked,
-  entity-within-reads.Learnt,
-) (type-within-at t) type-within.Post type-within-Inv-loop type-within-μ-loop
+type-within-returns-10 : (t : ℕ) → type-within-lts.Need-returns-10 (type-within-callees t)
+    (type-within-at t) type-within.Post type-within-Inv-loop type-within-μ-loop
 type-within-returns-10 t c =
     let if3 = c .before .before .before .if3 in
     let if2 = c .before .before .before .before .before .if2 in
@@ -942,14 +602,7 @@ type-within-returns-10 t c =
 
 pub +attributes-within+type-within-spec : {M : Type 1} → statement M
 +attributes-within+type-within-spec =
-    close μ-attributes-within μ-type-within (λ t. attributes-within-lts.spec (
-      u16-at-reads.Asked,
-      u16-at-reads.Learnt,
-      attribute-follows-reads.Asked,
-      attribute-follows-reads.Learnt,
-      type-within-below t,
-      type-within.Post,
-    )
+    close μ-attributes-within μ-type-within (λ t. attributes-within-lts.spec (attributes-within-callees t)
     (attributes-within-at t)
     attributes-within.Post
     attributes-within-Inv-loop
@@ -988,12 +641,7 @@ pub +attributes-within+type-within-spec : {M : Type 1} → statement M
     (attributes-within-loop-less t)
     (attributes-within-loop-again t)
     (attributes-within-returns-6 t))
-    λ t. type-within-lts.spec (
-      attributes-within-below t,
-      attributes-within.Post,
-      entity-within-reads.Asked,
-      entity-within-reads.Learnt,
-    )
+    λ t. type-within-lts.spec (type-within-callees t)
     (type-within-at t)
     type-within.Post
     type-within-Inv-loop

@@ -24,47 +24,22 @@ abbrev put-decimal-below : ℕ → In 1 put-decimal-kinds.ps
 put-decimal-below t =
     and 1 put-decimal-kinds.ps (falls 1 put-decimal-kinds.ps _<_ μ-put-decimal t) put-decimal.Pre
 
-put-decimal-digit-requires : (t : ℕ) → put-decimal-lts.Need-digit-requires (
-  digit-reads.Asked,
-  digit-reads.Learnt,
-  put-one-reads.Asked,
-  put-one-reads.Learnt,
-  put-decimal-below t,
-  put-decimal.Post,
-) (put-decimal-at t) put-decimal.Post
+abbrev put-decimal-callees : ℕ → put-decimal-lts.Claims
+put-decimal-callees t = (digit-reads.Asked, digit-reads.Learnt, put-one-reads.Asked, put-one-reads.Learnt, put-decimal-below t, put-decimal.Post)
+
+put-decimal-digit-requires : (t : ℕ) → put-decimal-lts.Need-digit-requires (put-decimal-callees t) (put-decimal-at t) put-decimal.Post
 put-decimal-digit-requires t c κs = search needs
 
-put-decimal-put-one-requires : (t : ℕ) → put-decimal-lts.Need-put-one-requires (
-  digit-reads.Asked,
-  digit-reads.Learnt,
-  put-one-reads.Asked,
-  put-one-reads.Learnt,
-  put-decimal-below t,
-  put-decimal.Post,
-) (put-decimal-at t) put-decimal.Post
+put-decimal-put-one-requires : (t : ℕ) → put-decimal-lts.Need-put-one-requires (put-decimal-callees t) (put-decimal-at t) put-decimal.Post
 put-decimal-put-one-requires t c κs =
     let if1 = c .before .before .if1 in
     let start = c .before .before .before .before in
     low-room (start .args .n) (start .args .out .now) (start .pre .1) (if1 .taken)
 
-put-decimal-same-length : (t : ℕ) → put-decimal-lts.Need-same-length (
-  digit-reads.Asked,
-  digit-reads.Learnt,
-  put-one-reads.Asked,
-  put-one-reads.Learnt,
-  put-decimal-below t,
-  put-decimal.Post,
-) (put-decimal-at t) put-decimal.Post
+put-decimal-same-length : (t : ℕ) → put-decimal-lts.Need-same-length (put-decimal-callees t) (put-decimal-at t) put-decimal.Post
 put-decimal-same-length t c = search needs
 
-put-decimal-returns : (t : ℕ) → put-decimal-lts.Need-returns (
-  digit-reads.Asked,
-  digit-reads.Learnt,
-  put-one-reads.Asked,
-  put-one-reads.Learnt,
-  put-decimal-below t,
-  put-decimal.Post,
-) (put-decimal-at t) put-decimal.Post
+put-decimal-returns : (t : ℕ) → put-decimal-lts.Need-returns (put-decimal-callees t) (put-decimal-at t) put-decimal.Post
 put-decimal-returns t c =
     let put-one = c .before .before .put-one in
     let digit = c .before .before .before .digit in
@@ -72,70 +47,28 @@ put-decimal-returns t c =
     let start = c .before .before .before .before .before .before .before in
     low-told (start .args .n) (start .args .out .now) (start .pre .1) (if1 .taken) _ (digit .ensures) (put-one .ensures)
 
-put-decimal-put-decimal-requires : (t : ℕ) → put-decimal-lts.Need-put-decimal-requires (
-  digit-reads.Asked,
-  digit-reads.Learnt,
-  put-one-reads.Asked,
-  put-one-reads.Learnt,
-  put-decimal-below t,
-  put-decimal.Post,
-) (put-decimal-at t) put-decimal.Post
+put-decimal-put-decimal-requires : (t : ℕ) → put-decimal-lts.Need-put-decimal-requires (put-decimal-callees t) (put-decimal-at t) put-decimal.Post
 put-decimal-put-decimal-requires t c κs =
     let start = c .before .before .before in
     (omega (arith, start .pre .0), omega (arith, high-room (start .args .n) (start .args .out .now) (start .pre .1) (c .before .if1 .left)))
 
-put-decimal-sub-put-one : (t : ℕ) → put-decimal-lts.Need-sub-put-one (
-  digit-reads.Asked,
-  digit-reads.Learnt,
-  put-one-reads.Asked,
-  put-one-reads.Learnt,
-  put-decimal-below t,
-  put-decimal.Post,
-) (put-decimal-at t) put-decimal.Post
+put-decimal-sub-put-one : (t : ℕ) → put-decimal-lts.Need-sub-put-one (put-decimal-callees t) (put-decimal-at t) put-decimal.Post
 put-decimal-sub-put-one t c =
     let put-decimal-step = c .before .before .put-decimal in
     let if1 = c .before .before .before .before .if1 in
     let start = c .before .before .before .before .before .before in
     omega (arith, high-room (start .args .n) (start .args .out .now) (start .pre .1) (if1 .left), put-decimal-step .ensures .many, put-decimal-step .kept .1 .0)
 
-put-decimal-part-put-one-start : (t : ℕ) → put-decimal-lts.Need-part-put-one-start (
-  digit-reads.Asked,
-  digit-reads.Learnt,
-  put-one-reads.Asked,
-  put-one-reads.Learnt,
-  put-decimal-below t,
-  put-decimal.Post,
-) (put-decimal-at t) put-decimal.Post
+put-decimal-part-put-one-start : (t : ℕ) → put-decimal-lts.Need-part-put-one-start (put-decimal-callees t) (put-decimal-at t) put-decimal.Post
 put-decimal-part-put-one-start t c = put-decimal-sub-put-one t c
 
-put-decimal-part-put-one-end : (t : ℕ) → put-decimal-lts.Need-part-put-one-end (
-  digit-reads.Asked,
-  digit-reads.Learnt,
-  put-one-reads.Asked,
-  put-one-reads.Learnt,
-  put-decimal-below t,
-  put-decimal.Post,
-) (put-decimal-at t) put-decimal.Post
+put-decimal-part-put-one-end : (t : ℕ) → put-decimal-lts.Need-part-put-one-end (put-decimal-callees t) (put-decimal-at t) put-decimal.Post
 put-decimal-part-put-one-end t c = search needs
 
-put-decimal-digit-requires-2 : (t : ℕ) → put-decimal-lts.Need-digit-requires-2 (
-  digit-reads.Asked,
-  digit-reads.Learnt,
-  put-one-reads.Asked,
-  put-one-reads.Learnt,
-  put-decimal-below t,
-  put-decimal.Post,
-) (put-decimal-at t) put-decimal.Post
+put-decimal-digit-requires-2 : (t : ℕ) → put-decimal-lts.Need-digit-requires-2 (put-decimal-callees t) (put-decimal-at t) put-decimal.Post
 put-decimal-digit-requires-2 t c κs = search needs
 
-put-decimal-put-one-requires-2 : (t : ℕ) → put-decimal-lts.Need-put-one-requires-2 (
-  digit-reads.Asked,
-  digit-reads.Learnt,
-  put-one-reads.Asked,
-  put-one-reads.Learnt,
-  put-decimal-below t,
-  put-decimal.Post,
-) (put-decimal-at t) put-decimal.Post
+put-decimal-put-one-requires-2 : (t : ℕ) → put-decimal-lts.Need-put-one-requires-2 (put-decimal-callees t) (put-decimal-at t) put-decimal.Post
 put-decimal-put-one-requires-2 t c κs =
     let put-decimal-step = c .before .before .before .before .put-decimal in
     let if1 = c .before .before .before .before .before .before .if1 in
@@ -144,38 +77,17 @@ put-decimal-put-one-requires-2 t c κs =
     let by-high-room = high-room (args .n) (args .out .now) (start .pre .1) (if1 .left) in
     omega (arith, by-high-room, written-room (put-decimal-step .ensures) (omega (arith, by-high-room)))
 
-put-decimal-add-result : (t : ℕ) → put-decimal-lts.Need-add-result (
-  digit-reads.Asked,
-  digit-reads.Learnt,
-  put-one-reads.Asked,
-  put-one-reads.Learnt,
-  put-decimal-below t,
-  put-decimal.Post,
-) (put-decimal-at t) put-decimal.Post
+put-decimal-add-result : (t : ℕ) → put-decimal-lts.Need-add-result (put-decimal-callees t) (put-decimal-at t) put-decimal.Post
 put-decimal-add-result t c =
     let put-decimal-step = c .before .before .before .before .before .before .before .put-decimal in
     let if1 = c .before .before .before .before .before .before .before .before .before .if1 in
     let start = c .before .before .before .before .before .before .before .before .before .before .before in
     omega (arith, high-room (start .args .n) (start .args .out .now) (start .pre .1) (if1 .left), put-decimal-step .ensures .many, start .good)
 
-put-decimal-same-length-2 : (t : ℕ) → put-decimal-lts.Need-same-length-2 (
-  digit-reads.Asked,
-  digit-reads.Learnt,
-  put-one-reads.Asked,
-  put-one-reads.Learnt,
-  put-decimal-below t,
-  put-decimal.Post,
-) (put-decimal-at t) put-decimal.Post
+put-decimal-same-length-2 : (t : ℕ) → put-decimal-lts.Need-same-length-2 (put-decimal-callees t) (put-decimal-at t) put-decimal.Post
 put-decimal-same-length-2 t c = search needs
 
-put-decimal-returns-2 : (t : ℕ) → put-decimal-lts.Need-returns-2 (
-  digit-reads.Asked,
-  digit-reads.Learnt,
-  put-one-reads.Asked,
-  put-one-reads.Learnt,
-  put-decimal-below t,
-  put-decimal.Post,
-) (put-decimal-at t) put-decimal.Post
+put-decimal-returns-2 : (t : ℕ) → put-decimal-lts.Need-returns-2 (put-decimal-callees t) (put-decimal-at t) put-decimal.Post
 put-decimal-returns-2 t c =
     let put-one2 = c .before .before .put-one2 in
     let digit2 = c .before .before .before .digit2 in
@@ -185,14 +97,7 @@ put-decimal-returns-2 t c =
     high-told (start .args .n) (start .args .out .now) (start .pre .1) (if1 .left) _ (put-decimal-step .ensures) (digit2 .ensures) (put-one2 .ensures)
 
 pub +put-decimal-spec : {M : Type 1} → statement M
-+put-decimal-spec = close μ-put-decimal λ t. put-decimal-lts.spec (
-  digit-reads.Asked,
-  digit-reads.Learnt,
-  put-one-reads.Asked,
-  put-one-reads.Learnt,
-  put-decimal-below t,
-  put-decimal.Post,
-)
++put-decimal-spec = close μ-put-decimal λ t. put-decimal-lts.spec (put-decimal-callees t)
     (put-decimal-at t)
     put-decimal.Post
     (put-decimal-digit-requires t)
