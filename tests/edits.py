@@ -23,11 +23,13 @@ from dataclasses import dataclass
 from pathlib import Path
 
 ROOT = Path(__file__).resolve().parent.parent
-SHOWN = 240  # characters of a line
+SHOWN = 320  # characters of a line
+QUOTED = 48  # characters of a term in it
 
 # What the prover says of a term whose type is another, and of a need that nothing proves.
 COMPUTED = "computed as far as they go, "
-MISMATCH = re.compile(rf"{COMPUTED}|as printed, the two |expected type `|`omega`: the (part \S+ of the )?goal does not follow"
+PRINTED = "as printed, the two "
+MISMATCH = re.compile(rf"{COMPUTED}|{PRINTED}|expected type `|`omega`: the (part \S+ of the )?goal does not follow"
                       r"|`search`: no proof of ")
 FOLLOWS = re.compile(r"`[^`]+` was not admitted ")
 
@@ -139,11 +141,15 @@ def needs(log, where, edit, texts):
             yield f"{m[1]}:{m[2]}", m[3]
 
 
+def shorter(term):
+    return term if len(term) <= QUOTED else f"{term[:QUOTED // 2]} .. {term[-QUOTED // 2:]}"
+
+
 def difference(text):
-    """What differs, of the words of an error; '..' for the way to a place of the code."""
+    """What differs, of the words of an error; '..' for the way to a place of the code, and within a long term."""
     text = re.sub(r"(?: \.before)+", " ..", text.partition(COMPUTED)[2] or text)
     end = re.search(r" \((found|the expected type's)\)", text)
-    return text[:end.end()] if end else text
+    return re.sub(r"`([^`]+)`", lambda quoted: f"`{shorter(quoted[1])}`", text[:end.end()] if end else text)
 
 
 def verdict(log, where, edit, texts):
@@ -155,7 +161,7 @@ def verdict(log, where, edit, texts):
         return False, "the proof is not of this code: {} {}".format(*other[0])
     own += needs(log, where, edit, texts)
     if own:
-        place, text = min(own, key=lambda error: COMPUTED not in error[1])
+        place, text = min(own, key=lambda error: [COMPUTED not in error[1], PRINTED not in error[1]])
         return True, f"{place} {difference(text)}"
     return False, f"no error of its own at {edit.fails}" + (", only what follows from another's" if met else "")
 

@@ -5,6 +5,9 @@ position.
 
 Then shows that entries.c would tell: the linker puts a function before each entry that passes its arguments on as an entry
 would see them whose source has two parameters exchanged. For each entry and each two of its parameters the lines must differ.
+
+And holds the stack that tests/stack.c sees the test of a form take to what is promised: nothing for a set, one step for each
+record, none below the level that is one too many.
 """
 import itertools
 import os
@@ -20,6 +23,10 @@ LIBRARY = ROOT / "target/staticlib/libexports.a"
 ENTRY = re.compile(r'pub extern "C" fn (\w+)\((.*?)\) -> u64', re.S)
 CTYPES = {"u8": ["uint8_t"], "u16": ["uint16_t"], "u64": ["uint64_t"], "&[u8]": ["const uint8_t *", "size_t"],
           "&mut [u8]": ["uint8_t *", "size_t"]}
+
+REFUSED, NO, WROTE = 0, 2, 4  # kinds of an answer
+SCHEMA, TYPE = 2, 3  # refusals
+LEVELS = 16
 
 
 def entries():
@@ -88,6 +95,30 @@ def exchange_tests(folder, expected):
     return tests
 
 
+def stack_lines(folder):
+    """What stack.c tells of each form, by kind, count and what stands below: the answer's kind and value, and the stack."""
+    text, _ = printed(compiled(folder / "stack", ROOT / "tests/stack.c"))
+    lines = [line.split() for line in text.splitlines()]
+    return {(what, int(count), below): tuple(map(int, words)) for what, count, below, *words in lines}
+
+
+def stack_tests(told):
+    """A chain of sets takes the stack of one set if it is whole, and no more if it is refused: as a type, in a list, in a schema's
+    body. Each record takes as much as any other, up to the level that is one too many."""
+    places = {"sets": (15, NO, TYPE), "sets-in-list": (15, WROTE, TYPE), "sets-in-schema": (14, NO, SCHEMA)}
+    one, two = (told["records", count, "long"][2] for count in (1, 2))
+    tests = {"each record takes some stack": one < two}
+    for (what, count, below), (kind, value, stack) in told.items():
+        if what == "records":
+            held = stack == one + (two - one) * (min(count, LEVELS) - 1)
+        elif below == "long" and count <= places[what][0]:
+            held = kind == places[what][1] and stack == told[what, 1, "long"][2]
+        else:
+            held = (kind, value) == (REFUSED, places[what][2]) and stack <= told[what, 1, "long"][2]
+        tests[f"the stack of {count} {what} over {below}"] = held
+    return tests
+
+
 def main():
     resource.setrlimit(resource.RLIMIT_CORE, (0, 0))
     example, expected = ((ROOT / path).read_text() for path in ("bindings/c/example.stdout", "crates/entries/stdout"))
@@ -98,6 +129,7 @@ def main():
             "the C entries": printed(compiled(folder / "entries", ROOT / "tests/entries.c")) == (expected, 0),
             "each entry is called": all(f"\n{name[len('tirncheav_'):]} 0x" in "\n" + expected for name, _ in entries()),
             **exchange_tests(folder, expected),
+            **stack_tests(stack_lines(folder)),
         }
     failed = [name for name, held in tests.items() if not held]
     for name in failed:

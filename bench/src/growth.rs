@@ -45,6 +45,30 @@ fn row(what: &str, width: u16, levels: usize) {
     );
 }
 
+/// Chains of 07, whole and refused, beside a form of one byte.
+fn print_chains() {
+    let chain = |sets: usize, below: &[u8]| [&vec![7; sets], below].concat();
+    let rows = [
+        ("Long", chain(0, &[4])),
+        ("one set of Long", chain(1, &[4])),
+        ("15 sets of Long", chain(15, &[4])),
+        ("16 sets of Long: 3", chain(16, &[4])),
+        ("4,096 bytes of 07: 3", chain(4096, &[])),
+    ];
+    println!("| Sets | bytes | whole, ns | ratio to Long |");
+    println!("|---|---|---|---|");
+    let times = rows
+        .each_ref()
+        .map(|(_, form)| nanoseconds(DISJOINT, form, &[4]));
+    for ((what, form), ns) in rows.iter().zip(times) {
+        println!(
+            "| {what} | {} | {ns:.1} | {:.2} |",
+            form.len(),
+            ns / times[0]
+        );
+    }
+}
+
 pub fn print() {
     println!("| Records | bytes of one | whole, ns | GB/s | is_subtype, ns | ns a byte | least_upper_bound, ns | ns a byte |");
     println!("|---|---|---|---|---|---|---|---|");
@@ -54,4 +78,6 @@ pub fn print() {
     for levels in [2, 4, 8, 16] {
         row(&format!("{levels} levels of 42"), 42, levels);
     }
+    println!();
+    print_chains();
 }

@@ -1,5 +1,7 @@
 //! Every question of certain small kinds, as jobs.
 
+mod chains;
+
 use crate::questions::operation::*;
 use crate::trees::{
     job_form, list_form, ActionEntry, Ask, Attr, EntityEntry, FunctionEntry, Sch, Ty, Val,
@@ -134,6 +136,11 @@ struct Jobs {
 
 impl Jobs {
     fn ask(&mut self, op: u8, mode: u8, attr: u16, t0: &[u8], t1: &[u8]) {
+        let bytes = 8 + t0.len() + t1.len();
+        if self.bytes + bytes > JOB {
+            self.close();
+        }
+        self.bytes += bytes;
         self.asks.push(Ask {
             op,
             mode,
@@ -141,10 +148,11 @@ impl Jobs {
             t0: t0.to_vec(),
             t1: t1.to_vec(),
         });
-        self.bytes += 8 + t0.len() + t1.len();
-        if self.bytes > JOB {
-            self.close();
-        }
+    }
+
+    /// A job of its own, with another schema.
+    fn with(&mut self, schema: &[u8], asks: &[Ask]) {
+        self.jobs.push(job_form(schema, asks));
     }
 
     fn close(&mut self) {
@@ -167,6 +175,7 @@ pub fn jobs() -> Vec<Vec<u8>> {
     singles(&mut jobs, &types);
     folds(&mut jobs, &types);
     short_bytes(&mut jobs);
+    chains::ask_all(&mut jobs);
     jobs.close();
     jobs.jobs
 }

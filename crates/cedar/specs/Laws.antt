@@ -12,6 +12,7 @@ pub mod ListForm
 pub mod SchemaForm
 pub mod JobForm
 pub mod Whole
+pub mod Chains
 pub mod Attributes
 pub mod Names
 pub mod Result

@@ -100,8 +100,8 @@ fn attributes_within(t: &[u8], at: usize, levels: usize) -> bool
     b.len() == 0
 }
 
-// Whether t is a whole type form of at most so many levels. It walks a part of t, since a slice that is handed on as it
-// came is copied through memory at each call, which takes several times as long.
+// Whether t is a whole type form of at most so many levels. A loop that calls nothing goes down a chain of sets. It walks a
+// part of t, since a slice that is handed on as it came is copied through memory at each call, which takes several times as long.
 pub fn type_within(t: &[u8], levels: usize) -> bool
     ensures { λ r. ⌜ r ≡ whole levels (now (t .entry)) ⌝ }
 {

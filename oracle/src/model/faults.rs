@@ -204,4 +204,8 @@ pub const FAULTS: &[(u32, &str)] = &[
     (213, "the first body of a question comes after the second"),
     (214, "the part is the first body that equals the attribute's"),
     (215, "the part is where its bytes first stand in the form"),
+    (216, "a chain of sets with nothing below it is taken at the end of the bytes"),
+    (217, "a record below a chain of sets has a level more"),
+    (218, "what stands below a chain of sets has a level more"),
+    (219, "a chain of sets goes on past its body"),
 ];

@@ -56,14 +56,12 @@ impl<'a> Reading<'a> {
         }
         match self.byte()? {
             kind @ (0..=6 | 9) => Some(Ty::Atom(kind)),
+            7 if self.at_end() && self.rules.fault(216) => Some(Ty::Set(Box::new(Ty::Atom(0)))),
             7 => {
                 let below = self.rules.or(14, levels - 1, levels);
-                Some(Ty::Set(Box::new(self.ty(below)?)))
+                Some(Ty::Set(Box::new(self.element(below)?)))
             }
-            8 => {
-                let open = self.bit(5)?;
-                Some(Ty::Rec(open, self.attrs(levels - 1)?))
-            }
+            8 => self.record(levels - 1),
             10 => Some(Ty::Ent(self.names()?)),
             11 => {
                 let name = self.u16()?;
@@ -73,6 +71,24 @@ impl<'a> Reading<'a> {
             12 => Some(Ty::Ext(self.u16()?)),
             _ => None,
         }
+    }
+
+    /// What stands below a set.
+    fn element(&mut self, levels: usize) -> Option<Ty> {
+        match self.bytes.get(self.at) {
+            Some(7) | None => self.ty(levels),
+            Some(8) if self.rules.fault(217) && levels > 0 => {
+                self.at += 1;
+                self.record(levels)
+            }
+            _ => self.ty(self.rules.or(218, levels, levels + 1)),
+        }
+    }
+
+    /// A record behind its first byte; each body has `levels` left.
+    fn record(&mut self, levels: usize) -> Option<Ty> {
+        let open = self.bit(5)?;
+        Some(Ty::Rec(open, self.attrs(levels)?))
     }
 
     fn names(&mut self) -> Option<Vec<u16>> {
@@ -99,6 +115,9 @@ impl<'a> Reading<'a> {
         for (name, required, length) in heads {
             let start = self.at;
             let ty = self.ty(levels)?;
+            if self.rules.fault(219) && matches!(ty, Ty::Set(_)) && self.at - start > length {
+                self.at = start + length;
+            }
             if self.at - start != length && !self.rules.fault(9) {
                 return None;
             }
