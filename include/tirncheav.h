@@ -3,7 +3,8 @@
  *
  * Every form comes as a pointer and a length, and is checked: any bytes are safe to pass. A pointer must be readable, or
  * for `out` and `work` writable, over its length; it is not kept after the call. `out` and `work` must not overlap each
- * other or any form. A length of 0 still asks for a pointer that is not null.
+ * other or any form. A length of 0 still asks for a pointer that is not null. No bytes can use up a stack: the test of a
+ * form calls itself at most once for each of its 16 levels, and not at all for sets in sets.
  *
  * Every call answers one number. Its low byte is the kind; TIRNCHEAV_VALUE is the rest: the number of the question that
  * refused, or how many bytes were written. For a part of the caller's own form the rest is where it starts and ends.
