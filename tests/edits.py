@@ -23,7 +23,7 @@ from dataclasses import dataclass
 from pathlib import Path
 
 ROOT = Path(__file__).resolve().parent.parent
-SHOWN = 320  # characters of a line
+SHOWN = 360  # characters of a line
 QUOTED = 48  # characters of a term in it
 
 # What the prover says of a term whose type is another, and of a need that nothing proves.
