@@ -88,7 +88,7 @@ fn ask_literal(schema: &[u8]) {
 }
 
 // Disjoint and bound are the same both ways round, so their second question has a second type that is not whole.
-pub fn ask_all(schema: &[u8]) {
+pub(crate) fn ask_all(schema: &[u8]) {
     ask_disjoint(&Form::ENTITY_2, &Form::ENTITY_4);
     ask_disjoint(&Form::LONG, &Form::BROKEN);
     ask_subtype(schema);

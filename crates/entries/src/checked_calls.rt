@@ -102,7 +102,8 @@ fn ask_literal(schema: &[u8]) {
     print_result(b"euid_literal_checked", n, &out);
 }
 
-pub fn ask_all_checked(schema: &[u8]) {
+// Each of them once; the bound twice, as without a check.
+pub(crate) fn ask_all_checked(schema: &[u8]) {
     ask_check(schema);
     ask_subtype(schema);
     ask_bound(schema, &Form::ENTITY_2, &Form::ENTITY_4);
@@ -117,7 +118,7 @@ pub fn ask_all_checked(schema: &[u8]) {
 }
 
 // The entries that read nothing of a whole schema, under one that is not whole.
-pub fn ask_broken(schema: &[u8]) {
+pub(crate) fn ask_broken(schema: &[u8]) {
     ask_check(schema);
     ask_subtype(schema);
     ask_bound(schema, &Form::ENTITY_2, &Form::ENTITY_4);

@@ -11,20 +11,20 @@ fn print_said(entry: &[u8], n: u64) {
 }
 
 // Prints the line of an entry that takes no buffer.
-pub fn print_number(entry: &[u8], n: u64) {
+pub(crate) fn print_number(entry: &[u8], n: u64) {
     print_said(entry, n);
     write_output(b"\n");
 }
 
 // Prints the line of an entry that takes a result buffer.
-pub fn print_result(entry: &[u8], n: u64, out: &[u8]) {
+pub(crate) fn print_result(entry: &[u8], n: u64, out: &[u8]) {
     print_said(entry, n);
     print_bytes(out);
     write_output(b"\n");
 }
 
 // Prints the line of an entry that takes a result buffer and a workspace.
-pub fn print_both(entry: &[u8], n: u64, out: &[u8], work: &[u8]) {
+pub(crate) fn print_both(entry: &[u8], n: u64, out: &[u8], work: &[u8]) {
     print_said(entry, n);
     print_bytes(out);
     print_bytes(work);

@@ -54,5 +54,6 @@ module _ {S H : Type 0} where
       && (leb (tableEnd r c b) (length b)
       && rowsTo r w noneLeft (rd b c) s (part (c + 2) (tableEnd r c b) b) (rest (tableEnd r c b) b))
 
+  -- The heads and bodies that it says.
   abbrev pub tableOf : {A : Type 0} → Row S H → (H → List ℕ → A) → ℕ → List ℕ → List (H × A)
   tableOf r d c b = rowsOf r d (rd b c) (part (c + 2) (tableEnd r c b) b) (rest (tableEnd r c b) b)

@@ -84,6 +84,7 @@ impl Openness {
 
     pub const OPEN: u8 = 1;
 
+    // The byte of a record that is open, or is not.
     pub fn of(is_open: bool) -> u8
         ensures { λ r. ⌜ r ≡ flag is_open ⌝ }
     {
@@ -102,6 +103,7 @@ impl Requirement {
 
     pub const REQUIRED: u8 = 1;
 
+    // The byte of an attribute that is required, or is not.
     pub fn of(required: bool) -> u8
         ensures { λ r. ⌜ r ≡ flag required ⌝ }
     {

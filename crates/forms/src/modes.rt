@@ -20,6 +20,7 @@ impl Mode {
 
     pub const PERMISSIVE: u8 = 1;
 
+    // The mode of a number.
     pub fn from_number(n: u8) -> KnownMode
         ensures { λ r. ⌜ modeIn r ≡ modeOf n ⌝ }
     {
@@ -30,6 +31,7 @@ impl Mode {
         }
     }
 
+    // Whether the permissive rules hold.
     pub fn is_permissive(self) -> bool
         ensures { λ r. ⌜ r ≡ isPermissive (asMode self) ⌝ }
     {

@@ -90,7 +90,7 @@ fn ask_literal(schema: &[u8], check: Checked)
 }
 
 // The bound is the same both ways round, so its second question has a second type that is not whole.
-pub fn ask_all(schema: &[u8], check: Checked)
+pub(crate) fn ask_all(schema: &[u8], check: Checked)
     requires { ⌜ check ≡ checked (now schema) ⌝ }
 {
     ask_tests(schema, check);

@@ -6,14 +6,14 @@ use trial::print_hex;
 use validator::answers::Answer;
 
 // Prints the line of a call that takes no buffer.
-pub fn print_line(call: &[u8], answer: Answer) {
+pub(crate) fn print_line(call: &[u8], answer: Answer) {
     write_output(call);
     print_answer(answer);
     write_output(b"\n");
 }
 
 // Prints the line of a call that takes a result buffer.
-pub fn print_result(call: &[u8], answer: Answer, out: &[u8]) {
+pub(crate) fn print_result(call: &[u8], answer: Answer, out: &[u8]) {
     write_output(call);
     print_answer(answer);
     print_bytes(out);
@@ -21,7 +21,7 @@ pub fn print_result(call: &[u8], answer: Answer, out: &[u8]) {
 }
 
 // Prints the line of a call that takes a result buffer and a workspace.
-pub fn print_both(call: &[u8], answer: Answer, out: &[u8], work: &[u8]) {
+pub(crate) fn print_both(call: &[u8], answer: Answer, out: &[u8], work: &[u8]) {
     write_output(call);
     print_answer(answer);
     print_bytes(out);
@@ -30,7 +30,7 @@ pub fn print_both(call: &[u8], answer: Answer, out: &[u8], work: &[u8]) {
 }
 
 // Prints the line of the call that hands back a part: the byte that tells which, and the part.
-pub fn print_part(call: &[u8], told: u8, part: &[u8]) {
+pub(crate) fn print_part(call: &[u8], told: u8, part: &[u8]) {
     write_output(call);
     print_hex(told as u64, 2);
     print_bytes(part);

@@ -27,6 +27,7 @@ headWithin Cut = Unit {0}
 headWithin TooLong = Unit {0}
 headWithin Unreadable = Unit {0}
 
+-- What the head of n bytes is, case by case.
 module _ (b : List ℕ) (n : ℕ) where
   pub head-end : n ≡ 0 → End ≡ headOf b n
   unfolding headOf

@@ -28,6 +28,7 @@ fn check_at(block: &[u8], entities: usize, actions: usize, functions: usize) -> 
 }
 
 impl<'a> ValidatorSchema<'a> {
+    // A block, with what its check found.
     pub fn new(block: &'a [u8]) -> ValidatorSchema<'a>
         ensures { λ r. ⌜ (r .block ≡ block .entry) × OwnCheck r ⌝ }
     {

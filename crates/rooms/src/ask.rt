@@ -88,7 +88,7 @@ fn untouched() -> [u8; Form::LARGEST]
 }
 
 // Prints the line of a call.
-pub fn print_answer(call: Call, schema: &[u8], first: &[u8], second: &[u8])
+pub(crate) fn print_answer(call: Call, schema: &[u8], first: &[u8], second: &[u8])
     requires { ⌜ (call .room < 65536) × (call .workspace < 65536) ⌝ }
 {
     let operation = call.operation;

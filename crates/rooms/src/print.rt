@@ -10,7 +10,7 @@ use validator::own_attribute_type::OwnPart;
 use validator::own_attribute_type::Told;
 
 // Prints what an entry answered and left in its buffers.
-pub fn print_left(answer: Answer, result: &[u8], work: &[u8]) {
+pub(crate) fn print_left(answer: Answer, result: &[u8], work: &[u8]) {
     print_answer(answer);
     print_bytes(result);
     print_bytes(work);
@@ -27,7 +27,7 @@ fn print_place(word: &[u8], place: OwnPart) {
 }
 
 // Prints what the second entry of lookup told, where the part stands, and the part that it handed back.
-pub fn print_part(told: u8, place: OwnPart, part: &[u8]) {
+pub(crate) fn print_part(told: u8, place: OwnPart, part: &[u8]) {
     match told {
         Told::NOTHING => {
             write_output(b"0 none");

@@ -10,7 +10,7 @@ enum Put {
 }
 
 // Whether the call that just failed is worth another try: a signal came first, or the pipe was full or empty for now.
-pub fn may_try_again() -> bool {
+pub(crate) fn may_try_again() -> bool {
     let error = os::errno();
     if error == libc::EINTR {
         return true;

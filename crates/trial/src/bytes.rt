@@ -2,7 +2,7 @@
 use streams::write_output;
 
 // Prints a number.
-pub fn print_decimal(n: usize) {
+pub(crate) fn print_decimal(n: usize) {
     let mut text = [0u8; 20];
     let k = io::decimal(n as u64, &mut text);
     write_output(&text[..k]);

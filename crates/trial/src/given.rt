@@ -1,4 +1,7 @@
 // What a call is given: forms, and buffers that are filled with what no call writes.
+ghost use mathlib.Core.Path.{_≡_};
+ghost use lib.ListN.{replicate};
+
 pub struct Form;
 
 impl Form {
@@ -90,10 +93,16 @@ impl Form {
     pub const UID_3: [u8; 5] = [4, 3, 0, 0, 0];
 }
 
-pub fn result() -> [u8; 12] {
+// A result buffer before a call.
+pub fn result() -> [u8; 12]
+    ensures { λ r. ⌜ r ≡ replicate 12 165 ⌝ }
+{
     [165; 12]
 }
 
-pub fn workspace() -> [u8; 15] {
+// A workspace before a call.
+pub fn workspace() -> [u8; 15]
+    ensures { λ r. ⌜ r ≡ replicate 15 165 ⌝ }
+{
     [165; 15]
 }

@@ -1,4 +1,4 @@
-// Whether a type and a core type may have a value in common.
+// Whether a type is consistent with a plain one, by the Rust's test; neither answer says whether a value has both.
 use crate::answers::Answer;
 use crate::answers::yes_or_no;
 use forms::limits::Limits;
