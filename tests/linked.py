@@ -110,7 +110,8 @@ def stack_tests(told):
     tests = {"each record takes some stack": one < two}
     for (what, count, below), (kind, value, stack) in told.items():
         if what == "records":
-            held = stack == one + (two - one) * (min(count, LEVELS) - 1)
+            said = kind == NO if count < LEVELS else (kind, value) == (REFUSED, TYPE)
+            held = said and stack == one + (two - one) * (min(count, LEVELS) - 1)
         elif below == "long" and count <= places[what][0]:
             held = kind == places[what][1] and stack == told[what, 1, "long"][2]
         else:
