@@ -3,7 +3,7 @@ use Prim.Native.Nat.{ℕ}
 use mathlib.Core.List.{List, [], _∷_}
 use mathlib.Core.Bool.{Bool, false, not, _&&_, _||_, cond}
 use lib.Dec.{eqb, ltb}
-use Rattle.cedar.specs.Types.{Mode, strict, isPermissive, true′, false′, bool, anyent, Ty, atom, set, rec, act, ent, ext, Attrs, nil, attr}
+use Rattle.cedar.specs.Types.{Mode, strict, isPermissive, isLoose, true′, false′, bool, anyset, anyent, Ty, atom, set, rec, act, ent, ext, Attrs, nil, attr}
 use Rattle.cedar.specs.Types.{maybe, is, eqFlag, eqNames, names, find, asSet, asRec, asAct, asEnt, isEntity, isRecord}
 use Rattle.cedar.specs.Result.{Result, ok, err, bind, attributeQualifier, recordWidth, entityType, entityRecord, noBound}
 use Rattle.cedar.specs.Subtype.{sub}
@@ -65,15 +65,20 @@ joinOne m n r s b cs = cond (isPermissive m) (joinKept n r s b cs) (joinEqual n 
 abbrev pub joinRecord : Bool → Bool → Attrs → Attrs → Attrs → Ty
 joinRecord o p xs ys cs = rec (o || p || lost cs xs ys) cs
 
+-- Set with set: by their elements' bound; loose, where the elements have none, 06.
+abbrev pub joinSet : Mode → Result Ty → Result Ty
+joinSet m (ok c) = ok (set c)
+joinSet m (err e) = cond (isLoose m) (ok (atom anyset)) (err e)
+
 -- Entity with entity: permissive the union, strict 13.
 abbrev pub joinNames : Mode → List ℕ → List ℕ → Result Ty
 joinNames m ns ks = cond (isPermissive m) (ok (ent (union ns ks))) (err entityType)
 
 unfoldable mutual
-  -- `bound m a b`: the least upper bound, or why there is none. Actions of one name join strictly in both modes.
+  -- `bound m a b`: the least upper bound, or why there is none. Actions of one name join strictly in every mode.
   pub bound : Mode → Ty → Ty → Result Ty
   bound m (atom k) b = upper m (atom k) b (cond (isTruth (atom k) && isTruth b) (ok (atom bool)) (apart m (atom k) b))
-  bound m (set t) b = upper m (set t) b (maybe (apart m (set t) b) (λ u. bind (bound m t u) (λ c. ok (set c))) (asSet b))
+  bound m (set t) b = upper m (set t) b (maybe (apart m (set t) b) (λ u. joinSet m (bound m t u)) (asSet b))
   bound m (rec o xs) b = upper m (rec o xs) b (maybe (apart m (rec o xs) b)
       (λ y. bind (sameNames m xs (y .1) (joinAttrs m xs (y .1))) (λ cs. ok (joinRecord o (y .0) xs (y .1) cs))) (asRec b))
   bound m (act n xs) b = upper m (act n xs) b (maybe (apart m (act n xs) b)

@@ -5,7 +5,7 @@ use mathlib.Core.Bool.{Bool, true, false}
 use mathlib.Core.Option.{Option, none, some}
 use lib.Dec.{leb}
 use lib.ListN.{length}
-use Rattle.cedar.specs.Types.{Mode, strict, permissive, Ty, maybe}
+use Rattle.cedar.specs.Types.{Mode, strict, permissive, loose, Ty, maybe}
 use Rattle.cedar.specs.Bytes.{encNames, _>>=_, guard}
 use Rattle.cedar.specs.TypeForm.{enc}
 use Rattle.cedar.specs.Limits.{Limits}
@@ -27,11 +27,12 @@ use Rattle.cedar.specs.Conformance.{Verdict, holds, fails, failsInside, 
 abbrev pub ask : {A : Type 0} → ℕ → Option A → (A → Outcome) → Outcome
 ask n o k = maybe (refused n) k o
 
--- Mode 0 is strict, 1 permissive.
+-- Mode 0 is strict, 1 permissive, 2 loose.
 abbrev pub modeOf : ℕ → Option Mode
 modeOf zero = some strict
 modeOf (suc zero) = some permissive
-modeOf (suc (suc n)) = none
+modeOf (suc (suc zero)) = some loose
+modeOf (suc (suc (suc n))) = none
 
 -- Is an answer of these bytes within the result buffer and the limit on a form's length?
 abbrev pub answerFits : Limits → ℕ → List ℕ → Bool

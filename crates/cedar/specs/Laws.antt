@@ -35,3 +35,4 @@ pub mod Carried
 pub mod Sequence
 pub mod SequenceExample
 pub mod Starred
+pub mod Loose

@@ -5,14 +5,21 @@ use mathlib.Core.Bool.{Bool, true, false, not, _&&_, _||_, cond}
 use mathlib.Core.Option.{Option, none, some}
 use lib.Dec.{eqb}
 
--- `ValidationMode`, 01 part 1: strict or permissive.
+-- `ValidationMode`, 01 part 1: strict or permissive; and loose, which the Rust lacks: as permissive but for sets.
 pub data Mode : Type 0 where
-  strict permissive : Mode
+  strict permissive loose : Mode
 
--- Every rule reads the mode through this test.
+-- Every rule reads the mode through this test and the next.
 abbrev pub isPermissive : Mode → Bool
 isPermissive strict = false
 isPermissive permissive = true
+isPermissive loose = true
+
+-- Sets alone ask this one.
+abbrev pub isLoose : Mode → Bool
+isLoose strict = false
+isLoose permissive = false
+isLoose loose = true
 
 -- The kinds of type without parts. `anyset` is the untyped set, `anyent` any entity.
 pub data Atom : Type 0 where

@@ -7,9 +7,10 @@ use mathlib.Core.Path.{_≡_, refl, sym, ap, _∙_, subst}
 use mathlib.Core.Option.{Option, none, some}
 use mathlib.Core.Logic.{_⊎_, inl, inr}
 use lib.Dec.{T, eqb, eqb→eq}
-use Rattle.cedar.specs.Types.{Mode, bool, Ty, atom, set, rec, act, ent, ext, Attrs, attr, Value, Pairs, Schema, maybe, eqNames, mem, names, find}
+use Rattle.cedar.specs.Types.{Mode, strict, bool, anyset, Ty, atom, set, rec, act, ent, ext, Attrs, attr, Value, Pairs, Schema, maybe, eqNames, mem, names, find}
 use Rattle.cedar.specs.Laws.Shape.{Ordered, OrderedFrom}
 use Rattle.cedar.specs.Result.{ok}
+use Rattle.cedar.specs.Subtype.{sub}
 use Rattle.cedar.specs.Bound.{isTruth, lost, bound}
 use Rattle.cedar.specs.Conformance.{fails, verdict, Counts, uidType, members, pairs, eachValue, eachPair, hasName, hasRequired, conforms, conformsAt}
 use Rattle.cedar.specs.Laws.Tests.{T-and, and-T, T-case, cond-both, not-both, eqb-differ}
@@ -18,7 +19,7 @@ use Rattle.cedar.specs.Laws.Attributes.{find-equal, find-other, find-bel
 use Rattle.cedar.specs.Laws.Names.{In, union-left, union-right}
 use Rattle.cedar.specs.Laws.Verdicts.{Holds, verdict→T, T→verdict, andThen→, →andThen, maybe-map, eachValue-map, eachPair-map}
 use Rattle.cedar.specs.Laws.SubtypeSound.{required-found, conformsAt-find, entity-sound, truth-sound, sub-sound}
-use Rattle.cedar.specs.Laws.Join.{Join, under, over, truths, entities, sets, records, actions, unions, JoinAttrs, done, drop, keep, bound-join}
+use Rattle.cedar.specs.Laws.Join.{Join, under, over, truths, entities, untyped, sets, records, actions, unions, JoinAttrs, done, drop, keep, bound-join}
 use Rattle.cedar.specs.Laws.Join.{joinAttrs-ordered}
 
 -- Required names.
@@ -113,6 +114,10 @@ module _ (rule : Counts) (schema : Schema) where
   unfolding conforms
   act-name n l xs cs v e c = subst (λ (i : ℕ). Holds (conforms rule schema (act i cs) v)) e c
 
+  untyped-sound : (t : Ty) (v : Value) → Holds (conforms rule schema (set t) v) → Holds (conforms rule schema (atom anyset) v)
+  unfolding sub
+  untyped-sound t v c = sub-sound rule schema (atom anyset) strict (set t) v tt c
+
   mutual
     unfolding conforms Ordered
 
@@ -127,6 +132,8 @@ module _ (rule : Counts) (schema : Schema) where
     join-sound (truths {b = b} h k) oa ob v (inr c) = truth-of b v k c
     join-sound (entities {a = a} h k) oa ob v (inl c) = entity-sound rule schema a v h c
     join-sound (entities {b = b} h k) oa ob v (inr c) = entity-sound rule schema b v k c
+    join-sound (untyped {t = t} h) oa ob v (inl c) = untyped-sound t v c
+    join-sound (untyped {u = u} h) oa ob v (inr c) = untyped-sound u v c
     join-sound (sets {t = t} {u = u} {c = w} j) oa ob v (inl c) =
         maybe-map (members v) (eachValue (λ x. conforms rule schema t x)) (eachValue (λ x. conforms rule schema w x))
         (λ vs k. eachValue-map vs (λ x. conforms rule schema t x) (λ x. conforms rule schema w x) (λ x e. join-sound j oa ob x (inl e)) k) c

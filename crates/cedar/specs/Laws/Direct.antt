@@ -13,7 +13,7 @@ use Rattle.cedar.specs.Types.{maybe, is, eqFlag, eqNames, names, find, s
 use Rattle.cedar.specs.Laws.Shape.{Ascend, Ordered, OrderedFrom}
 use Rattle.cedar.specs.Subtype.{subFlag, subNames, subRecord, sub, subAttrs}
 use Rattle.cedar.specs.Result.{Result, ok, bind}
-use Rattle.cedar.specs.Bound.{apart, lost, sameNames, absent, joinOne, joinRecord, upper, bound, joinAttrs}
+use Rattle.cedar.specs.Bound.{apart, lost, sameNames, absent, joinOne, joinSet, joinRecord, upper, bound, joinAttrs}
 use Rattle.cedar.specs.Laws.DirectBound.{directNames, direct, directAttrs}
 use Rattle.cedar.specs.Laws.Tests.{T-and, and-T, T-or, or-inl, or-inr, or-map, or-false, T→true, not-T→false, T-ext}
 use Rattle.cedar.specs.Laws.Tests.{cond-both, maybe-cong, eqb-true, compare-names}
@@ -91,7 +91,7 @@ mutual
   pub direct-right : (a : Ty) (m : Mode) (b : Ty) → Ordered a → Ordered b → T (sub m b a) → direct m a b ≡ ok a
   direct-right (atom k) m b oa ob h = upper-right m (atom k) b _ h (λ g. atom-anti m k b g h)
   direct-right (set t) m (atom j) oa ob h = never-right m (set t) j h refl
-  direct-right (set t) m (set u) oa ob h = ap (λ r. bind r (λ c. ok (set c))) (direct-right t m u oa ob h)
+  direct-right (set t) m (set u) oa ob h = ap (joinSet m) (direct-right t m u oa ob h)
   direct-right (set t) m (rec p ys) oa ob h = absurd h
   direct-right (set t) m (act k ys) oa ob h = absurd h
   direct-right (set t) m (ent ks) oa ob h = absurd h
@@ -168,7 +168,7 @@ mutual
   direct-left : (a : Ty) (m : Mode) (b : Ty) → Ordered a → Ordered b → T (sub m a b) → direct m a b ≡ ok b
   direct-left (atom k) m b oa ob h = upper-left m (atom k) b _ h
   direct-left (set t) m (atom j) oa ob h = upper-left m (set t) (atom j) _ h
-  direct-left (set t) m (set u) oa ob h = ap (λ r. bind r (λ c. ok (set c))) (direct-left t m u oa ob h)
+  direct-left (set t) m (set u) oa ob h = ap (joinSet m) (direct-left t m u oa ob h)
   direct-left (set t) m (rec p ys) oa ob h = absurd h
   direct-left (set t) m (act k ys) oa ob h = absurd h
   direct-left (set t) m (ent ks) oa ob h = absurd h
@@ -255,7 +255,7 @@ mutual
   direct-bound (atom k) m b oa ob = refl
   direct-bound (set t) m (atom j) oa ob = refl
   direct-bound (set t) m (set u) oa ob = upper-agree m (set t) (set u) (direct-left (set t) m (set u) oa ob) (direct-right (set t) m (set u) oa ob)
-      (λ n. ap (λ r. bind r (λ c. ok (set c))) (direct-bound t m u oa ob))
+      (λ n. ap (joinSet m) (direct-bound t m u oa ob))
   direct-bound (set t) m (rec p ys) oa ob = refl
   direct-bound (set t) m (act k ys) oa ob = refl
   direct-bound (set t) m (ent ks) oa ob = refl

@@ -7,7 +7,7 @@ use lib.Dec.{eqb}
 use Rattle.cedar.specs.Types.{Mode, strict, isPermissive, Ty, atom, set, rec, act, ent, ext, Attrs, nil, attr, maybe, eqNames, find, asSet, asRec, asAct}
 use Rattle.cedar.specs.Types.{asEnt}
 use Rattle.cedar.specs.Result.{Result, ok, err, bind, entityType}
-use Rattle.cedar.specs.Bound.{union, apart, sameNames, absent, joinOne, joinRecord, bound}
+use Rattle.cedar.specs.Bound.{union, apart, sameNames, absent, joinOne, joinRecord, joinSet, bound}
 
 -- Entity with entity: permissive the union, strict only themselves.
 abbrev pub directNames : Mode → List ℕ → List ℕ → Result Ty
@@ -17,7 +17,7 @@ unfoldable mutual
   -- `direct m a b`: the bound, part by part. Where the kinds differ, or have no parts, `bound` tests no part either.
   pub direct : Mode → Ty → Ty → Result Ty
   direct m (atom k) b = bound m (atom k) b
-  direct m (set t) b = maybe (bound m (set t) b) (λ u. bind (direct m t u) (λ c. ok (set c))) (asSet b)
+  direct m (set t) b = maybe (bound m (set t) b) (λ u. joinSet m (direct m t u)) (asSet b)
   direct m (rec o xs) b = maybe (bound m (rec o xs) b)
       (λ y. bind (sameNames m xs (y .1) (directAttrs m xs (y .1))) (λ cs. ok (joinRecord o (y .0) xs (y .1) cs))) (asRec b)
   direct m (act n xs) b = maybe (bound m (act n xs) b)

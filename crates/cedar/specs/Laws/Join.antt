@@ -9,12 +9,12 @@ use mathlib.Core.Option.{Option, some}
 use mathlib.Core.Logic.{inl, inr}
 use lib.ListN.{length}
 use lib.Dec.{T, eqb, eqb→eq}
-use Rattle.cedar.specs.Types.{Mode, strict, isPermissive, bool, anyent, Ty, atom, set, rec, act, ent, ext, Attrs, nil, attr}
+use Rattle.cedar.specs.Types.{Mode, strict, isPermissive, isLoose, bool, anyset, anyent, Ty, atom, set, rec, act, ent, ext, Attrs, nil, attr}
 use Rattle.cedar.specs.Types.{present, asSet, asRec, asAct, asEnt, eqFlag, eqNames, names, find, isEntity, isRecord}
 use Rattle.cedar.specs.Laws.Shape.{Ascend, Ordered, OrderedFrom, depth, depths, WF}
 use Rattle.cedar.specs.Subtype.{sub}
 use Rattle.cedar.specs.Result.{Result, ok, err}
-use Rattle.cedar.specs.Bound.{union, apart, isTruth, lost, upper, sameNames, absent, joinEqual, joinKept, joinOne, joinNames, bound, joinAttrs}
+use Rattle.cedar.specs.Bound.{union, apart, isTruth, lost, upper, sameNames, absent, joinEqual, joinKept, joinOne, joinSet, joinNames, bound, joinAttrs}
 use Rattle.cedar.specs.Laws.Tests.{T-and, cond-case, maybe-case}
 use Rattle.cedar.specs.Laws.Equality.{asSet-some, asRec-some, asAct-some, asEnt-some}
 use Rattle.cedar.specs.Laws.Attributes.{ordered-from, find-ordered, find-depth, find-mem}
@@ -29,6 +29,7 @@ mutual
     over : {m : Mode} {a b c : Ty} → T (sub m b a) → a ≡ c → Join m a b c
     truths : {m : Mode} {a b : Ty} → T (isTruth a) → T (isTruth b) → Join m a b (atom bool)
     entities : {m : Mode} {a b : Ty} → T (isEntity a) → T (isEntity b) → Join m a b (atom anyent)
+    untyped : {m : Mode} {t u : Ty} → T (isLoose m) → Join m (set t) (set u) (atom anyset)
     sets : {m : Mode} {t u c : Ty} → Join m t u c → Join m (set t) (set u) (set c)
     records : {m : Mode} {o p q : Bool} {xs ys cs : Attrs} → (o || p || lost cs xs ys) ≡ q → JoinAttrs m xs ys cs → Join m (rec o xs) (rec p ys) (rec q cs)
     actions : {m : Mode} {n k l : ℕ} {xs ys cs : Attrs} → n ≡ k → n ≡ l → JoinAttrs strict xs ys cs → Join m (act n xs) (act k ys) (act l cs)
@@ -87,6 +88,10 @@ absent-case m e k = cond-case (isPermissive m) e (λ h p. k p) (λ h p. err-ok p
 joinNames-join : (m : Mode) (ns ks : List ℕ) {c : Ty} → joinNames m ns ks ≡ ok c → Join m (ent ns) (ent ks) c
 joinNames-join m ns ks e = cond-case (isPermissive m) e (λ h p. subst (Join m (ent ns) (ent ks)) (ok-inj p) (unions refl)) (λ h p. err-ok p)
 
+joinSet-join : (m : Mode) (t u : Ty) (r : Result Ty) {c : Ty} → joinSet m r ≡ ok c → ((d : Ty) → r ≡ ok d → Join m t u d) → Join m (set t) (set u) c
+joinSet-join m t u (ok d) e k = subst (Join m (set t) (set u)) (ok-inj e) (sets (k d refl))
+joinSet-join m t u (err i) e k = cond-case (isLoose m) e (λ h p. subst (Join m (set t) (set u)) (ok-inj p) (untyped h)) (λ h p. err-ok p)
+
 mutual
   unfolding bound
 
@@ -96,7 +101,7 @@ mutual
       (λ h p. let (h₁, h₂) = T-and (isTruth (atom k)) (isTruth b) h in subst (Join m (atom k) b) (ok-inj p) (truths h₁ h₂)) (λ h p. apart-join m (atom k) b p))
   bound-join (set t) m b c e = upper-join m (set t) b _ e (λ q. maybe-case (asSet b) q (λ n p. apart-join m (set t) b p) (λ u eu p.
       subst (λ (x : Ty). Join m (set t) x c) (sym (asSet-some b u eu))
-      (bind-ok (bound m t u) _ p λ d v w. subst (Join m (set t) (set u)) (ok-inj w) (sets (bound-join t m u d v)))))
+      (joinSet-join m t u (bound m t u) p (λ d v. bound-join t m u d v))))
   bound-join (rec o xs) m b c e = upper-join m (rec o xs) b _ e (λ q. maybe-case (asRec b) q (λ n p. apart-join m (rec o xs) b p) (λ y ey p.
       subst (λ (x : Ty). Join m (rec o xs) x c) (sym (asRec-some b y ey)) (bind-ok (sameNames m xs (y .1) (joinAttrs m xs (y .1))) _ p λ d v w.
       subst (Join m (rec o xs) (rec (y .0) (y .1))) (ok-inj w) (records refl (sameNames-case m xs (y .1) v (λ u. joinAttrs-join xs m (y .1) d u))))))
@@ -127,6 +132,7 @@ mutual
   join-ordered (over h e) oa ob = subst Ordered e oa
   join-ordered (truths h k) oa ob = tt
   join-ordered (entities h k) oa ob = tt
+  join-ordered (untyped h) oa ob = tt
   join-ordered (sets j) oa ob = join-ordered j oa ob
   join-ordered (records e j) oa ob = joinAttrs-ordered j 0 oa ob
   join-ordered (actions e f j) oa ob = joinAttrs-ordered j 0 oa ob
@@ -152,6 +158,7 @@ mutual
   join-depth (over h e) l da db = subst (λ (t : Ty). depth t ≤ l) e da
   join-depth (truths {a = a} h k) l da db = le-trans (depth-pos a) da
   join-depth (entities {a = a} h k) l da db = le-trans (depth-pos a) da
+  join-depth (untyped {t = t} h) l da db = le-trans (depth-pos (set t)) da
   join-depth (sets j) zero da db = absurd (not-suc-le-zero da)
   join-depth (sets j) (suc l) da db = suc-le-suc (join-depth j l (le-of-suc-le-suc da) (le-of-suc-le-suc db))
   join-depth (records e j) zero da db = absurd (not-suc-le-zero da)

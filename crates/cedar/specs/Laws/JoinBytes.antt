@@ -16,7 +16,7 @@ use Rattle.cedar.specs.Bound.{union, bound}
 use Rattle.cedar.specs.Laws.Tests.{cond-case, none-some}
 use Rattle.cedar.specs.Laws.Bytes.{Bytes-append, Bytes-left, Bytes-right, flag-byte, u16-bytes}
 use Rattle.cedar.specs.Laws.Names.{In, In-here, In-there, In-cases, union-cases}
-use Rattle.cedar.specs.Laws.Join.{Join, under, over, truths, entities, sets, records, actions, unions, JoinAttrs, done, drop, keep, bound-join}
+use Rattle.cedar.specs.Laws.Join.{Join, under, over, truths, entities, untyped, sets, records, actions, unions, JoinAttrs, done, drop, keep, bound-join}
 
 -- Each name is two bytes.
 AllFit : List ℕ → Type 0
@@ -72,6 +72,7 @@ mutual
   join-bytes (over h e) x y l = subst (λ (t : Ty). Bytes (enc t)) e x
   join-bytes (truths h k) x y l = (omega arith, tt)
   join-bytes (entities h k) x y l = (omega arith, tt)
+  join-bytes (untyped h) x y l = (omega arith, tt)
   join-bytes (sets j) x y l = (omega arith, join-bytes j (x .1) (y .1) (omega arith))
   join-bytes (records {q = q} {xs = xs} {ys = ys} {cs = cs} e j) x y l =
       let (x₁, x₂) = split-table xs (x .1 .1) in

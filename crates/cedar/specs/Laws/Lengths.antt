@@ -15,7 +15,7 @@ use Rattle.cedar.specs.TypeForm.{count, enc, entries, bodies}
 use Rattle.cedar.specs.Result.{ok}
 use Rattle.cedar.specs.Bound.{insert, union, bound}
 use Rattle.cedar.specs.Laws.Tests.{T→true, not-T→false, cond-case, cond-both, T-case, none-some}
-use Rattle.cedar.specs.Laws.Join.{Join, under, over, truths, entities, sets, records, actions, unions, JoinAttrs, done, drop, keep, bound-join}
+use Rattle.cedar.specs.Laws.Join.{Join, under, over, truths, entities, untyped, sets, records, actions, unions, JoinAttrs, done, drop, keep, bound-join}
 
 -- A name is two bytes.
 pub length-encNames : (ns : List ℕ) → length (encNames ns) ≡ 2 * length ns
@@ -123,6 +123,7 @@ mutual
   join-length (over {a = a} {b = b} h e) oa = subst (λ (t : Ty). length (enc t) ≤ length (enc a) + length (enc b)) e (omega arith)
   join-length (truths {a = a} h k) oa = omega (arith, enc-pos a)
   join-length (entities {a = a} h k) oa = omega (arith, enc-pos a)
+  join-length (untyped h) oa = omega arith
   join-length (sets j) oa = let g = join-length j oa in omega arith
   join-length (records {xs = xs} {ys = ys} {cs = cs} e j) oa =
       let (f, g) = joinAttrs-length j 0 oa in omega (arith, length-attrs xs, length-attrs ys, length-attrs cs, bodiesFrom-all ys)

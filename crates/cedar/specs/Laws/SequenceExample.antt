@@ -45,6 +45,16 @@ two = 8 ∷ 0 ∷ 2 ∷ 0 ∷ 1 ∷ 0 ∷ 1 ∷ 1 ∷ 0 ∷ 2 ∷ 0 ∷ 1 ∷ 1 
 abbrev opened : List ℕ
 opened = 8 ∷ 1 ∷ 1 ∷ 0 ∷ 1 ∷ 0 ∷ 1 ∷ 1 ∷ 0 ∷ 4 ∷ []
 
+-- Sets of Long and of String, and the untyped set.
+abbrev longs : List ℕ
+longs = 7 ∷ 4 ∷ []
+
+abbrev strings : List ℕ
+strings = 7 ∷ 5 ∷ []
+
+abbrev anySet : List ℕ
+anySet = 6 ∷ []
+
 -- Bytes that are no form.
 abbrev noForm : List ℕ
 noForm = 13 ∷ []
@@ -61,7 +71,7 @@ tree = record {
   functions = [];
 }
 
--- Values: a uid of type 2 and one of type 4; the Long 7; the string "a"; the record with 1: 7 and 2: "a".
+-- Values: a uid of type 2 and one of type 4; the Long 7; the string "a"; sets of one of these; the record with 1: 7 and 2: "a".
 abbrev uid2 : List ℕ
 uid2 = 4 ∷ 2 ∷ 0 ∷ 9 ∷ 0 ∷ []
 
@@ -74,27 +84,35 @@ seven = 2 ∷ 7 ∷ 0 ∷ 0 ∷ 0 ∷ 0 ∷ 0 ∷ 0 ∷ 0 ∷ []
 abbrev aString : List ℕ
 aString = 3 ∷ 1 ∷ 0 ∷ 97 ∷ []
 
+abbrev sevens : List ℕ
+sevens = 5 ∷ 1 ∷ 0 ∷ 9 ∷ 0 ∷ seven
+
+abbrev someStrings : List ℕ
+someStrings = 5 ∷ 1 ∷ 0 ∷ 4 ∷ 0 ∷ aString
+
 abbrev fields : List ℕ
 fields = 6 ∷ 2 ∷ 0 ∷ 1 ∷ 0 ∷ 9 ∷ 0 ∷ 2 ∷ 0 ∷ 4 ∷ 0 ∷ 2 ∷ 7 ∷ 0 ∷ 0 ∷ 0 ∷ 0 ∷ 0 ∷ 0 ∷ 0 ∷ 3 ∷ 1 ∷ 0 ∷ 97 ∷ []
 
--- The types given, at 0 to 4.
+-- The types given, at 0 to 6.
 abbrev given : List (List ℕ)
-given = entity2 ∷ entity4 ∷ one ∷ two ∷ noForm ∷ []
+given = entity2 ∷ entity4 ∷ one ∷ two ∷ noForm ∷ longs ∷ strings ∷ []
 
--- Five calls that add nothing, then four that are answered.
+-- Six calls that add nothing, then five that are answered.
 abbrev steps : List Step
 steps =
-    -- Strict: 13. Mode 255: 1. A room one byte short: 10. Bytes that are no form: 4. A position that is not there.
+    -- Strict: 13. Mode 3: 1. A room one byte short: 10. Bytes that are no form: 4. Sets, permissive: 15. A position that is not there.
     record { mode = 0; room = 7; left = 0; right = 1 } ∷
-    record { mode = 255; room = 7; left = 0; right = 1 } ∷
+    record { mode = 3; room = 7; left = 0; right = 1 } ∷
     record { mode = 1; room = 6; left = 0; right = 1 } ∷
     record { mode = 1; room = 7; left = 0; right = 4 } ∷
-    record { mode = 1; room = 7; left = 0; right = 5 } ∷
-    -- A union of entities; that one twice; a record that becomes open; entity 2 twice.
+    record { mode = 1; room = 7; left = 5; right = 6 } ∷
+    record { mode = 1; room = 7; left = 0; right = 7 } ∷
+    -- A union of entities; that one twice; a record that becomes open; entity 2 twice; the same sets, loose.
     record { mode = 1; room = 7; left = 0; right = 1 } ∷
-    record { mode = 0; room = 7; left = 5; right = 5 } ∷
+    record { mode = 0; room = 7; left = 7; right = 7 } ∷
     record { mode = 1; room = 10; left = 2; right = 3 } ∷
     record { mode = 0; room = 5; left = 0; right = 0 } ∷
+    record { mode = 2; room = 1; left = 5; right = 6 } ∷
     []
 
 -- The list after the run.
@@ -105,20 +123,24 @@ listed =
     record { form = one; madeFrom = 2 ∷ [] } ∷
     record { form = two; madeFrom = 3 ∷ [] } ∷
     record { form = noForm; madeFrom = 4 ∷ [] } ∷
-    record { form = either; madeFrom = 5 ∷ 0 ∷ 1 ∷ [] } ∷
-    record { form = either; madeFrom = 6 ∷ 5 ∷ 0 ∷ 1 ∷ 5 ∷ 0 ∷ 1 ∷ [] } ∷
-    record { form = opened; madeFrom = 7 ∷ 2 ∷ 3 ∷ [] } ∷
-    record { form = entity2; madeFrom = 8 ∷ 0 ∷ 0 ∷ [] } ∷
+    record { form = longs; madeFrom = 5 ∷ [] } ∷
+    record { form = strings; madeFrom = 6 ∷ [] } ∷
+    record { form = either; madeFrom = 7 ∷ 0 ∷ 1 ∷ [] } ∷
+    record { form = either; madeFrom = 8 ∷ 7 ∷ 0 ∷ 1 ∷ 7 ∷ 0 ∷ 1 ∷ [] } ∷
+    record { form = opened; madeFrom = 9 ∷ 2 ∷ 3 ∷ [] } ∷
+    record { form = entity2; madeFrom = 10 ∷ 0 ∷ 0 ∷ [] } ∷
+    record { form = anySet; madeFrom = 11 ∷ 5 ∷ 6 ∷ [] } ∷
     []
 
--- Why the five add nothing: 5 is not there yet when the last of them asks for it.
+-- Why the six add nothing: 7 is not there yet when the last of them asks for it.
 pub refusals : (boundCall standard 0 schema entity2 entity4 7 ≡ refused 13)
-    × (boundCall standard 255 schema entity2 entity4 7 ≡ refused 1)
+    × (boundCall standard 3 schema entity2 entity4 7 ≡ refused 1)
     × (boundCall standard 1 schema entity2 entity4 6 ≡ refused 10)
     × (boundCall standard 1 schema entity2 noForm 7 ≡ refused 4)
-    × (standing (givenFrom 0 given) 5 ≡ none)
+    × (boundCall standard 1 schema longs strings 7 ≡ refused 15)
+    × (standing (givenFrom 0 given) 7 ≡ none)
 unfolding parse bound sub enc
-refusals = (refl, refl, refl, refl, refl)
+refusals = (refl, refl, refl, refl, refl, refl)
 
 -- The run, computed.
 pub run-example : run standard schema given steps ≡ listed
@@ -141,7 +163,10 @@ schema-bytes = areBytes→ schema tt
 
 given-bytes : EachBytes given
 unfolding areBytes
-given-bytes = (areBytes→ entity2 tt, (areBytes→ entity4 tt, (areBytes→ one tt, (areBytes→ two tt, (areBytes→ noForm tt, tt)))))
+given-bytes = (
+  areBytes→ entity2 tt,
+  (areBytes→ entity4 tt, (areBytes→ one tt, (areBytes→ two tt, (areBytes→ noForm tt, (areBytes→ longs tt, (areBytes→ strings tt, tt)))))),
+)
 
 fields-bytes : Bytes fields
 unfolding areBytes
@@ -154,7 +179,7 @@ kept-at i j x y ei ej =
     run-keeps-standard shorter schema given steps schema-bytes given-bytes i j x y (ap (λ (l : List Listed). standing l i) run-example ∙ ei)
     (ap (λ (l : List Listed). standing l j) run-example ∙ ej)
 
--- The values conform to types given: the uids to entities 2 and 4, the record to (1: Long, 2: String).
+-- The values conform to types given: the uids to entities 2 and 4, the record to (1: Long, 2: String), the sets to theirs.
 uid2-given : Conforms standard shorter schema entity2 uid2
 unfolding parse parseValue conforms
 uid2-given = refl
@@ -166,6 +191,14 @@ uid4-given = refl
 fields-given : Conforms standard shorter schema two fields
 unfolding parse parseValue conforms
 fields-given = refl
+
+sevens-given : Conforms standard shorter schema longs sevens
+unfolding parse parseValue conforms
+sevens-given = refl
+
+strings-given : Conforms standard shorter schema strings someStrings
+unfolding parse parseValue conforms
+strings-given = refl
 
 -- What they carry: the record its own pairs; the uid of type 2 those of a record that conforms to the body of its entry; the uid of
 -- type 4, which has no entry, those of any record.
@@ -198,23 +231,36 @@ pub optional-of-entry : LooksUp standard schema 2 entity2 false (atom string)
 unfolding parse enc
 optional-of-entry = inl (1, 0, refl)
 
--- The uid of type 2 keeps what is said of it for both entities together, at 6, and for entity 2, at 8; the uid of type 4 for both
--- together; the record for open (1: Long), at 7.
+-- The uid of type 2 keeps what is said of it for both entities together, at 8, and for entity 2, at 10; the uid of type 4 for both
+-- together; the record for open (1: Long), at 9; both sets for the untyped set, at 11.
 uid2-either : Kept standard shorter schema either uid2
-uid2-either = kept-at 0 6 _ _ refl refl tt uid2 uid2-given
+uid2-either = kept-at 0 8 _ _ refl refl tt uid2 uid2-given
 
 uid2-entity : Kept standard shorter schema entity2 uid2
-uid2-entity = kept-at 0 8 _ _ refl refl tt uid2 uid2-given
+uid2-entity = kept-at 0 10 _ _ refl refl tt uid2 uid2-given
 
 uid4-either : Kept standard shorter schema either uid4
-uid4-either = kept-at 1 6 _ _ refl refl tt uid4 uid4-given
+uid4-either = kept-at 1 8 _ _ refl refl tt uid4 uid4-given
 
 fields-opened : Kept standard shorter schema opened fields
-fields-opened = kept-at 3 7 _ _ refl refl tt fields fields-given
+fields-opened = kept-at 3 9 _ _ refl refl tt fields fields-given
+
+sevens-any : Kept standard shorter schema anySet sevens
+sevens-any = kept-at 5 11 _ _ refl refl tt sevens sevens-given
+
+strings-any : Kept standard shorter schema anySet someStrings
+strings-any = kept-at 6 11 _ _ refl refl tt someStrings strings-given
 
 -- Conforming: to the type made.
 pub keeps-conforming : Conforms standard shorter schema either uid2
 keeps-conforming = uid2-either .conforming
+
+-- Conforming, made loose: no set is lost.
+pub keeps-longs : Conforms standard shorter schema anySet sevens
+keeps-longs = sevens-any .conforming
+
+pub keeps-strings : Conforms standard shorter schema anySet someStrings
+keeps-strings = strings-any .conforming
 
 -- Disjoint's yes, the type made given first: the uid is no entity 6.
 pub keeps-disjoint-first : Conforms standard shorter schema entity6 uid2 → ⊥

@@ -18,13 +18,13 @@ use Rattle.cedar.specs.Calls.{subtypeCall, boundCall, disjointCall, fold
 abbrev pub Seen : Type 0
 Seen = ℕ × List ℕ × List ℕ
 
-pub seen : Outcome → Seen
+unfoldable pub seen : Outcome → Seen
 seen o = (numberOf o, answerText o, bytesOf o)
 
-refusal : ℕ → Seen
+unfoldable pub refusal : ℕ → Seen
 refusal n = seen (refused n)
 
-written : List ℕ → Seen
+unfoldable pub written : List ℕ → Seen
 written w = (0, [], w)
 
 -- R(1: Long) is 08 00 01 00 01 00 01 01 00 04.
