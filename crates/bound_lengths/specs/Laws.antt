@@ -2,4 +2,5 @@
 pub mod Names
 pub mod Kinds
 pub mod Pairs
+pub mod Sets
 pub mod Bounds

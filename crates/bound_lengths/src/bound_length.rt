@@ -7,6 +7,7 @@ use crate::names::union_count;
 use crate::pairs::dropped;
 use crate::pairs::kept;
 use crate::pairs::names_allowed;
+use crate::sets::set_length;
 use forms::kinds::Kind;
 use forms::modes::Mode;
 use forms::names::same_names;
@@ -95,7 +96,7 @@ pub fn bound_length(mode: Mode, a: &[u8], b: &[u8], levels: usize) -> FormLength
         Kind::SET => {
             let x = &a[Offset::ELEMENT..];
             let y = &b[Offset::ELEMENT..];
-            bound_length(mode, x, y, levels - 1).plus(Offset::ELEMENT)
+            set_length(mode, bound_length(mode, x, y, levels - 1))
         }
         Kind::RECORD => record_length(mode, a, b, levels),
         Kind::ENTITY => entities_length(mode, a, b),

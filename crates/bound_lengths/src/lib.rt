@@ -4,3 +4,4 @@ pub mod bound_length;
 pub mod kinds;
 pub mod names;
 pub mod pairs;
+pub mod sets;

@@ -1,8 +1,10 @@
 -- What is written of the bound of two attribute lists. Assumes nothing: these are definitions.
-use Prim.Native.Nat.{ℕ}
+use Prim.Native.Nat.{ℕ, _<_}
 use mathlib.Core.List.{List, []}
 use mathlib.Core.Bool.{Bool, true, false}
 use mathlib.Core.Option.{Option, none, some}
+use mathlib.Core.Path.{_≡_}
+use lib.ListN.{length}
 use Rattle.cedar.specs.Types.{Ty, Attrs}
 use Rattle.cedar.specs.TypeForm.{count, enc}
 use Rattle.cedar.specs.Result.{Result, ok, err}
@@ -21,6 +23,10 @@ pairForm (some y) = enc (y .1)
 abbrev pub isOk : {A : Type 0} → Result A → Bool
 isOk (ok a) = true
 isOk (err e) = false
+
+-- A number is the length of these bytes, or 0.
+abbrev pub KnownLength : ℕ → List ℕ → Type 0
+KnownLength n w = 0 < n → n ≡ length w
 
 -- Whether an attribute is kept.
 abbrev pub isKept : Result (Option (Bool × Ty)) → Bool

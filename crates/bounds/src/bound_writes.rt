@@ -4,6 +4,8 @@ use crate::flags::open_byte;
 use crate::kept_attributes::kept_count;
 use crate::kept_attributes::pair_kept;
 use crate::unions::write_union;
+use crate::untyped_sets::element_length;
+use crate::untyped_sets::is_untyped;
 use bound_lengths::kinds::Joined;
 use bound_lengths::kinds::unlike_kinds;
 use bound_lengths::names::union_count;
@@ -39,7 +41,7 @@ ghost use Rattle.forms.specs.Modes.{asMode};
 ghost use Rattle.bound_lengths.specs.Kinds.{unlike};
 ghost use Rattle.bound_lengths.specs.Pairs.{Front, joined, joinedAttrs};
 ghost use Rattle.forms.specs.Tables.{Tabled, attrsAt};
-ghost use Rattle.bounds.specs.Joins.{countOf, pairForm};
+ghost use Rattle.bounds.specs.Joins.{countOf, pairForm, KnownLength};
 
 // Writes the bound of two unlike kinds, neither of them Never, and says how long it is.
 fn write_unlike(mode: Mode, j: u8, k: u8, out: &mut [u8]) -> usize
@@ -68,11 +70,19 @@ fn write_entities(a: &[u8], b: &[u8], out: &mut [u8]) -> usize
     write_union(x, n, y, m, &mut out[Offset::ENTITY_NAMES..]) + Offset::ENTITY_NAMES
 }
 
-// Writes the bound of two types, and says how long it is.
-pub fn write_bound(mode: Mode, a: &[u8], b: &[u8], levels: usize, out: &mut [u8]) -> usize
+// Writes the bound of two types, and says how long it is. Its length is given where it is known, else 0.
+pub fn write_bound(
+    mode: Mode,
+    a: &[u8],
+    b: &[u8],
+    levels: usize,
+    known: usize,
+    out: &mut [u8],
+) -> usize
     requires { ⌜ whole levels (now a) ≡ true ⌝ }
     requires { ⌜ whole levels (now b) ≡ true ⌝ }
     requires { ⌜ Ready enc (direct (asMode mode) (dec levels (now a)) (dec levels (now b))) (now out) ⌝ }
+    requires { ⌜ KnownLength known (formOf enc (direct (asMode mode) (dec levels (now a)) (dec levels (now b)))) ⌝ }
     ensures { λ r. ⌜ Written (formOf enc (direct (asMode mode) (dec levels (now (a .entry))) (dec levels (now (b .entry))))) (now (out .entry)) (now (out .exit)) r ⌝ }
 {
     let j = a[0];
@@ -87,12 +97,7 @@ pub fn write_bound(mode: Mode, a: &[u8], b: &[u8], levels: usize, out: &mut [u8]
         return write_unlike(mode, j, k, out);
     }
     match j {
-        Kind::SET => {
-            put_one(out, Kind::SET);
-            let x = &a[Offset::ELEMENT..];
-            let y = &b[Offset::ELEMENT..];
-            write_bound(mode, x, y, levels - 1, &mut out[Offset::ELEMENT..]) + Offset::ELEMENT
-        }
+        Kind::SET => write_set(mode, a, b, levels, known, out),
         Kind::RECORD => write_record(mode, a, b, levels, out),
         Kind::ENTITY => {
             if mode.is_permissive() {
@@ -108,6 +113,25 @@ pub fn write_bound(mode: Mode, a: &[u8], b: &[u8], levels: usize, out: &mut [u8]
         }
         _ => put_bytes(a, out),
     }
+}
+
+// Writes the bound of two sets, and says how long it is: the untyped set, or the bound of their elements behind the kind.
+fn write_set(mode: Mode, a: &[u8], b: &[u8], levels: usize, known: usize, out: &mut [u8]) -> usize
+    requires { ⌜ (whole levels (now a) ≡ true) × (kind (now a) ≡ 7) ⌝ }
+    requires { ⌜ (whole levels (now b) ≡ true) × (kind (now b) ≡ 7) ⌝ }
+    requires { ⌜ Ready enc (direct (asMode mode) (dec levels (now a)) (dec levels (now b))) (now out) ⌝ }
+    requires { ⌜ KnownLength known (formOf enc (direct (asMode mode) (dec levels (now a)) (dec levels (now b)))) ⌝ }
+    ensures { λ r. ⌜ Written (formOf enc (direct (asMode mode) (dec levels (now (a .entry))) (dec levels (now (b .entry))))) (now (out .entry)) (now (out .exit)) r ⌝ }
+{
+    let x = &a[Offset::ELEMENT..];
+    let y = &b[Offset::ELEMENT..];
+    if is_untyped(mode, x, y, levels - 1, known) {
+        put_one(out, Kind::ANY_SET);
+        return Offset::ELEMENT;
+    }
+    put_one(out, Kind::SET);
+    let element = element_length(known);
+    write_bound(mode, x, y, levels - 1, element, &mut out[Offset::ELEMENT..]) + Offset::ELEMENT
 }
 
 // Writes the bound of two records, and says how long it is.
@@ -216,5 +240,5 @@ fn write_pair(
         return 0;
     }
     let len = u16_at(f, Offset::BODY_LENGTH);
-    write_bound(mode, t, &c[0..len], levels, out)
+    write_bound(mode, t, &c[0..len], levels, 0, out)
 }

@@ -1,5 +1,5 @@
 // Which attributes a bound keeps, where there is one: strict all of them, permissive those whose types have a bound. Permissive, two
-// records always have one, so no attribute of theirs is looked at.
+// records always have one, and loose two sets, so no part of theirs is looked at.
 use bound_lengths::bound_length::bound_length;
 use forms::kinds::Kind;
 use forms::modes::Mode;
@@ -38,8 +38,8 @@ fn has_length(mode: Mode, a: &[u8], b: &[u8], levels: usize) -> bool
     }
 }
 
-// Whether two types have a bound, permissive. Of one kind, only sets, actions and extensions may have none.
-fn has_bound(mode: Mode, a: &[u8], b: &[u8], levels: usize) -> bool
+// Whether two types have a bound, permissive. Of one kind, only sets, actions and extensions may have none, and loose no sets.
+pub fn has_bound(mode: Mode, a: &[u8], b: &[u8], levels: usize) -> bool
     requires { ⌜ isPermissive (asMode mode) ≡ true ⌝ }
     requires { ⌜ whole levels (now a) ≡ true ⌝ }
     requires { ⌜ whole levels (now b) ≡ true ⌝ }
@@ -50,12 +50,14 @@ fn has_bound(mode: Mode, a: &[u8], b: &[u8], levels: usize) -> bool
         return has_length(mode, a, b, levels);
     }
     match j {
-        Kind::SET => has_bound(
-            mode,
-            &a[Offset::ELEMENT..],
-            &b[Offset::ELEMENT..],
-            levels - 1,
-        ),
+        Kind::SET => {
+            if mode.is_loose() {
+                return true;
+            }
+            let x = &a[Offset::ELEMENT..];
+            let y = &b[Offset::ELEMENT..];
+            has_bound(mode, x, y, levels - 1)
+        }
         Kind::ACTION => has_length(mode, a, b, levels),
         Kind::EXTENSION => has_length(mode, a, b, levels),
         _ => true,

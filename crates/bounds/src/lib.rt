@@ -3,3 +3,4 @@ pub mod bound_writes;
 pub mod flags;
 pub mod kept_attributes;
 pub mod unions;
+pub mod untyped_sets;

@@ -49,11 +49,11 @@ fn write_step(
         return JoinStep::TooLong;
     }
     if second {
-        write_bound(mode, &last[0..len], t, levels, &mut work[half..]);
+        write_bound(mode, &last[0..len], t, levels, n, &mut work[half..]);
         copy(&work[half..half + n], last);
         return JoinStep::To(n);
     }
-    write_bound(mode, &last[0..len], t, levels, &mut work[..half]);
+    write_bound(mode, &last[0..len], t, levels, n, &mut work[..half]);
     copy(&work[0..n], last);
     JoinStep::To(n)
 }

@@ -1,8 +1,8 @@
 -- The mode as the code's enum. Assumes nothing: these are definitions.
 use mathlib.Core.Option.{Option, none, some}
-use Rattle.cedar.specs.Types.{Mode, strict, permissive}
+use Rattle.cedar.specs.Types.{Mode, strict, permissive, loose}
 use Rattle.forms.specs.declared.modes.Mode.{Mode as ModeEnum}
-use Rattle.forms.specs.declared.modes.Mode.the-variants.{Strict, Permissive}
+use Rattle.forms.specs.declared.modes.Mode.the-variants.{Strict, Permissive, Loose}
 use Rattle.forms.specs.declared.modes.KnownMode.{KnownMode}
 use Rattle.forms.specs.declared.modes.KnownMode.the-variants.{Of, Nothing}
 
@@ -10,6 +10,7 @@ use Rattle.forms.specs.declared.modes.KnownMode.the-variants.{Of, Nothin
 abbrev pub asMode : ModeEnum → Mode
 asMode Strict = strict
 asMode Permissive = permissive
+asMode Loose = loose
 
 -- The mode of a number that was read.
 abbrev pub modeIn : KnownMode → Option Mode

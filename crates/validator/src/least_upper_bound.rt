@@ -47,7 +47,7 @@ pub fn least_upper_bound_checked(
             if !answer_fits(n, out.len()) {
                 return Answer::Refused(Refusal::RESULT);
             }
-            write_bound(m, t0, t1, Limits::LEVELS, out);
+            write_bound(m, t0, t1, Limits::LEVELS, n, out);
             Answer::Wrote(n)
         }
         FormLength::Not(e) => Answer::Refused(e),

@@ -13,7 +13,7 @@ use Rattle.cedar.specs.Laws.Shape.{WF, Ordered}
 use Rattle.cedar.specs.TypeForm.{atomCode, enc, one, kindOf}
 use Rattle.cedar.specs.Result.{Result, ok, err, bind}
 use Rattle.cedar.specs.Subtype.{sub}
-use Rattle.cedar.specs.Bound.{bound, joinRecord, lost}
+use Rattle.cedar.specs.Bound.{bound, joinRecord, joinSet, lost}
 use Rattle.cedar.specs.Laws.DirectBound.{direct, directNames}
 use Rattle.cedar.specs.Laws.TypeForm.{parse-iff}
 use Rattle.forms.specs.Parts.{part, rest, rd, kind}
@@ -32,9 +32,10 @@ use Rattle.forms.specs.Codes.{code}
 use Rattle.bound_lengths.specs.Kinds.{unlike}
 use Rattle.bound_lengths.specs.Pairs.{behind, joinedAttrs, attributesLengthOf}
 use Rattle.forms.specs.Tables.{attrsAt, Tabled}
-use Rattle.writing.specs.Laws.FormLengths.{Cut}
 use Rattle.forms.specs.Laws.Codes.{atom-code, atom-at}
 use Rattle.bound_lengths.specs.Laws.Kinds.{unlike-is}
+use Rattle.bound_lengths.specs.Sets.{setLength}
+use Rattle.bound_lengths.specs.Laws.Sets.{joined-length}
 
 -- A table whose count stands at c, from its count on.
 module _ (c : ℕ) (b : List ℕ) where
@@ -177,9 +178,14 @@ module _ (m : Mode) (l : ℕ) (a b : List ℕ) (ha : whole l a ≡ true) (hb : w
       let cb = code-is l b hb in
       unlike-is m (dec l a) (dec l b) (λ e. p (sym ca ∙ e ∙ cb)) (λ e. q (sym ca ∙ e)) (λ e. r (sym cb ∙ e)) ∙ rw (ca, cb) refl
 
-  pub set-cut : kind a ≡ 7 → kind b ≡ 7 → Cut enc enc (7 ∷ []) (direct m (dec (l - 1) (rest 1 a)) (dec (l - 1) (rest 1 b))) joins
-  unfolding direct enc
-  set-cut e f = record { make = set; is = rw (is-set l a ha e .is, is-set l b hb f .is) refl; cut = λ c q. refl }
+  pub set-join : kind a ≡ 7 → kind b ≡ 7 → joins ≡ joinSet m (direct m (dec (l - 1) (rest 1 a)) (dec (l - 1) (rest 1 b)))
+  unfolding direct
+  set-join e f = rw (is-set l a ha e .is, is-set l b hb f .is) refl
+
+  pub sets-length : kind a ≡ 7 → kind b ≡ 7 → (x y : FormLength) → x ≡ formLengthOf enc (direct m (dec (l - 1) (rest 1 a)) (dec (l - 1) (rest 1 b))) →
+      y ≡ setLength m x → y ≡ formLengthOf enc joins
+  sets-length e f x y p q =
+      q ∙ ap (setLength m) p ∙ joined-length m (direct m (dec (l - 1) (rest 1 a)) (dec (l - 1) (rest 1 b))) ∙ sym (ap (formLengthOf enc) (set-join e f))
 
   pub record-join : kind a ≡ 8 → kind b ≡ 8 →
       joins ≡ bind (joinedAttrs m (attrsAt (l - 1) 2 a) (attrsAt (l - 1) 2 b))

@@ -8,13 +8,14 @@ use native.Mathlib.Omega.{arith}
 use native.Mathlib.Decide.{ℕ-discrete}
 use lib.Dec.{eqb}
 use lib.ListN.{length, getD, take, length-append}
-use Rattle.cedar.specs.Types.{Mode, strict, isPermissive, eqNames, Ty, atom, set, rec, act, ent, ext, Attrs}
+use borrow.Author.Tests.{not-true, not-false}
+use Rattle.cedar.specs.Types.{Mode, strict, isPermissive, eqNames, anyset, Ty, atom, set, rec, act, ent, ext, Attrs}
 use Rattle.cedar.specs.Bytes.{u16, flag, encNames}
 use Rattle.cedar.specs.Laws.Shape.{Ordered}
 use Rattle.cedar.specs.TypeForm.{count, enc, entries, bodies}
 use Rattle.cedar.specs.Result.{Result, ok, err, bind}
 use Rattle.cedar.specs.Outcome.{over}
-use Rattle.cedar.specs.Bound.{union, joinRecord}
+use Rattle.cedar.specs.Bound.{union, joinRecord, joinSet}
 use Rattle.cedar.specs.Laws.DirectBound.{direct, directAttrs, directNames}
 use Rattle.cedar.specs.Laws.Join.{joinAttrs-join}
 use Rattle.cedar.specs.Laws.Lost.{lost-count}
@@ -31,14 +32,15 @@ use Rattle.forms.specs.Codes.{code}
 use Rattle.bound_lengths.specs.Kinds.{unlike, joinedOf}
 use Rattle.bound_lengths.specs.Pairs.{joinedAttrs}
 use Rattle.forms.specs.Tables.{attrsAt}
-use Rattle.bounds.specs.Joins.{countOf, isOk}
+use Rattle.bounds.specs.Joins.{countOf, isOk, KnownLength}
+use Rattle.bounds.specs.Laws.UntypedSets.{typed-cut, untyped-is, element-known}
 use Rattle.bounds.specs.Laws.KeptAttributes.{ok-bind, joined-direct, strict-many}
 use Rattle.writing.specs.Laws.FormLengths.{length-entries, Cut}
 use Rattle.bound_lengths.specs.Laws.Kinds.{unlike-of}
 use Rattle.writing.specs.Laws.Laying.{ready-room, written-known}
 use Rattle.forms.specs.Laws.Tables.{attrs-count}
 use Rattle.bound_lengths.specs.Laws.Names.{names-long}
-use Rattle.bound_lengths.specs.Laws.Bounds.{count-from, attrs-from, form-is, ordered, never-left, never-right, unlike-join, set-cut, record-join, action-join}
+use Rattle.bound_lengths.specs.Laws.Bounds.{count-from, attrs-from, form-is, ordered, never-left, never-right, unlike-join, set-join, record-join, action-join}
 use Rattle.bound_lengths.specs.Laws.Bounds.{action-apart, extension-join, extension-apart, entity-join, atoms-join, atom-form}
 
 first-code : (t : Ty) → kind (enc t) ≡ code t
@@ -161,8 +163,34 @@ module _ {m : Mode} {l : ℕ} {a b o : List ℕ} (g : Given m l a b o) where
 
   -- Forms of one kind.
   module _ (k : kind a ≡ kind b) where
-    pub sets-cut : kind a ≡ 7 → Cut enc enc (7 ∷ []) (direct m (dec (l - 1) (rest 1 a)) (dec (l - 1) (rest 1 b))) joins
-    sets-cut e = set-cut m l a b (g .first) (g .second) e (sym k ∙ e)
+    -- Sets: of their elements' bound, or the untyped set.
+    module _ (e : kind a ≡ 7) where
+      abbrev Elements : Result Ty
+      Elements = direct m (dec (l - 1) (rest 1 a)) (dec (l - 1) (rest 1 b))
+
+      sets-are : joins ≡ joinSet m Elements
+      sets-are = set-join m l a b (g .first) (g .second) e (sym k ∙ e)
+
+      pub sets-known : isOk (joinSet m Elements) ≡ true
+      sets-known = ap isOk (sym sets-are ∙ g .ready .is)
+
+      pub sets-length : (n : ℕ) → KnownLength n (formOf enc joins) → KnownLength n (formOf enc (joinSet m Elements))
+      sets-length n f p = f p ∙ ap (λ (r : Result Ty). length (formOf enc r)) sets-are
+
+      module _ (z : Bool) (told : z ≡ not (isOk Elements)) where
+        pub sets-untyped : z ≡ true → Copied joins (6 ∷ []) o
+        sets-untyped h =
+            copied (g .ready) (atom anyset) (6 ∷ []) (sets-are ∙ untyped-is m Elements sets-known (not-true (isOk Elements) (sym told ∙ h))) (atom-form anyset)
+
+        module _ (h : z ≡ false) where
+          typed : isOk Elements ≡ true
+          typed = not-false (isOk Elements) (sym told ∙ h)
+
+          pub sets-cut : Cut enc enc (7 ∷ []) Elements joins
+          sets-cut = rw sets-are (typed-cut m Elements sets-known typed)
+
+          pub elements-length : (n : ℕ) → KnownLength n (formOf enc joins) → KnownLength (n - 1) (formOf enc Elements)
+          elements-length n f = element-known m Elements sets-known n (sets-length n f) typed
 
     pub entities-union : kind a ≡ 10 → isPermissive m ≡ true → Same joins (ok (ent (union (namesBy 2 (rd a 1) (rest 3 a)) (namesBy 2 (rd b 1) (rest 3 b))))) o
     entities-union e s =

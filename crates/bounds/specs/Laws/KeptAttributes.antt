@@ -8,7 +8,7 @@ use native.Mathlib.Omega.{arith}
 use native.Mathlib.Decide.{ℕ-discrete}
 use lib.Dec.{eqb}
 use lib.ListN.{length, getD}
-use Rattle.cedar.specs.Types.{Mode, isPermissive, eqNames, eqFlag, Ty, Attrs, nil, attr, maybe, names, find}
+use Rattle.cedar.specs.Types.{Mode, isPermissive, isLoose, eqNames, eqFlag, Ty, Attrs, nil, attr, maybe, names, find}
 use Rattle.cedar.specs.TypeForm.{count, enc}
 use Rattle.cedar.specs.Result.{Result, ok, err, bind}
 use Rattle.cedar.specs.Bound.{absent, joinEqual, joinKept, joinOne, joinRecord}
@@ -27,8 +27,9 @@ use Rattle.forms.specs.Tables.{Tabled, attrsAt}
 use Rattle.writing.specs.Laws.FormLengths.{of-ok, not-err}
 use Rattle.forms.specs.Laws.Tables.{Split, attrs-count}
 use Rattle.bound_lengths.specs.Laws.Pairs.{after, Walk, walk-end, walk-room, walk-fit, walk-body, walk-front, walk-more, walk-step, start-walk}
-use Rattle.bound_lengths.specs.Laws.Bounds.{set-cut, record-join, entity-join, atoms-join}
+use Rattle.bound_lengths.specs.Laws.Bounds.{set-join, record-join, entity-join, atoms-join}
 use Rattle.bounds.specs.Joins.{countOf, isOk, isKept}
+use Rattle.bounds.specs.Laws.UntypedSets.{loose-known, joined-known}
 
 -- There is a result.
 ok-known : {A : Type 0} (r : Result A) → isOk r ≡ true → (a : A) × (r ≡ ok a)
@@ -63,10 +64,13 @@ lists-bound m p (attr n r t xs) ys = go (find n ys) (directAttrs m xs ys) (lists
 
 -- Two whole forms of one kind, permissive.
 module _ (m : Mode) (p : isPermissive m ≡ true) (l : ℕ) (a b : List ℕ) (ha : whole l a ≡ true) (hb : whole l b ≡ true) (k : kind a ≡ kind b) where
-  pub sets-bound : kind a ≡ 7 → (z : Bool) → z ≡ isOk (direct m (dec (l - 1) (rest 1 a)) (dec (l - 1) (rest 1 b))) → z ≡ isOk (direct m (dec l a) (dec l b))
-  sets-bound e z q =
-      let c = set-cut m l a b ha hb e (sym k ∙ e) in
-      q ∙ sym (ap isOk (c .is) ∙ ok-bind (direct m (dec (l - 1) (rest 1 a)) (dec (l - 1) (rest 1 b))) (c .make))
+  pub loose-sets-bound : kind a ≡ 7 → isLoose m ≡ true → true ≡ isOk (direct m (dec l a) (dec l b))
+  loose-sets-bound e h = sym (ap isOk (set-join m l a b ha hb e (sym k ∙ e)) ∙ loose-known m h (direct m (dec (l - 1) (rest 1 a)) (dec (l - 1) (rest 1 b))))
+
+  pub sets-bound : kind a ≡ 7 → isLoose m ≡ false → (z : Bool) → z ≡ isOk (direct m (dec (l - 1) (rest 1 a)) (dec (l - 1) (rest 1 b))) →
+      z ≡ isOk (direct m (dec l a) (dec l b))
+  sets-bound e h z q =
+      q ∙ sym (ap isOk (set-join m l a b ha hb e (sym k ∙ e)) ∙ joined-known m h (direct m (dec (l - 1) (rest 1 a)) (dec (l - 1) (rest 1 b))))
 
   pub others-bound : (kind a ≡ 7 → ⊥) → (kind a ≡ 11 → ⊥) → (kind a ≡ 12 → ⊥) → true ≡ isOk (direct m (dec l a) (dec l b))
   others-bound p7 p11 p12 = go (ℕ-discrete (kind a) 8) (ℕ-discrete (kind a) 10)

@@ -23,7 +23,7 @@ use Rattle.writing.specs.declared.form_lengths.FormLength.{FormLength}
 use Rattle.writing.specs.declared.form_lengths.FormLength.the-variants.{Of, Not}
 use Rattle.writing.specs.Written.{Written}
 use Rattle.writing.specs.FormLengths.{cap, formLengthOf, formOf, Ready}
-use Rattle.writing.specs.Laws.FormLengths.{of-ok, not-err, ready}
+use Rattle.writing.specs.Laws.FormLengths.{of-ok, not-err, exact, ready}
 use Rattle.validator.specs.declared.answers.Answer.{Answer}
 use Rattle.validator.specs.declared.answers.Answer.the-variants.{Refused, Wrote}
 use Rattle.validator.specs.Answers.{Answered}
@@ -70,6 +70,9 @@ module _ (r : Result Ty) (o : List ℕ) (c : Outcome) (e : c ≡ writeType stand
 
       pub writes-ready : Ready enc r o
       writes-ready = ready enc r x n o told q (omega (arith, small)) (omega (arith, small))
+
+      pub writes-length : n ≡ length (formOf enc r)
+      writes-length = exact enc r x n told q (omega (arith, small))
 
       pub writes : (xs : List ℕ) (k : ℕ) → Written (formOf enc r) o xs k → Answered c o xs (Wrote n)
       writes xs k w =

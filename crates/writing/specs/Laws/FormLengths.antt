@@ -10,7 +10,7 @@ use Rattle.cedar.specs.TypeForm.{count, enc, entries, bodies}
 use Rattle.cedar.specs.Result.{Result, ok, err, bind}
 use Rattle.writing.specs.declared.form_lengths.FormLength.{FormLength}
 use Rattle.writing.specs.declared.form_lengths.FormLength.the-variants.{Of, Not}
-use Rattle.writing.specs.FormLengths.{cap, plus, table, formLengthOf, Ready}
+use Rattle.writing.specs.FormLengths.{cap, plus, table, formLengthOf, formOf, Ready}
 
 pub length-entries : (xs : Attrs) → length (entries xs) ≡ 5 * count xs
 unfolding enc
@@ -31,6 +31,9 @@ module _ {A : Type 0} (w : A → List ℕ) where
   of-small r x k p q = let s = of-ok r x k p q in omega (arith, s .1 .1)
 
   -- Its length is exact where it is no more than the largest form.
+  pub exact : (r : Result A) (x : FormLength) (k : ℕ) → x ≡ formLengthOf w r → x ≡ Of k → k ≤ 4096 → k ≡ length (formOf w r)
+  exact r x k p q h = let s = of-ok r x k p q in omega (arith, s .1 .1, ap (λ (z : Result A). length (formOf w z)) (s .1 .0))
+
   pub ready : (r : Result A) (x : FormLength) (k : ℕ) (o : List ℕ) → x ≡ formLengthOf w r → x ≡ Of k → k ≤ 4096 → k ≤ length o → Ready w r o
   ready r x k o p q h g =
       let s = of-ok r x k p q in

@@ -19,12 +19,11 @@ use Rattle.bound_lengths.specs.Kinds.{unlike}
 use Rattle.writing.specs.FormLengths.{formLengthOf}
 use Rattle.forms.specs.Tables.{attrsAt}
 use Rattle.forms.specs.Laws.Tables.{split}
-use Rattle.writing.specs.Laws.FormLengths.{cut-length}
 use Rattle.bound_lengths.specs.Laws.Pairs.{Walk, walk-end, walk-room, walk-flag, walk-fit, walk-body, walk-front, walk-more, Keeping, keeping-end}
 use Rattle.bound_lengths.specs.Laws.Pairs.{next-not, next-dropped, next-small, next-more, start-walk, start-sizes, start-not, start-keeping, pair-absent}
 use Rattle.bound_lengths.specs.Laws.Pairs.{pair-none, pair-some, front-room, front-flag, front-fit, front-body, front-is}
 use Rattle.bound_lengths.specs.Laws.Bounds.{form-is, record-tabled, action-tabled, known-length, of-length, records-length, actions-length}
-use Rattle.bound_lengths.specs.Laws.Bounds.{extension-long, atom-form, never-left, never-right, unlike-join, set-cut, action-apart, extension-join}
+use Rattle.bound_lengths.specs.Laws.Bounds.{extension-long, atom-form, never-left, never-right, unlike-join, sets-length, action-apart, extension-join}
 use Rattle.bound_lengths.specs.Laws.Bounds.{extension-apart, entity-join, atoms-join}
 use borrow.Fn.Kinds.{In}
 use borrow.Fn.PlainCycle.{Measures, is, falls, and}
@@ -45,7 +44,7 @@ use Rattle.forms.proofs.search.find.Reads as find-reads
 use Rattle.forms.proofs.search.skip_below.Reads as skip-below-reads
 use Rattle.bound_lengths.proofs.bound_length.entities_length.Reads as entities-length-reads
 use Rattle.bound_lengths.proofs.bound_length.unlike_length.Reads as unlike-length-reads
-use Rattle.writing.proofs.form_lengths.FormLength.plus.Reads as plus-reads
+use Rattle.bound_lengths.proofs.sets.set_length.Reads as set-length-reads
 use Rattle.bound_lengths.proofs.attribute_lengths.AttributesLength.behind.Reads as behind-reads
 use Rattle.writing.proofs.form_lengths.capped.Reads as capped-reads
 use Rattle.bound_lengths.proofs.pairs.dropped.Reads as dropped-reads
@@ -550,8 +549,8 @@ bound-length-callees t = (
   unlike-length-reads.Learnt,
   bound-length-below t,
   bound-length.Post,
-  plus-reads.Asked,
-  plus-reads.Learnt,
+  set-length-reads.Asked,
+  set-length-reads.Learnt,
   record-length-below t,
   record-length.Post,
   entities-length-reads.Asked,
@@ -658,8 +657,8 @@ bound-length-bound-length-requires t c κs =
     z) ∙ at-match-keys1 .match .keys1) in
     (omega (arith, pre .0, by-is-set .deep), (by-is-set .good, by-is-set-2 .good))
 
-bound-length-plus-requires : (t : ℕ) → bound-length-lts.Need-plus-requires (bound-length-callees t) (bound-length-at t) bound-length.Post
-bound-length-plus-requires t c κs = search needs
+bound-length-set-length-requires : (t : ℕ) → bound-length-lts.Need-set-length-requires (bound-length-callees t) (bound-length-at t) bound-length.Post
+bound-length-set-length-requires t c κs = search needs
 
 bound-length-record-length-requires : (t : ℕ) → bound-length-lts.Need-record-length-requires (bound-length-callees t) (bound-length-at t) bound-length.Post
 bound-length-record-length-requires t c κs =
@@ -800,10 +799,10 @@ bound-length-returns-6 t c =
     let at-match-keys1 = c .before .before .before .before in
     let start = at-match-keys1 .before .before .before .before .before .before .before .before in
     let args = start .args in
-    let by-set-cut = set-cut (asMode (args .mode)) (args .levels) (args .a .now) (args .b .now) (start .pre .1 .0) (start .pre .1 .1)
-    (at-match-keys1 .match .keys1) (sym (let z : kind (args .a .now) ≡ kind (args .b .now) = omega arith in
-    z) ∙ at-match-keys1 .match .keys1) in
-    cut-length by-set-cut _ _ (c .before .bound-length .ensures) (c .plus .ensures)
+    let key = at-match-keys1 .match .keys1 in
+    let same : kind (args .a .now) ≡ kind (args .b .now) = omega arith in
+    sets-length (asMode (args .mode)) (args .levels) (args .a .now) (args .b .now) (start .pre .1 .0) (start .pre .1 .1) key (sym same ∙ key)
+    _ _ (c .before .bound-length .ensures) (c .set-length .ensures)
 
 bound-length-returns-7 : (t : ℕ) → bound-length-lts.Need-returns-7 (bound-length-callees t) (bound-length-at t) bound-length.Post
 bound-length-returns-7 t c = c .record-length .ensures
@@ -1181,7 +1180,7 @@ pub +attributes-length+bound-length+pair-length+record-length-spec : {M : Type 1
     (bound-length-part-y-end t)
     (bound-length-sub-bound-length t)
     (bound-length-bound-length-requires t)
-    (bound-length-plus-requires t)
+    (bound-length-set-length-requires t)
     (bound-length-record-length-requires t)
     (bound-length-entities-length-requires t)
     (bound-length-u16-at-requires t)

@@ -1,5 +1,6 @@
 -- `bounds::bound_writes::write_action`, `bounds::bound_writes::write_attributes`, `bounds::bound_writes::write_bound`,
--- `bounds::bound_writes::write_pair`, `bounds::bound_writes::write_record` meet their contracts. Assumes nothing.
+-- `bounds::bound_writes::write_pair`, `bounds::bound_writes::write_record`, `bounds::bound_writes::write_set` meet their contracts.
+-- Assumes nothing.
 use Prim.Native.Nat.{ℕ, _+_, _*_, _-_, _<_}
 use mathlib.Core.Path.{refl, sym, _∙_}
 use native.Mathlib.Omega.{arith}
@@ -15,7 +16,8 @@ use Rattle.bound_lengths.specs.Pairs.{joinedAttrs}
 use Rattle.writing.specs.Laws.Laying.{behind-front, behind-at, behind-ready, behind-small, behind-written}
 use Rattle.forms.specs.Laws.Tables.{split}
 use Rattle.bound_lengths.specs.Laws.Bounds.{record-tabled, action-tabled}
-use Rattle.bounds.specs.Laws.BoundWrites.{kept-few, given, second-copied, first-copied, unlike-forms, sets-cut, entities-union, entities-copied}
+use Rattle.bounds.specs.Laws.BoundWrites.{kept-few, given, second-copied, first-copied, unlike-forms, entities-union, entities-copied}
+use Rattle.bounds.specs.Laws.BoundWrites.{sets-known, sets-length, sets-untyped, sets-cut, elements-length}
 use Rattle.bounds.specs.Laws.BoundWrites.{others-copied, records-known, records-cut, actions-unlike, actions-strict, actions-cut, actions-front}
 use Rattle.bounds.specs.Laws.BoundWrites.{actions-many}
 use Rattle.bounds.specs.Laws.Attached.{attach-pos, attach-ready}
@@ -26,19 +28,22 @@ use borrow.Fn.Kinds.{In}
 use borrow.Fn.PlainCycle.{Measures, is, falls, and}
 use Rattle.bounds.proofs.bound_writes.write_action.Reads as write-action
 use Rattle.bounds.proofs.bound_writes.write_action.Kinds as write-action-kinds
-use Rattle.bounds.proofs.bound_writes.+write_action+write_attributes+write_bound+write_pair+write_record.Lts-write_action as write-action-lts
+use Rattle.bounds.proofs.bound_writes.+write_action+write_attributes+write_bound+write_pair+write_record+write_set.Lts-write_action as write-action-lts
 use Rattle.bounds.proofs.bound_writes.write_attributes.Reads as write-attributes
 use Rattle.bounds.proofs.bound_writes.write_attributes.Kinds as write-attributes-kinds
-use Rattle.bounds.proofs.bound_writes.+write_action+write_attributes+write_bound+write_pair+write_record.Lts-write_attributes as write-attributes-lts
+use Rattle.bounds.proofs.bound_writes.+write_action+write_attributes+write_bound+write_pair+write_record+write_set.Lts-write_attributes as write-attributes-lts
 use Rattle.bounds.proofs.bound_writes.write_bound.Reads as write-bound
 use Rattle.bounds.proofs.bound_writes.write_bound.Kinds as write-bound-kinds
-use Rattle.bounds.proofs.bound_writes.+write_action+write_attributes+write_bound+write_pair+write_record.Lts-write_bound as write-bound-lts
+use Rattle.bounds.proofs.bound_writes.+write_action+write_attributes+write_bound+write_pair+write_record+write_set.Lts-write_bound as write-bound-lts
 use Rattle.bounds.proofs.bound_writes.write_pair.Reads as write-pair
 use Rattle.bounds.proofs.bound_writes.write_pair.Kinds as write-pair-kinds
-use Rattle.bounds.proofs.bound_writes.+write_action+write_attributes+write_bound+write_pair+write_record.Lts-write_pair as write-pair-lts
+use Rattle.bounds.proofs.bound_writes.+write_action+write_attributes+write_bound+write_pair+write_record+write_set.Lts-write_pair as write-pair-lts
 use Rattle.bounds.proofs.bound_writes.write_record.Reads as write-record
 use Rattle.bounds.proofs.bound_writes.write_record.Kinds as write-record-kinds
-use Rattle.bounds.proofs.bound_writes.+write_action+write_attributes+write_bound+write_pair+write_record.Lts-write_record as write-record-lts
+use Rattle.bounds.proofs.bound_writes.+write_action+write_attributes+write_bound+write_pair+write_record+write_set.Lts-write_record as write-record-lts
+use Rattle.bounds.proofs.bound_writes.write_set.Reads as write-set
+use Rattle.bounds.proofs.bound_writes.write_set.Kinds as write-set-kinds
+use Rattle.bounds.proofs.bound_writes.+write_action+write_attributes+write_bound+write_pair+write_record+write_set.Lts-write_set as write-set-lts
 use Rattle.bounds.proofs.bound_writes.write_entities.Reads as write-entities-reads
 use Rattle.writing.proofs.writers.put_bytes.Reads as put-bytes-reads
 use Rattle.bounds.proofs.bound_writes.write_unlike.Reads as write-unlike-reads
@@ -46,6 +51,8 @@ use Rattle.bounds.proofs.flags.both_required.Reads as both-required-rea
 use Rattle.bounds.proofs.flags.open_byte.Reads as open-byte-reads
 use Rattle.bounds.proofs.kept_attributes.kept_count.Reads as kept-count-reads
 use Rattle.bounds.proofs.kept_attributes.pair_kept.Reads as pair-kept-reads
+use Rattle.bounds.proofs.untyped_sets.is_untyped.Reads as is-untyped-reads
+use Rattle.bounds.proofs.untyped_sets.element_length.Reads as element-length-reads
 use Rattle.writing.proofs.writers.copy.Reads as copy-reads
 use Rattle.writing.proofs.writers.put_attribute.Reads as put-attribute-reads
 use Rattle.writing.proofs.writers.put_one.Reads as put-one-reads
@@ -55,10 +62,10 @@ use Rattle.forms.proofs.numbers.u16_at.Reads as u16-at-reads
 use Rattle.forms.proofs.search.skip_below.Reads as skip-below-reads
 use Rattle.forms.proofs.tables.bodies_at.Reads as bodies-at-reads
 use Rattle.forms.proofs.tables.entries_at.Reads as entries-at-reads
-use Rattle.bounds.proofs.bound_writes.+write_action+write_attributes+write_bound+write_pair+write_record.{
+use Rattle.bounds.proofs.bound_writes.+write_action+write_attributes+write_bound+write_pair+write_record+write_set.{
   statement,
 }
-use Rattle.bounds.proofs.bound_writes.+write_action+write_attributes+write_bound+write_pair+write_record.Tie.{
+use Rattle.bounds.proofs.bound_writes.+write_action+write_attributes+write_bound+write_pair+write_record+write_set.Tie.{
   close,
 }
 
@@ -76,6 +83,9 @@ abbrev μ-write-pair : Measures 5 write-pair-kinds.ps ℕ
 
 abbrev μ-write-record : Measures 3 write-record-kinds.ps ℕ
 μ-write-record κs a = 4 * a .1 .1 .1 .0 - 1
+
+abbrev μ-write-set : Measures 3 write-set-kinds.ps ℕ
+μ-write-set κs a = 4 * a .1 .1 .1 .0 - 1
 
 abbrev write-action-at : ℕ → In 3 write-action-kinds.ps
 write-action-at t =
@@ -132,6 +142,14 @@ write-record-below t =
     write-record-kinds.ps
     (falls 3 write-record-kinds.ps _<_ μ-write-record t)
     write-record.Pre
+
+abbrev write-set-at : ℕ → In 3 write-set-kinds.ps
+write-set-at t =
+    and 3 write-set-kinds.ps (is 3 write-set-kinds.ps μ-write-set t) write-set.Pre
+
+abbrev write-set-below : ℕ → In 3 write-set-kinds.ps
+write-set-below t =
+    and 3 write-set-kinds.ps (falls 3 write-set-kinds.ps _<_ μ-write-set t) write-set.Pre
 
 abbrev write-action-callees : ℕ → write-action-lts.Claims
 write-action-callees t = (
@@ -857,10 +875,8 @@ write-bound-callees t = (
   put-bytes-reads.Learnt,
   write-unlike-reads.Asked,
   write-unlike-reads.Learnt,
-  put-one-reads.Asked,
-  put-one-reads.Learnt,
-  write-bound-below t,
-  write-bound.Post,
+  write-set-below t,
+  write-set.Post,
   write-record-below t,
   write-record.Post,
   is-permissive-reads.Asked,
@@ -892,7 +908,7 @@ write-bound-put-bytes-requires t c κs =
     let args = start .args in
     let g = given (asMode (args .mode)) (args .levels) (args .a .now) (args .b .now) (pre .1 .0) (pre .1 .1 .0)
     (λ i. after-shared-slice-known .shared-slice-known .given i .fits) (λ i. after-shared-slice-known2 .shared-slice-known2 .given i .fits)
-    (pre .1 .1 .1) in
+    (pre .1 .1 .1 .0) in
     second-copied g (c .before .if1 .taken) .room
 
 write-bound-same-length : (t : ℕ) → write-bound-lts.Need-same-length (write-bound-callees t) (write-bound-at t) write-bound.Post
@@ -909,7 +925,7 @@ write-bound-returns t c =
     let args = start .args in
     let g = given (asMode (args .mode)) (args .levels) (args .a .now) (args .b .now) (pre .1 .0) (pre .1 .1 .0)
     (λ i. after-shared-slice-known .shared-slice-known .given i .fits) (λ i. after-shared-slice-known2 .shared-slice-known2 .given i .fits)
-    (pre .1 .1 .1) in
+    (pre .1 .1 .1 .0) in
     second-copied g (then1 .if1 .taken) .written _ _ (after-put-bytes .put-bytes .ensures)
 
 write-bound-put-bytes-requires-2 : (t : ℕ) → write-bound-lts.Need-put-bytes-requires-2 (write-bound-callees t) (write-bound-at t) write-bound.Post
@@ -921,7 +937,7 @@ write-bound-put-bytes-requires-2 t c κs =
     let args = start .args in
     let g = given (asMode (args .mode)) (args .levels) (args .a .now) (args .b .now) (pre .1 .0) (pre .1 .1 .0)
     (λ i. after-shared-slice-known .shared-slice-known .given i .fits) (λ i. after-shared-slice-known2 .shared-slice-known2 .given i .fits)
-    (pre .1 .1 .1) in
+    (pre .1 .1 .1 .0) in
     first-copied g (c .before .if2 .taken) .room
 
 write-bound-same-length-2 : (t : ℕ) → write-bound-lts.Need-same-length-2 (write-bound-callees t) (write-bound-at t) write-bound.Post
@@ -938,7 +954,7 @@ write-bound-returns-2 t c =
     let args = start .args in
     let g = given (asMode (args .mode)) (args .levels) (args .a .now) (args .b .now) (pre .1 .0) (pre .1 .1 .0)
     (λ i. after-shared-slice-known .shared-slice-known .given i .fits) (λ i. after-shared-slice-known2 .shared-slice-known2 .given i .fits)
-    (pre .1 .1 .1) in
+    (pre .1 .1 .1 .0) in
     first-copied g (then2 .if2 .taken) .written _ _ (after-put-bytes2 .put-bytes2 .ensures)
 
 write-bound-write-unlike-requires : (t : ℕ) → write-bound-lts.Need-write-unlike-requires (write-bound-callees t) (write-bound-at t) write-bound.Post
@@ -952,7 +968,7 @@ write-bound-write-unlike-requires t c κs =
     let args = start .args in
     let g = given (asMode (args .mode)) (args .levels) (args .a .now) (args .b .now) (pre .1 .0) (pre .1 .1 .0)
     (λ i. after-shared-slice-known .shared-slice-known .given i .fits) (λ i. after-shared-slice-known2 .shared-slice-known2 .given i .fits)
-    (pre .1 .1 .1) in
+    (pre .1 .1 .1 .0) in
     unlike-forms g (c .before .if3 .taken) (else1 .if1 .left) (else2 .if2 .left) .ready
 
 write-bound-same-length-3 : (t : ℕ) → write-bound-lts.Need-same-length-3 (write-bound-callees t) (write-bound-at t) write-bound.Post
@@ -971,134 +987,18 @@ write-bound-returns-3 t c =
     let args = start .args in
     let g = given (asMode (args .mode)) (args .levels) (args .a .now) (args .b .now) (pre .1 .0) (pre .1 .1 .0)
     (λ i. after-shared-slice-known .shared-slice-known .given i .fits) (λ i. after-shared-slice-known2 .shared-slice-known2 .given i .fits)
-    (pre .1 .1 .1) in
+    (pre .1 .1 .1 .0) in
     unlike-forms g (then3 .if3 .taken) (else1 .if1 .left) (else2 .if2 .left) .written _ _ (after-write-unlike .write-unlike .ensures)
 
-write-bound-put-one-requires : (t : ℕ) → write-bound-lts.Need-put-one-requires (write-bound-callees t) (write-bound-at t) write-bound.Post
-write-bound-put-one-requires t c κs =
+write-bound-write-set-requires : (t : ℕ) → write-bound-lts.Need-write-set-requires (write-bound-callees t) (write-bound-at t) write-bound.Post
+write-bound-write-set-requires t c κs =
     let else3 = c .before .before in
-    let after-shared-slice-known2 = else3 .before .before .before .before .before .before in
-    let after-shared-slice-known = after-shared-slice-known2 .before in
-    let start = after-shared-slice-known .before in
-    let pre = start .pre in
-    let args = start .args in
-    let g = given (asMode (args .mode)) (args .levels) (args .a .now) (args .b .now) (pre .1 .0) (pre .1 .1 .0)
-    (λ i. after-shared-slice-known .shared-slice-known .given i .fits) (λ i. after-shared-slice-known2 .shared-slice-known2 .given i .fits)
-    (pre .1 .1 .1) in
-    let same = else3 .if3 .left in
-    behind-front (sets-cut g same (c .before .match .keys1)) (g .ready)
-
-write-bound-sub-x : (t : ℕ) → write-bound-lts.Need-sub-x (write-bound-callees t) (write-bound-at t) write-bound.Post
-write-bound-sub-x t c =
-    let start = (c .before .before .before .before .before .before .before .before .before .before .before .before .before) in
-    omega (arith, not-empty (start .args .levels) (start .args .a .now) (start .pre .1 .0))
-
-write-bound-part-x-start : (t : ℕ) → write-bound-lts.Need-part-x-start (write-bound-callees t) (write-bound-at t) write-bound.Post
-write-bound-part-x-start t c =
-    let start = (c .before .before .before .before .before .before .before .before .before .before .before .before .before) in
-    omega (arith, not-empty (start .args .levels) (start .args .a .now) (start .pre .1 .0))
-
-write-bound-part-x-end : (t : ℕ) → write-bound-lts.Need-part-x-end (write-bound-callees t) (write-bound-at t) write-bound.Post
-write-bound-part-x-end t c = search needs
-
-write-bound-sub-y : (t : ℕ) → write-bound-lts.Need-sub-y (write-bound-callees t) (write-bound-at t) write-bound.Post
-write-bound-sub-y t c =
-    let start = (c .before .before .before .before .before .before .before .before .before .before .before .before .before .before) in
-    omega (arith, not-empty (start .args .levels) (start .args .b .now) (start .pre .1 .1 .0))
-
-write-bound-part-y-start : (t : ℕ) → write-bound-lts.Need-part-y-start (write-bound-callees t) (write-bound-at t) write-bound.Post
-write-bound-part-y-start t c =
-    let start = (c .before .before .before .before .before .before .before .before .before .before .before .before .before .before) in
-    omega (arith, not-empty (start .args .levels) (start .args .b .now) (start .pre .1 .1 .0))
-
-write-bound-part-y-end : (t : ℕ) → write-bound-lts.Need-part-y-end (write-bound-callees t) (write-bound-at t) write-bound.Post
-write-bound-part-y-end t c = search needs
-
-write-bound-sub-write-bound : (t : ℕ) → write-bound-lts.Need-sub-write-bound (write-bound-callees t) (write-bound-at t) write-bound.Post
-write-bound-sub-write-bound t c =
-    let at-match-keys1 = c .before .before .before .before .before .before in
-    let start = at-match-keys1 .before .before .before .before .before .before .before .before .before in
-    omega (arith, is-set (start .args .levels) (start .args .a .now) (start .pre .1 .0) (at-match-keys1 .match .keys1) .deep)
-
-write-bound-sub-write-bound-2 : (t : ℕ) → write-bound-lts.Need-sub-write-bound-2 (write-bound-callees t) (write-bound-at t) write-bound.Post
-write-bound-sub-write-bound-2 t c =
-    let after-put-one = c .before .before .before .before in
-    let at-match-keys1 = after-put-one .before .before in
-    let else3 = at-match-keys1 .before in
-    let after-shared-slice-known2 = else3 .before .before .before .before .before .before in
-    let after-shared-slice-known = after-shared-slice-known2 .before in
-    let start = after-shared-slice-known .before in
-    let pre = start .pre in
-    let args = start .args in
-    let g = given (asMode (args .mode)) (args .levels) (args .a .now) (args .b .now) (pre .1 .0) (pre .1 .1 .0)
-    (λ i. after-shared-slice-known .shared-slice-known .given i .fits) (λ i. after-shared-slice-known2 .shared-slice-known2 .given i .fits)
-    (pre .1 .1 .1) in
-    let same = else3 .if3 .left in
-    let cut = sets-cut g same (at-match-keys1 .match .keys1) in
-    let put = after-put-one .put-one in
-    omega (arith, behind-at cut (g .ready) (put .last .0) 1 (put .ensures) refl)
-
-write-bound-part-write-bound-start : (t : ℕ) → write-bound-lts.Need-part-write-bound-start (write-bound-callees t) (write-bound-at t) write-bound.Post
-write-bound-part-write-bound-start t c =
-    let after-put-one = c .before .before .before .before in
-    let at-match-keys1 = after-put-one .before .before in
-    let else3 = at-match-keys1 .before in
-    let after-shared-slice-known2 = else3 .before .before .before .before .before .before in
-    let after-shared-slice-known = after-shared-slice-known2 .before in
-    let start = after-shared-slice-known .before in
-    let pre = start .pre in
-    let args = start .args in
-    let g = given (asMode (args .mode)) (args .levels) (args .a .now) (args .b .now) (pre .1 .0) (pre .1 .1 .0)
-    (λ i. after-shared-slice-known .shared-slice-known .given i .fits) (λ i. after-shared-slice-known2 .shared-slice-known2 .given i .fits)
-    (pre .1 .1 .1) in
-    let same = else3 .if3 .left in
-    let cut = sets-cut g same (at-match-keys1 .match .keys1) in
-    let put = after-put-one .put-one in
-    omega (arith, behind-at cut (g .ready) (put .last .0) 1 (put .ensures) refl)
-
-write-bound-part-write-bound-end : (t : ℕ) → write-bound-lts.Need-part-write-bound-end (write-bound-callees t) (write-bound-at t) write-bound.Post
-write-bound-part-write-bound-end t c = search needs
-
-write-bound-write-bound-requires : (t : ℕ) → write-bound-lts.Need-write-bound-requires (write-bound-callees t) (write-bound-at t) write-bound.Post
-write-bound-write-bound-requires t c κs =
-    let after-put-one = c .before .before .before .before .before in
-    let at-match-keys1 = after-put-one .before .before in
-    let else3 = at-match-keys1 .before in
-    let after-shared-slice-known2 = else3 .before .before .before .before .before .before in
-    let after-shared-slice-known = after-shared-slice-known2 .before in
-    let start = after-shared-slice-known .before in
-    let pre = start .pre in
-    let args = start .args in
-    let g = given (asMode (args .mode)) (args .levels) (args .a .now) (args .b .now) (pre .1 .0) (pre .1 .1 .0)
-    (λ i. after-shared-slice-known .shared-slice-known .given i .fits) (λ i. after-shared-slice-known2 .shared-slice-known2 .given i .fits)
-    (pre .1 .1 .1) in
-    let same = else3 .if3 .left in
-    let keys1 = at-match-keys1 .match .keys1 in
-    let cut = sets-cut g same keys1 in
-    let put = after-put-one .put-one in
-    let first = is-set (args .levels) (args .a .now) (pre .1 .0) keys1 in
-    let second = is-set (args .levels) (args .b .now) (pre .1 .1 .0) (sym same ∙ keys1) in
-    (omega (arith, pre .0, first .deep), (first .good, (second .good, behind-ready cut (g .ready) (put .last .0) 1 (put .ensures) refl)))
-
-write-bound-add-result : (t : ℕ) → write-bound-lts.Need-add-result (write-bound-callees t) (write-bound-at t) write-bound.Post
-write-bound-add-result t c =
-    let after-write-bound = c .before .before in
-    let after-put-one = after-write-bound .before .before .before .before .before .before in
-    let at-match-keys1 = after-put-one .before .before in
-    let else3 = at-match-keys1 .before in
-    let after-shared-slice-known2 = else3 .before .before .before .before .before .before in
-    let after-shared-slice-known = after-shared-slice-known2 .before in
-    let start = after-shared-slice-known .before in
-    let pre = start .pre in
-    let args = start .args in
-    let g = given (asMode (args .mode)) (args .levels) (args .a .now) (args .b .now) (pre .1 .0) (pre .1 .1 .0)
-    (λ i. after-shared-slice-known .shared-slice-known .given i .fits) (λ i. after-shared-slice-known2 .shared-slice-known2 .given i .fits)
-    (pre .1 .1 .1) in
-    let same = else3 .if3 .left in
-    let cut = sets-cut g same (at-match-keys1 .match .keys1) in
-    let put = after-put-one .put-one in
-    let element = after-write-bound .write-bound in
-    omega (arith, behind-small cut (g .ready) (put .last .0) 1 (put .ensures) refl (element .last .1 .1 .1 .1 .0) (element .result) (element .ensures))
+    let start = else3 .before .before .before .before .before .before .before .before in
+    let key = c .before .match .keys1 in
+    let pre = start .pre in (
+      omega (arith, pre .0, is-set (start .args .levels) (start .args .a .now) (pre .1 .0) key .deep),
+      ((pre .1 .0, key), ((pre .1 .1 .0, sym (else3 .if3 .left) ∙ key), (pre .1 .1 .1 .0, pre .1 .1 .1 .1))),
+    )
 
 write-bound-write-record-requires : (t : ℕ) → write-bound-lts.Need-write-record-requires (write-bound-callees t) (write-bound-at t) write-bound.Post
 write-bound-write-record-requires t c κs =
@@ -1107,7 +1007,7 @@ write-bound-write-record-requires t c κs =
     let key = c .before .match .keys2 in
     let pre = start .pre in (
       omega (arith, pre .0, is-record (start .args .levels) (start .args .a .now) (pre .1 .0) key .deep),
-      ((pre .1 .0, key), ((pre .1 .1 .0, sym (else3 .if3 .left) ∙ key), pre .1 .1 .1)),
+      ((pre .1 .0, key), ((pre .1 .1 .0, sym (else3 .if3 .left) ∙ key), pre .1 .1 .1 .0)),
     )
 
 write-bound-is-permissive-requires : (t : ℕ) → write-bound-lts.Need-is-permissive-requires (write-bound-callees t) (write-bound-at t) write-bound.Post
@@ -1144,7 +1044,7 @@ write-bound-write-entities-requires t c κs =
     let args = start .args in
     let g = given (asMode (args .mode)) (args .levels) (args .a .now) (args .b .now) (pre .1 .0) (pre .1 .1 .0)
     (λ i. after-shared-slice-known .shared-slice-known .given i .fits) (λ i. after-shared-slice-known2 .shared-slice-known2 .given i .fits)
-    (pre .1 .1 .1) in
+    (pre .1 .1 .1 .0) in
     let same = else3 .if3 .left in
     let keys3 = at-match-keys3 .match .keys3 in
     let first = is-entity (args .levels) (args .a .now) (pre .1 .0) keys3 in
@@ -1169,7 +1069,7 @@ write-bound-returns-4 t c =
     let args = start .args in
     let g = given (asMode (args .mode)) (args .levels) (args .a .now) (args .b .now) (pre .1 .0) (pre .1 .1 .0)
     (λ i. after-shared-slice-known .shared-slice-known .given i .fits) (λ i. after-shared-slice-known2 .shared-slice-known2 .given i .fits)
-    (pre .1 .1 .1) in
+    (pre .1 .1 .1 .0) in
     let same = else3 .if3 .left in
     entities-union g same (at-match-keys3 .match .keys3) (sym (after-is-permissive .is-permissive .ensures) ∙ then4 .if4 .taken) .written _ _
     (rw (rest-0 (args .a .now), rest-0 (args .b .now)) at (after-write-entities .write-entities .ensures))
@@ -1186,7 +1086,7 @@ write-bound-put-bytes-requires-3 t c κs =
     let args = start .args in
     let g = given (asMode (args .mode)) (args .levels) (args .a .now) (args .b .now) (pre .1 .0) (pre .1 .1 .0)
     (λ i. after-shared-slice-known .shared-slice-known .given i .fits) (λ i. after-shared-slice-known2 .shared-slice-known2 .given i .fits)
-    (pre .1 .1 .1) in
+    (pre .1 .1 .1 .0) in
     let same = else3 .if3 .left in
     entities-copied g same (at-match-keys3 .match .keys3) (sym (after-is-permissive .is-permissive .ensures) ∙ c .before .if4 .left) .room
 
@@ -1214,7 +1114,7 @@ write-bound-write-unlike-requires-2 t c κs =
     let args = start .args in
     let g = given (asMode (args .mode)) (args .levels) (args .a .now) (args .b .now) (pre .1 .0) (pre .1 .1 .0)
     (λ i. after-shared-slice-known .shared-slice-known .given i .fits) (λ i. after-shared-slice-known2 .shared-slice-known2 .given i .fits)
-    (pre .1 .1 .1) in
+    (pre .1 .1 .1 .0) in
     let same = else3 .if3 .left in
     let n = after-u16-at .u16-at in
     let i = after-u16-at2 .u16-at2 in
@@ -1238,7 +1138,7 @@ write-bound-returns-5 t c =
     let args = start .args in
     let g = given (asMode (args .mode)) (args .levels) (args .a .now) (args .b .now) (pre .1 .0) (pre .1 .1 .0)
     (λ i. after-shared-slice-known .shared-slice-known .given i .fits) (λ i. after-shared-slice-known2 .shared-slice-known2 .given i .fits)
-    (pre .1 .1 .1) in
+    (pre .1 .1 .1 .0) in
     let same = else3 .if3 .left in
     let n = after-u16-at .u16-at in
     let i = after-u16-at2 .u16-at2 in
@@ -1277,7 +1177,7 @@ write-bound-write-action-requires t c κs =
     let args = start .args in
     let g = given (asMode (args .mode)) (args .levels) (args .a .now) (args .b .now) (pre .1 .0) (pre .1 .1 .0)
     (λ i. after-shared-slice-known .shared-slice-known .given i .fits) (λ i. after-shared-slice-known2 .shared-slice-known2 .given i .fits)
-    (pre .1 .1 .1) in
+    (pre .1 .1 .1 .0) in
     let same = else3 .if3 .left in
     let n = after-u16-at .u16-at in
     let i = after-u16-at2 .u16-at2 in
@@ -1303,7 +1203,7 @@ write-bound-put-bytes-requires-4 t c κs =
     let args = start .args in
     let g = given (asMode (args .mode)) (args .levels) (args .a .now) (args .b .now) (pre .1 .0) (pre .1 .1 .0)
     (λ i. after-shared-slice-known .shared-slice-known .given i .fits) (λ i. after-shared-slice-known2 .shared-slice-known2 .given i .fits)
-    (pre .1 .1 .1) in
+    (pre .1 .1 .1 .0) in
     let same = else3 .if3 .left in
     let rest = c .before .match .rest in
     others-copied g same (rest .0 .0 .0 .1) (rest .0 .0 .1) (rest .0 .1) (rest .1) .room
@@ -1313,23 +1213,8 @@ write-bound-same-length-6 t c = search needs
 
 write-bound-returns-6 : (t : ℕ) → write-bound-lts.Need-returns-6 (write-bound-callees t) (write-bound-at t) write-bound.Post
 write-bound-returns-6 t c =
-    let after-write-bound = c .before .before in
-    let after-put-one = after-write-bound .before .before .before .before .before .before in
-    let at-match-keys1 = after-put-one .before .before in
-    let else3 = at-match-keys1 .before in
-    let after-shared-slice-known2 = else3 .before .before .before .before .before .before in
-    let after-shared-slice-known = after-shared-slice-known2 .before in
-    let start = after-shared-slice-known .before in
-    let pre = start .pre in
-    let args = start .args in
-    let g = given (asMode (args .mode)) (args .levels) (args .a .now) (args .b .now) (pre .1 .0) (pre .1 .1 .0)
-    (λ i. after-shared-slice-known .shared-slice-known .given i .fits) (λ i. after-shared-slice-known2 .shared-slice-known2 .given i .fits)
-    (pre .1 .1 .1) in
-    let same = else3 .if3 .left in
-    let cut = sets-cut g same (at-match-keys1 .match .keys1) in
-    let put = after-put-one .put-one in
-    let element = after-write-bound .write-bound in
-    behind-written cut (g .ready) (put .last .0) 1 (put .ensures) refl (element .last .1 .1 .1 .1 .0) (element .result) (element .ensures)
+    let after-write-set = c .before .before in
+    after-write-set .write-set .ensures
 
 write-bound-same-length-7 : (t : ℕ) → write-bound-lts.Need-same-length-7 (write-bound-callees t) (write-bound-at t) write-bound.Post
 write-bound-same-length-7 t c = search needs
@@ -1356,7 +1241,7 @@ write-bound-returns-8 t c =
     let args = start .args in
     let g = given (asMode (args .mode)) (args .levels) (args .a .now) (args .b .now) (pre .1 .0) (pre .1 .1 .0)
     (λ i. after-shared-slice-known .shared-slice-known .given i .fits) (λ i. after-shared-slice-known2 .shared-slice-known2 .given i .fits)
-    (pre .1 .1 .1) in
+    (pre .1 .1 .1 .0) in
     let same = else3 .if3 .left in
     entities-copied g same (at-match-keys3 .match .keys3) (sym (after-is-permissive .is-permissive .ensures) ∙ else4 .if4 .left) .written _ _
     (after-put-bytes3 .put-bytes3 .ensures)
@@ -1379,7 +1264,7 @@ write-bound-returns-9 t c =
     let args = start .args in
     let g = given (asMode (args .mode)) (args .levels) (args .a .now) (args .b .now) (pre .1 .0) (pre .1 .1 .0)
     (λ i. after-shared-slice-known .shared-slice-known .given i .fits) (λ i. after-shared-slice-known2 .shared-slice-known2 .given i .fits)
-    (pre .1 .1 .1) in
+    (pre .1 .1 .1 .0) in
     let same = else3 .if3 .left in
     let n = after-u16-at .u16-at in
     let i = after-u16-at2 .u16-at2 in
@@ -1401,7 +1286,7 @@ write-bound-returns-10 t c =
     let args = start .args in
     let g = given (asMode (args .mode)) (args .levels) (args .a .now) (args .b .now) (pre .1 .0) (pre .1 .1 .0)
     (λ i. after-shared-slice-known .shared-slice-known .given i .fits) (λ i. after-shared-slice-known2 .shared-slice-known2 .given i .fits)
-    (pre .1 .1 .1) in
+    (pre .1 .1 .1 .0) in
     let same = else3 .if3 .left in
     let rest = at-match-rest .match .rest in
     others-copied g same (rest .0 .0 .0 .1) (rest .0 .0 .1) (rest .0 .1) (rest .1) .written _ _ (after-put-bytes4 .put-bytes4 .ensures)
@@ -1472,7 +1357,7 @@ write-pair-write-bound-requires t c κs =
     (else1 .if1 .left) (len .result) (len .ensures .0) (pre .1 .1 .1 .1) in
     let by-met-body = met-body (args .e .now) (pre .1 .1 .1 .0) (asMode (args .mode)) (dec (args .levels) (args .t .now)) (kept .result) (kept .ensures)
     (else1 .if1 .left) (len .result) (len .ensures .0) in
-    (omega (arith, pre .0), (pre .1 .1 .0, (by-met-body .1, by-met-ready)))
+    (omega (arith, pre .0), (pre .1 .1 .0, (by-met-body .1, (by-met-ready, λ p. absurd (omega arith)))))
 
 write-pair-same-length : (t : ℕ) → write-pair-lts.Need-same-length (write-pair-callees t) (write-pair-at t) write-pair.Post
 write-pair-same-length t c = search needs
@@ -1745,15 +1630,256 @@ write-record-returns t c =
     let rows = after-write-attributes .write-attributes in
     behind-written cut (g .ready) (put .last .0) 4 (put .ensures) refl (rows .last .1 .1 .1 .1 .1 .0) (rows .result) (rows .ensures)
 
-pub +write-action+write-attributes+write-bound+write-pair+write-record-spec :
+abbrev write-set-callees : ℕ → write-set-lts.Claims
+write-set-callees t = (
+  is-untyped-reads.Asked,
+  is-untyped-reads.Learnt,
+  put-one-reads.Asked,
+  put-one-reads.Learnt,
+  element-length-reads.Asked,
+  element-length-reads.Learnt,
+  write-bound-below t,
+  write-bound.Post,
+)
+
+write-set-sub-x : (t : ℕ) → write-set-lts.Need-sub-x (write-set-callees t) (write-set-at t) write-set.Post
+write-set-sub-x t c =
+    let start = c .before .before .before in
+    omega (arith, not-empty (start .args .levels) (start .args .a .now) (start .pre .1 .0 .0))
+
+write-set-part-x-start : (t : ℕ) → write-set-lts.Need-part-x-start (write-set-callees t) (write-set-at t) write-set.Post
+write-set-part-x-start t c =
+    let start = c .before .before .before in
+    omega (arith, not-empty (start .args .levels) (start .args .a .now) (start .pre .1 .0 .0))
+
+write-set-part-x-end : (t : ℕ) → write-set-lts.Need-part-x-end (write-set-callees t) (write-set-at t) write-set.Post
+write-set-part-x-end t c = search needs
+
+write-set-sub-y : (t : ℕ) → write-set-lts.Need-sub-y (write-set-callees t) (write-set-at t) write-set.Post
+write-set-sub-y t c =
+    let start = c .before .before .before .before in
+    omega (arith, not-empty (start .args .levels) (start .args .b .now) (start .pre .1 .1 .0 .0))
+
+write-set-part-y-start : (t : ℕ) → write-set-lts.Need-part-y-start (write-set-callees t) (write-set-at t) write-set.Post
+write-set-part-y-start t c =
+    let start = c .before .before .before .before in
+    omega (arith, not-empty (start .args .levels) (start .args .b .now) (start .pre .1 .1 .0 .0))
+
+write-set-part-y-end : (t : ℕ) → write-set-lts.Need-part-y-end (write-set-callees t) (write-set-at t) write-set.Post
+write-set-part-y-end t c = search needs
+
+write-set-sub-is-untyped : (t : ℕ) → write-set-lts.Need-sub-is-untyped (write-set-callees t) (write-set-at t) write-set.Post
+write-set-sub-is-untyped t c =
+    let start = c .before .before .before .before .before in
+    omega (arith, is-set (start .args .levels) (start .args .a .now) (start .pre .1 .0 .0) (start .pre .1 .0 .1) .deep)
+
+write-set-is-untyped-requires : (t : ℕ) → write-set-lts.Need-is-untyped-requires (write-set-callees t) (write-set-at t) write-set.Post
+write-set-is-untyped-requires t c κs =
+    let after-y = c in
+    let after-shared-slice-known2 = after-y .before .before .before in
+    let after-shared-slice-known = after-shared-slice-known2 .before in
+    let start = after-shared-slice-known .before in
+    let pre = start .pre in
+    let key = pre .1 .0 .1 in
+    let same = key ∙ sym (pre .1 .1 .0 .1) in
+    let args = start .args in
+    let g = given (asMode (args .mode)) (args .levels) (args .a .now) (args .b .now) (pre .1 .0 .0) (pre .1 .1 .0 .0)
+    (λ i. after-shared-slice-known .shared-slice-known .given i .fits) (λ i. after-shared-slice-known2 .shared-slice-known2 .given i .fits)
+    (pre .1 .1 .1 .0) in
+    let first = is-set (args .levels) (args .a .now) (pre .1 .0 .0) key in
+    let second = is-set (args .levels) (args .b .now) (pre .1 .1 .0 .0) (pre .1 .1 .0 .1) in
+    (first .good, (second .good, (sets-known g same key, sets-length g same key (args .known) (pre .1 .1 .1 .1))))
+
+write-set-put-one-requires : (t : ℕ) → write-set-lts.Need-put-one-requires (write-set-callees t) (write-set-at t) write-set.Post
+write-set-put-one-requires t c κs =
+    let then1 = c .before in
+    let after-is-untyped = then1 .before in
+    let after-y = after-is-untyped .before in
+    let after-shared-slice-known2 = after-y .before .before .before in
+    let after-shared-slice-known = after-shared-slice-known2 .before in
+    let start = after-shared-slice-known .before in
+    let pre = start .pre in
+    let key = pre .1 .0 .1 in
+    let same = key ∙ sym (pre .1 .1 .0 .1) in
+    let args = start .args in
+    let g = given (asMode (args .mode)) (args .levels) (args .a .now) (args .b .now) (pre .1 .0 .0) (pre .1 .1 .0 .0)
+    (λ i. after-shared-slice-known .shared-slice-known .given i .fits) (λ i. after-shared-slice-known2 .shared-slice-known2 .given i .fits)
+    (pre .1 .1 .1 .0) in
+    sets-untyped g same key (after-is-untyped .is-untyped .result) (after-is-untyped .is-untyped .ensures) (then1 .if1 .taken) .room
+
+write-set-same-length : (t : ℕ) → write-set-lts.Need-same-length (write-set-callees t) (write-set-at t) write-set.Post
+write-set-same-length t c = search needs
+
+write-set-returns : (t : ℕ) → write-set-lts.Need-returns (write-set-callees t) (write-set-at t) write-set.Post
+write-set-returns t c =
+    let after-put-one = c .before .before in
+    let then1 = after-put-one .before .before in
+    let after-is-untyped = then1 .before in
+    let after-y = after-is-untyped .before in
+    let after-shared-slice-known2 = after-y .before .before .before in
+    let after-shared-slice-known = after-shared-slice-known2 .before in
+    let start = after-shared-slice-known .before in
+    let pre = start .pre in
+    let key = pre .1 .0 .1 in
+    let same = key ∙ sym (pre .1 .1 .0 .1) in
+    let args = start .args in
+    let g = given (asMode (args .mode)) (args .levels) (args .a .now) (args .b .now) (pre .1 .0 .0) (pre .1 .1 .0 .0)
+    (λ i. after-shared-slice-known .shared-slice-known .given i .fits) (λ i. after-shared-slice-known2 .shared-slice-known2 .given i .fits)
+    (pre .1 .1 .1 .0) in
+    let untyped = sets-untyped g same key (after-is-untyped .is-untyped .result) (after-is-untyped .is-untyped .ensures) (then1 .if1 .taken) in
+    untyped .written _ 1 record { bytes = after-put-one .put-one .ensures; many = refl }
+
+write-set-put-one-requires-2 : (t : ℕ) → write-set-lts.Need-put-one-requires-2 (write-set-callees t) (write-set-at t) write-set.Post
+write-set-put-one-requires-2 t c κs =
+    let else1 = c .before in
+    let after-is-untyped = else1 .before in
+    let after-y = after-is-untyped .before in
+    let after-shared-slice-known2 = after-y .before .before .before in
+    let after-shared-slice-known = after-shared-slice-known2 .before in
+    let start = after-shared-slice-known .before in
+    let pre = start .pre in
+    let key = pre .1 .0 .1 in
+    let same = key ∙ sym (pre .1 .1 .0 .1) in
+    let args = start .args in
+    let g = given (asMode (args .mode)) (args .levels) (args .a .now) (args .b .now) (pre .1 .0 .0) (pre .1 .1 .0 .0)
+    (λ i. after-shared-slice-known .shared-slice-known .given i .fits) (λ i. after-shared-slice-known2 .shared-slice-known2 .given i .fits)
+    (pre .1 .1 .1 .0) in
+    let cut = sets-cut g same key (after-is-untyped .is-untyped .result) (after-is-untyped .is-untyped .ensures) (else1 .if1 .left) in
+    behind-front cut (g .ready)
+
+write-set-element-length-requires : (t : ℕ) → write-set-lts.Need-element-length-requires (write-set-callees t) (write-set-at t) write-set.Post
+write-set-element-length-requires t c κs = search needs
+
+write-set-sub-write-bound : (t : ℕ) → write-set-lts.Need-sub-write-bound (write-set-callees t) (write-set-at t) write-set.Post
+write-set-sub-write-bound t c =
+    let start = c .before .before .before .before .before .before .before .before .before .before .before .before in
+    omega (arith, is-set (start .args .levels) (start .args .a .now) (start .pre .1 .0 .0) (start .pre .1 .0 .1) .deep)
+
+write-set-sub-write-bound-2 : (t : ℕ) → write-set-lts.Need-sub-write-bound-2 (write-set-callees t) (write-set-at t) write-set.Post
+write-set-sub-write-bound-2 t c =
+    let after-put-one = c .before .before .before in
+    let else1 = after-put-one .before .before in
+    let after-is-untyped = else1 .before in
+    let after-y = after-is-untyped .before in
+    let after-shared-slice-known2 = after-y .before .before .before in
+    let after-shared-slice-known = after-shared-slice-known2 .before in
+    let start = after-shared-slice-known .before in
+    let pre = start .pre in
+    let key = pre .1 .0 .1 in
+    let same = key ∙ sym (pre .1 .1 .0 .1) in
+    let args = start .args in
+    let g = given (asMode (args .mode)) (args .levels) (args .a .now) (args .b .now) (pre .1 .0 .0) (pre .1 .1 .0 .0)
+    (λ i. after-shared-slice-known .shared-slice-known .given i .fits) (λ i. after-shared-slice-known2 .shared-slice-known2 .given i .fits)
+    (pre .1 .1 .1 .0) in
+    let cut = sets-cut g same key (after-is-untyped .is-untyped .result) (after-is-untyped .is-untyped .ensures) (else1 .if1 .left) in
+    let put = after-put-one .put-one2 in
+    omega (arith, behind-at cut (g .ready) (put .last .0) 1 (put .ensures) refl)
+
+write-set-part-write-bound-start : (t : ℕ) → write-set-lts.Need-part-write-bound-start (write-set-callees t) (write-set-at t) write-set.Post
+write-set-part-write-bound-start t c =
+    let after-put-one = c .before .before .before in
+    let else1 = after-put-one .before .before in
+    let after-is-untyped = else1 .before in
+    let after-y = after-is-untyped .before in
+    let after-shared-slice-known2 = after-y .before .before .before in
+    let after-shared-slice-known = after-shared-slice-known2 .before in
+    let start = after-shared-slice-known .before in
+    let pre = start .pre in
+    let key = pre .1 .0 .1 in
+    let same = key ∙ sym (pre .1 .1 .0 .1) in
+    let args = start .args in
+    let g = given (asMode (args .mode)) (args .levels) (args .a .now) (args .b .now) (pre .1 .0 .0) (pre .1 .1 .0 .0)
+    (λ i. after-shared-slice-known .shared-slice-known .given i .fits) (λ i. after-shared-slice-known2 .shared-slice-known2 .given i .fits)
+    (pre .1 .1 .1 .0) in
+    let cut = sets-cut g same key (after-is-untyped .is-untyped .result) (after-is-untyped .is-untyped .ensures) (else1 .if1 .left) in
+    let put = after-put-one .put-one2 in
+    omega (arith, behind-at cut (g .ready) (put .last .0) 1 (put .ensures) refl)
+
+write-set-part-write-bound-end : (t : ℕ) → write-set-lts.Need-part-write-bound-end (write-set-callees t) (write-set-at t) write-set.Post
+write-set-part-write-bound-end t c = search needs
+
+write-set-write-bound-requires : (t : ℕ) → write-set-lts.Need-write-bound-requires (write-set-callees t) (write-set-at t) write-set.Post
+write-set-write-bound-requires t c κs =
+    let after-element-length = c .before in
+    let after-put-one = after-element-length .before .before .before in
+    let else1 = after-put-one .before .before in
+    let after-is-untyped = else1 .before in
+    let after-y = after-is-untyped .before in
+    let after-shared-slice-known2 = after-y .before .before .before in
+    let after-shared-slice-known = after-shared-slice-known2 .before in
+    let start = after-shared-slice-known .before in
+    let pre = start .pre in
+    let key = pre .1 .0 .1 in
+    let same = key ∙ sym (pre .1 .1 .0 .1) in
+    let args = start .args in
+    let g = given (asMode (args .mode)) (args .levels) (args .a .now) (args .b .now) (pre .1 .0 .0) (pre .1 .1 .0 .0)
+    (λ i. after-shared-slice-known .shared-slice-known .given i .fits) (λ i. after-shared-slice-known2 .shared-slice-known2 .given i .fits)
+    (pre .1 .1 .1 .0) in
+    let cut = sets-cut g same key (after-is-untyped .is-untyped .result) (after-is-untyped .is-untyped .ensures) (else1 .if1 .left) in
+    let put = after-put-one .put-one2 in
+    let first = is-set (args .levels) (args .a .now) (pre .1 .0 .0) key in
+    let second = is-set (args .levels) (args .b .now) (pre .1 .1 .0 .0) (pre .1 .1 .0 .1) in
+    let known = elements-length g same key (after-is-untyped .is-untyped .result) (after-is-untyped .is-untyped .ensures) (else1 .if1 .left) (args .known) (pre .1 .1 .1 .1) in
+    let ready = behind-ready cut (g .ready) (put .last .0) 1 (put .ensures) refl in
+    (omega (arith, pre .0, first .deep), (first .good, (second .good, (ready, rw (after-element-length .element-length .ensures) known))))
+
+write-set-add-result : (t : ℕ) → write-set-lts.Need-add-result (write-set-callees t) (write-set-at t) write-set.Post
+write-set-add-result t c =
+    let after-write-bound = c .before .before in
+    let after-put-one = after-write-bound .before .before .before .before .before in
+    let else1 = after-put-one .before .before in
+    let after-is-untyped = else1 .before in
+    let after-y = after-is-untyped .before in
+    let after-shared-slice-known2 = after-y .before .before .before in
+    let after-shared-slice-known = after-shared-slice-known2 .before in
+    let start = after-shared-slice-known .before in
+    let pre = start .pre in
+    let key = pre .1 .0 .1 in
+    let same = key ∙ sym (pre .1 .1 .0 .1) in
+    let args = start .args in
+    let g = given (asMode (args .mode)) (args .levels) (args .a .now) (args .b .now) (pre .1 .0 .0) (pre .1 .1 .0 .0)
+    (λ i. after-shared-slice-known .shared-slice-known .given i .fits) (λ i. after-shared-slice-known2 .shared-slice-known2 .given i .fits)
+    (pre .1 .1 .1 .0) in
+    let cut = sets-cut g same key (after-is-untyped .is-untyped .result) (after-is-untyped .is-untyped .ensures) (else1 .if1 .left) in
+    let put = after-put-one .put-one2 in
+    let element = after-write-bound .write-bound in
+    omega (arith, behind-small cut (g .ready) (put .last .0) 1 (put .ensures) refl (element .last .1 .1 .1 .1 .1 .0) (element .result) (element .ensures))
+
+write-set-same-length-2 : (t : ℕ) → write-set-lts.Need-same-length-2 (write-set-callees t) (write-set-at t) write-set.Post
+write-set-same-length-2 t c = search needs
+
+write-set-returns-2 : (t : ℕ) → write-set-lts.Need-returns-2 (write-set-callees t) (write-set-at t) write-set.Post
+write-set-returns-2 t c =
+    let after-write-bound = c .before .before in
+    let after-put-one = after-write-bound .before .before .before .before .before in
+    let else1 = after-put-one .before .before in
+    let after-is-untyped = else1 .before in
+    let after-y = after-is-untyped .before in
+    let after-shared-slice-known2 = after-y .before .before .before in
+    let after-shared-slice-known = after-shared-slice-known2 .before in
+    let start = after-shared-slice-known .before in
+    let pre = start .pre in
+    let key = pre .1 .0 .1 in
+    let same = key ∙ sym (pre .1 .1 .0 .1) in
+    let args = start .args in
+    let g = given (asMode (args .mode)) (args .levels) (args .a .now) (args .b .now) (pre .1 .0 .0) (pre .1 .1 .0 .0)
+    (λ i. after-shared-slice-known .shared-slice-known .given i .fits) (λ i. after-shared-slice-known2 .shared-slice-known2 .given i .fits)
+    (pre .1 .1 .1 .0) in
+    let cut = sets-cut g same key (after-is-untyped .is-untyped .result) (after-is-untyped .is-untyped .ensures) (else1 .if1 .left) in
+    let put = after-put-one .put-one2 in
+    let element = after-write-bound .write-bound in
+    behind-written cut (g .ready) (put .last .0) 1 (put .ensures) refl (element .last .1 .1 .1 .1 .1 .0) (element .result) (element .ensures)
+
+pub +write-action+write-attributes+write-bound+write-pair+write-record+write-set-spec :
     {M : Type 1} → statement M
-+write-action+write-attributes+write-bound+write-pair+write-record-spec =
++write-action+write-attributes+write-bound+write-pair+write-record+write-set-spec =
     close
     μ-write-action
     μ-write-attributes
     μ-write-bound
     μ-write-pair
     μ-write-record
+    μ-write-set
     (λ t. write-action-lts.spec (write-action-callees t)
     (write-action-at t)
     write-action.Post
@@ -1843,19 +1969,7 @@ pub +write-action+write-attributes+write-bound+write-pair+write-record-spec :
     (write-bound-write-unlike-requires t)
     (write-bound-same-length-3 t)
     (write-bound-returns-3 t)
-    (write-bound-put-one-requires t)
-    (write-bound-sub-x t)
-    (write-bound-part-x-start t)
-    (write-bound-part-x-end t)
-    (write-bound-sub-y t)
-    (write-bound-part-y-start t)
-    (write-bound-part-y-end t)
-    (write-bound-sub-write-bound t)
-    (write-bound-sub-write-bound-2 t)
-    (write-bound-part-write-bound-start t)
-    (write-bound-part-write-bound-end t)
-    (write-bound-write-bound-requires t)
-    (write-bound-add-result t)
+    (write-bound-write-set-requires t)
     (write-bound-write-record-requires t)
     (write-bound-is-permissive-requires t)
     (write-bound-sub-write-entities t)
@@ -1903,7 +2017,7 @@ pub +write-action+write-attributes+write-bound+write-pair+write-record-spec :
     (write-pair-write-bound-requires t)
     (write-pair-same-length t)
     (write-pair-returns-2 t))
-    λ t. write-record-lts.spec (write-record-callees t)
+    (λ t. write-record-lts.spec (write-record-callees t)
     (write-record-at t)
     write-record.Post
     (write-record-sub-x t)
@@ -1927,4 +2041,28 @@ pub +write-action+write-attributes+write-bound+write-pair+write-record-spec :
     (write-record-write-attributes-requires t)
     (write-record-add-result t)
     (write-record-same-length t)
-    (write-record-returns t)
+    (write-record-returns t))
+    λ t. write-set-lts.spec (write-set-callees t)
+    (write-set-at t)
+    write-set.Post
+    (write-set-sub-x t)
+    (write-set-part-x-start t)
+    (write-set-part-x-end t)
+    (write-set-sub-y t)
+    (write-set-part-y-start t)
+    (write-set-part-y-end t)
+    (write-set-sub-is-untyped t)
+    (write-set-is-untyped-requires t)
+    (write-set-put-one-requires t)
+    (write-set-same-length t)
+    (write-set-returns t)
+    (write-set-put-one-requires-2 t)
+    (write-set-element-length-requires t)
+    (write-set-sub-write-bound t)
+    (write-set-sub-write-bound-2 t)
+    (write-set-part-write-bound-start t)
+    (write-set-part-write-bound-end t)
+    (write-set-write-bound-requires t)
+    (write-set-add-result t)
+    (write-set-same-length-2 t)
+    (write-set-returns-2 t)

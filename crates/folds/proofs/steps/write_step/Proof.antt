@@ -1,6 +1,6 @@
 -- `folds::steps::write_step` meets its contract. Assumes nothing.
 use Rattle.forms.specs.Modes.{asMode}
-use Rattle.folds.specs.Laws.Steps.{stepping, step-none, step-over-half, step-over-form, step-ready, step-second, step-first}
+use Rattle.folds.specs.Laws.Steps.{stepping, step-none, step-over-half, step-over-form, step-ready, step-length, step-second, step-first}
 use Rattle.forms.specs.Laws.Parts.{length-rest}
 use Rattle.forms.specs.Parts.{rest}
 use lib.ListN.{length, take, length-take}
@@ -118,7 +118,9 @@ write-bound-requires c κs =
     (λ i. after-shared-slice-known .shared-slice-known .given i .fits) in
     let ready = step-ready (asMode (args .mode)) from (said .result) (said .ensures) (length (args .work .now)) (after-n .n .given .0 .0) (after-n .n .given .1)
     (else1 .if1 .left) (else2 .if2 .left) room (omega (arith, length-rest half (args .work .now), else1 .if1 .left)) in
-    (pre .0 .good, (pre .1, ready))
+    let exact = step-length (asMode (args .mode)) from (said .result) (said .ensures) (length (args .work .now)) (after-n .n .given .0 .0) (after-n .n .given .1)
+    (else1 .if1 .left) (else2 .if2 .left) in
+    (pre .0 .good, (pre .1, (ready, λ p. exact)))
 
 add-copy : tie.Need-add-copy
 add-copy c = search needs
@@ -161,7 +163,7 @@ returns-4 c =
     (λ i. after-shared-slice-known .shared-slice-known .given i .fits) in
     step-second (asMode (args .mode)) from (said .result) (said .ensures) (length (args .work .now)) (after-n .n .given .0 .0) (after-n .n .given .1)
     (else1 .if1 .left) (else2 .if2 .left)
-    (args .work .now) (wrote .last .1 .1 .1 .1 .0) (copied .last .1 .0) refl (copied .kept .1 .0) (wrote .ensures .bytes) (copied .ensures)
+    (args .work .now) (wrote .last .1 .1 .1 .1 .1 .0) (copied .last .1 .0) refl (copied .kept .1 .0) (wrote .ensures .bytes) (copied .ensures)
 
 sub-write-bound-3 : tie.Need-sub-write-bound-3
 sub-write-bound-3 c = search needs
@@ -198,7 +200,9 @@ write-bound-requires-2 c κs =
     (λ i. after-shared-slice-known .shared-slice-known .given i .fits) in
     let ready = step-ready (asMode (args .mode)) from (said .result) (said .ensures) (length (args .work .now)) (after-n .n .given .0 .0) (after-n .n .given .1)
     (else1 .if1 .left) (else2 .if2 .left) room (omega (arith, length-take half (args .work .now), else1 .if1 .left)) in
-    (pre .0 .good, (pre .1, ready))
+    let exact = step-length (asMode (args .mode)) from (said .result) (said .ensures) (length (args .work .now)) (after-n .n .given .0 .0) (after-n .n .given .1)
+    (else1 .if1 .left) (else2 .if2 .left) in
+    (pre .0 .good, (pre .1, (ready, λ p. exact)))
 
 sub-copy-2 : tie.Need-sub-copy-2
 sub-copy-2 c = search needs
@@ -238,7 +242,7 @@ returns-5 c =
     (λ i. after-shared-slice-known .shared-slice-known .given i .fits) in
     step-first (asMode (args .mode)) from (said .result) (said .ensures) (length (args .work .now)) (after-n .n .given .0 .0) (after-n .n .given .1)
     (else1 .if1 .left) (else2 .if2 .left)
-    (args .work .now) (wrote .last .1 .1 .1 .1 .0) (copied .last .1 .0) refl (copied .kept .1 .0) (wrote .ensures .bytes) (copied .ensures)
+    (args .work .now) (wrote .last .1 .1 .1 .1 .1 .0) (copied .last .1 .0) refl (copied .kept .1 .0) (wrote .ensures .bytes) (copied .ensures)
 
 pub write-step-spec : {M : Type 1} → statement M
 write-step-spec =

@@ -7,7 +7,7 @@ use Rattle.forms.specs.Modes.{asMode}
 use Rattle.forms.specs.Laws.Modes.{mode-known, mode-none}
 use Rattle.validator.specs.Laws.Questions.{type-missing, type-there, type-whole}
 use Rattle.validator.specs.Laws.Schemas.{checked-missing, checked-there}
-use Rattle.validator.specs.Laws.Writing.{refuses, writes-not, writes-over, writes-ready, writes}
+use Rattle.validator.specs.Laws.Writing.{refuses, writes-not, writes-over, writes-ready, writes-length, writes}
 use Rattle.validator.specs.Laws.Bound.{bound-mode, bound-schema, bound-first, bound-second, bound-direct}
 use borrow.Author.Needs.{needs}
 use Rattle.validator.proofs.least_upper_bound.least_upper_bound_checked.Statement.{
@@ -150,8 +150,12 @@ write-bound-requires c κs =
       by-type-whole,
       (
         by-type-whole-2,
-        writes-ready by-direct (args .out .now) _ refl (bound-length .bound-length .result) (bound-length .bound-length .ensures)
-            (n .n .given .0 .0) (n .n .given .1) (answer-fits .answer-fits .result) (answer-fits .answer-fits .ensures) (else4 .if3 .left),
+        (
+          writes-ready by-direct (args .out .now) _ refl (bound-length .bound-length .result) (bound-length .bound-length .ensures)
+              (n .n .given .0 .0) (n .n .given .1) (answer-fits .answer-fits .result) (answer-fits .answer-fits .ensures) (else4 .if3 .left),
+          λ p. writes-length by-direct (args .out .now) _ refl (bound-length .bound-length .result) (bound-length .bound-length .ensures)
+              (n .n .given .0 .0) (n .n .given .1) (answer-fits .answer-fits .result) (answer-fits .answer-fits .ensures) (else4 .if3 .left),
+        ),
       ),
     )
 
@@ -189,7 +193,7 @@ returns-6 c =
     _ by-checked-there by-type-there (λ i. shared-slice-known2 .shared-slice-known2 .given i .fits)
     (λ i. shared-slice-known3 .shared-slice-known3 .given i .fits) by-type-there-2) (bound-length .bound-length .result)
     (bound-length .bound-length .ensures) (n .n .given .0 .0) (n .n .given .1) (answer-fits .answer-fits .result)
-    (answer-fits .answer-fits .ensures) (else4 .if3 .left) (write-bound .write-bound .last .1 .1 .1 .1 .0) (write-bound .write-bound .result)
+    (answer-fits .answer-fits .ensures) (else4 .if3 .left) (write-bound .write-bound .last .1 .1 .1 .1 .1 .0) (write-bound .write-bound .result)
     (write-bound .write-bound .ensures)
 
 returns-7 : tie.Need-returns-7
