@@ -9,6 +9,9 @@
  * Every call answers one number. Its low byte is the kind; TIRNCHEAV_VALUE is the rest: the number of the question that
  * refused, or how many bytes were written. For a part of the caller's own form the rest is where it starts and ends.
  *
+ * A mode is 0, strict; 1, permissive; or 2, loose: as permissive, but sets whose elements have no bound are joined to the
+ * untyped set. Actions of one name are joined strictly in each. From 3 up the number of the refusal is 1.
+ *
  * A refusal, yes, no and none leave `out` as it was. An answer fills the first bytes of `out` and no others. `work` is all
  * zero after every call that takes it.
  */
@@ -44,7 +47,7 @@ enum tirncheav_kind {
 /* Yes if both are of kind 10 or 11 and share no name, so that no value has both, else no; a no says nothing. */
 uint64_t tirncheav_are_types_disjoint(const uint8_t *t0, size_t t0_len, const uint8_t *t1, size_t t1_len);
 
-/* Yes if t0 is a subtype of t1 in mode 0 (strict) or 1 (permissive), else no. */
+/* Yes if t0 is a subtype of t1 in a mode, else no. Loose answers as permissive. */
 uint64_t tirncheav_is_subtype(uint8_t mode, const uint8_t *schema, size_t schema_len, const uint8_t *t0, size_t t0_len,
                               const uint8_t *t1, size_t t1_len);
 

@@ -15,7 +15,7 @@ A text, line by line; '#' starts a comment.
     == TITLE                    a new job, with the empty schema
     schema BYTES                its schema
     OPERATION WORD.. : BYTES    a question and its body, or its two bodies behind a colon each. The words: 'strict',
-                                'permissive' or mode=N; attribute=N; in rooms.txt also room=N and workspace=N
+                                'permissive', 'loose' or mode=N; attribute=N; in rooms.txt also room=N and workspace=N
     job BYTES                   the whole job as it is, good or bad
     > LINE                      what must be printed, in turn; '> N..M LINE' for each index from N to M. '<BYTES>' stands for the bytes in lower-case hexadecimal, '<>' for none
 
@@ -31,6 +31,7 @@ from pathlib import Path
 HERE = Path(__file__).resolve().parent
 CRATES = HERE.parent / "crates"
 TEXTS = ["settled", "answers", "edges"]
+MODES = {"strict": "mode=0", "permissive": "mode=1", "loose": "mode=2"}
 OPERATIONS = ["subtype", "bound", "disjoint", "lookup", "may-have", "names", "consistent", "convert", "conforms", "fold",
               "literal", "own"]
 TOKEN = re.compile(r"\s*(?:%(?P<first>\d+)(?:\.\.(?P<last>\d+)(?P<each>\()?)?|(?P<times>\d+)\*\(|(?P<wraps>\d+)?@(?P<length>\()"
@@ -84,7 +85,7 @@ def question(line, names):
     operation, *words = head.split()
     given = {"mode": 0, "attribute": 0, "room": 0, "workspace": 0}
     for word in words:
-        key, _, value = {"strict": "mode=0", "permissive": "mode=1"}.get(word, word).partition("=")
+        key, _, value = MODES.get(word, word).partition("=")
         given[key] = int(value)
     bodies = [parse(body, 0, names, False)[0] for body in bodies] + [b""]
     return OPERATIONS.index(operation), given, bodies[0], bodies[1]

@@ -1,6 +1,7 @@
 /*
  * Calls each entry of include/tirncheav.h by position, and prints each answer's number and the bytes that it left: the
- * lines of crates/entries/stdout, with the questions of the program `entries`.
+ * lines of crates/entries/stdout, with the questions of the program `entries`. Then asks in loose mode with buffers of a
+ * few bytes, and prints what is lent with what stands behind it: the lines of tests/entries.stdout.
  */
 #include <inttypes.h>
 #include <stdio.h>
@@ -20,6 +21,11 @@ static const uint8_t entity_2[] = {10, 1, 0, 2, 0}, entity_4[] = {10, 1, 0, 4, 0
 static const uint8_t list[] = {2, 0, 5, 0, 5, 0, 10, 1, 0, 2, 0, 10, 1, 0, 4, 0};
 static const uint8_t record[] = {8, 0, 1, 0, 1, 0, 1, 1, 0, 4};
 static const uint8_t uid_2[] = {4, 2, 0, 7, 0}, uid_3[] = {4, 3, 0, 0, 0};
+static const uint8_t longs[] = {7, 4}, strings[] = {7, 5}, untyped[] = {6};
+static const uint8_t sets[] = {2, 0, 2, 0, 2, 0, 7, 4, 7, 5};
+/* Sets of the action 3 with {1: Long, 2: Long} and with {1: Long, 2: String}. */
+static const uint8_t alike[] = {7, 11, 3, 0, 2, 0, 1, 0, 1, 1, 0, 2, 0, 1, 1, 0, 4, 4};
+static const uint8_t unlike[] = {7, 11, 3, 0, 2, 0, 1, 0, 1, 1, 0, 2, 0, 1, 1, 0, 4, 5};
 
 static uint8_t out[12], work[15];
 
@@ -103,6 +109,44 @@ static void ask_broken(uint64_t check) {
                0);
 }
 
+static void ask_loose(void) {
+    print_line("is_subtype", tirncheav_is_subtype(2, FORM(schema), FORM(longs), FORM(untyped)), 0);
+    print_line("is_subtype", tirncheav_is_subtype(3, FORM(schema), FORM(longs), FORM(untyped)), 0);
+    print_line("least_upper_bound",
+               tirncheav_least_upper_bound(2, FORM(schema), FORM(longs), FORM(strings), out, 1), 1);
+    print_line("least_upper_bound",
+               tirncheav_least_upper_bound(2, FORM(schema), FORM(longs), FORM(strings), out, 0), 1);
+    print_line("least_upper_bound",
+               tirncheav_least_upper_bound(2, FORM(schema), FORM(alike), FORM(unlike), FORM(out)), 1);
+    print_line("least_upper_bound",
+               tirncheav_least_upper_bound(3, FORM(schema), FORM(longs), FORM(strings), FORM(out)), 1);
+    print_line("reduce_to_least_upper_bound",
+               tirncheav_reduce_to_least_upper_bound(2, FORM(schema), FORM(sets), out, 1, work, 4), 2);
+    print_line("reduce_to_least_upper_bound",
+               tirncheav_reduce_to_least_upper_bound(2, FORM(schema), FORM(sets), out, 1, work, 3), 2);
+    print_line("reduce_to_least_upper_bound",
+               tirncheav_reduce_to_least_upper_bound(2, FORM(schema), FORM(sets), out, 0, work, 5), 2);
+    print_line("reduce_to_least_upper_bound",
+               tirncheav_reduce_to_least_upper_bound(3, FORM(schema), FORM(sets), out, 1, work, 4), 2);
+}
+
+static void ask_loose_checked(uint64_t check) {
+    print_line("is_subtype_checked",
+               tirncheav_is_subtype_checked(FORM(schema), check, 2, FORM(longs), FORM(untyped)), 0);
+    print_line("least_upper_bound_checked",
+               tirncheav_least_upper_bound_checked(FORM(schema), check, 2, FORM(longs), FORM(strings), out, 1), 1);
+    print_line("least_upper_bound_checked",
+               tirncheav_least_upper_bound_checked(FORM(schema), check, 2, FORM(longs), FORM(strings), out, 0), 1);
+    print_line("least_upper_bound_checked",
+               tirncheav_least_upper_bound_checked(FORM(schema), check, 3, FORM(longs), FORM(strings), out, 1), 1);
+    print_line("reduce_to_least_upper_bound_checked",
+               tirncheav_reduce_to_least_upper_bound_checked(FORM(schema), check, 2, FORM(sets), out, 1, work, 4), 2);
+    print_line("reduce_to_least_upper_bound_checked",
+               tirncheav_reduce_to_least_upper_bound_checked(FORM(schema), check, 2, FORM(sets), out, 1, work, 3), 2);
+    print_line("reduce_to_least_upper_bound_checked",
+               tirncheav_reduce_to_least_upper_bound_checked(FORM(schema), check, 3, FORM(sets), out, 1, work, 4), 2);
+}
+
 int main(void) {
     fill();
     ask();
@@ -111,5 +155,7 @@ int main(void) {
     ask_checked(check);
     print_line("check_schema", none, 0);
     ask_broken(none);
+    ask_loose();
+    ask_loose_checked(check);
     return 0;
 }

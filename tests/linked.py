@@ -1,7 +1,7 @@
 #!/usr/bin/env python3
 """Compiles C programs with include/tirncheav.h, links them with the static library (target/staticlib, after `rt staticlib
 exports`), and holds what they print to a text: the example of bindings/c, and tests/entries.c, which calls each entry by
-position.
+position and then asks in loose mode with buffers of a few bytes.
 
 Then shows that entries.c would tell: the linker puts a function before each entry that passes its arguments on as an entry
 would see them whose source has two parameters exchanged. For each entry and each two of its parameters the lines must differ.
@@ -122,7 +122,9 @@ def stack_tests(told):
 
 def main():
     resource.setrlimit(resource.RLIMIT_CORE, (0, 0))
-    example, expected = ((ROOT / path).read_text() for path in ("bindings/c/example.stdout", "crates/entries/stdout"))
+    texts = ("bindings/c/example.stdout", "crates/entries/stdout", "tests/entries.stdout")
+    example, *lines = ((ROOT / path).read_text() for path in texts)
+    expected = "".join(lines)
     with tempfile.TemporaryDirectory() as name:
         folder = Path(name)
         tests = {

@@ -1,4 +1,4 @@
-/* Asks four questions under an empty schema, which is checked once. */
+/* Asks five questions under an empty schema, which is checked once. */
 #include <stdio.h>
 
 #include "tirncheav.h"
@@ -40,7 +40,7 @@ static void print_answer(const char *asked, uint64_t answer, const uint8_t *out)
 
 int main(void) {
     static const uint8_t schema[6] = {0};
-    static const uint8_t true_type[] = {1}, bool_type[] = {3};
+    static const uint8_t true_type[] = {1}, bool_type[] = {3}, longs[] = {7, 4}, strings[] = {7, 5};
     uint8_t out[4096], work[8192];
     uint64_t check = tirncheav_check_schema(schema, sizeof schema);
     if (check == 0) {
@@ -55,6 +55,10 @@ int main(void) {
     print_answer("strict bound",
                  tirncheav_least_upper_bound_checked(schema, sizeof schema, check, 0, long_record, sizeof long_record,
                                                      string_record, sizeof string_record, out, sizeof out),
+                 out);
+    print_answer("loose bound of sets",
+                 tirncheav_least_upper_bound_checked(schema, sizeof schema, check, 2, longs, sizeof longs, strings,
+                                                     sizeof strings, out, sizeof out),
                  out);
     print_answer("attribute 1",
                  tirncheav_lookup_attribute_type_checked(schema, sizeof schema, check, 1, long_record,

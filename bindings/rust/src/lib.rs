@@ -51,6 +51,21 @@ pub const WORK_BYTES: usize = 2 * FORM_BYTES;
 pub enum Mode {
     Strict = 0,
     Permissive = 1,
+    /// As permissive, but sets whose elements have no bound are joined to the
+    /// untyped set.
+    ///
+    /// ```
+    /// use tirncheav::{Mode, Refusal, Schema};
+    /// let schema = Schema::check(&[0; 6]).unwrap();
+    /// // A set of Long and a set of String.
+    /// let (longs, strings) = ([7, 4], [7, 5]);
+    /// let mut out = [0; 1];
+    /// let bound = schema.least_upper_bound(Mode::Loose, &longs, &strings, &mut out);
+    /// assert_eq!(bound, Ok(&[6][..]));
+    /// let bound = schema.least_upper_bound(Mode::Permissive, &longs, &strings, &mut out);
+    /// assert_eq!(bound, Err(Refusal::NoBound));
+    /// ```
+    Loose = 2,
 }
 
 /// Whether both types are of kind 10 or 11 and share no name, so that no value

@@ -26,7 +26,7 @@ use Refusal::*;
 
 /// Each refusal at its number less one.
 const ALL: [(Refusal, &str); 15] = [
-    (Mode, "the mode is neither strict nor permissive"),
+    (Mode, "the mode is none of strict, permissive and loose"),
     (Schema, "the schema is not whole"),
     (First, "the first type, or the list, is not whole"),
     (Second, "the second type is not whole"),

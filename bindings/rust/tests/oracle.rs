@@ -68,6 +68,7 @@ fn told(call: &Call<'_>, out: &mut [u8]) -> Option<Outcome> {
     let mode = match (call.op, call.mode) {
         (SUBTYPE | BOUND | FOLD, 0) => Mode::Strict,
         (SUBTYPE | BOUND | FOLD, 1) => Mode::Permissive,
+        (SUBTYPE | BOUND | FOLD, 2) => Mode::Loose,
         (SUBTYPE | BOUND | FOLD, _) => return None,
         _ => Mode::Strict,
     };
