@@ -1,5 +1,5 @@
 #!/usr/bin/env bash
-# Records the sample that the program batches is held to: the jobs, and the lines that the published Rust gives them.
+# Records the sample that the program batches is held to: the jobs, and the lines that the oracle gives them.
 set -eu
 cd "$(dirname "$0")"
 cargo build --release --offline --bin record

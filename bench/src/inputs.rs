@@ -33,7 +33,7 @@ const DEEP: Size = Size {
 pub const SIZES: [Size; 3] = [SMALL, WIDE, DEEP];
 
 /// Kinds of one byte: Long, String, and one of True and False.
-fn atom(name: u16, side: u8) -> Ty {
+pub fn atom(name: u16, side: u8) -> Ty {
     match name % 3 {
         0 => Ty::Atom(4),
         1 => Ty::Atom(5),

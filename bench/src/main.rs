@@ -6,6 +6,7 @@ mod growth;
 mod inputs;
 mod jobs;
 mod library;
+mod loose;
 mod timing;
 
 use cases::Case;
@@ -53,6 +54,8 @@ fn main() {
     }
     println!();
     growth::print();
+    println!();
+    loose::print();
     println!();
     jobs::print();
 }

@@ -28,7 +28,7 @@ fn leaves() -> Vec<Ty> {
 fn types() -> Vec<Ty> {
     let leaves = leaves();
     let mut types = leaves.clone();
-    types.extend(leaves.iter().map(|t| Ty::Set(Box::new(t.clone()))));
+    types.extend(leaves.iter().cloned().map(set));
     for required in [false, true] {
         types.push(Ty::Rec(required, Vec::new()));
         for t in &leaves {
@@ -49,6 +49,69 @@ fn types() -> Vec<Ty> {
         }
     }
     types
+}
+
+fn set(element: Ty) -> Ty {
+    Ty::Set(Box::new(element))
+}
+
+/// What holds sets of Longs and of Strings or of unlike actions, and sets of it.
+fn holders() -> Vec<Ty> {
+    let one = |required, ty: &Ty| vec![attr(1, required, ty)];
+    let mut holders = Vec::new();
+    for element in [4, 5] {
+        let of = set(Ty::Atom(element));
+        for required in [false, true] {
+            holders.push(Ty::Rec(false, one(required, &of)));
+            holders.push(Ty::Rec(true, one(required, &of)));
+            holders.push(Ty::Act(3, one(required, &of)));
+            holders.push(set(Ty::Rec(required, one(true, &of))));
+            holders.push(set(Ty::Act(3, one(required, &of))));
+        }
+        let action = Ty::Act(3, one(true, &of));
+        holders.push(Ty::Rec(false, one(true, &action)));
+        holders.push(Ty::Rec(false, one(true, &set(action))));
+        holders.push(Ty::Act(3, one(true, &Ty::Rec(false, one(true, &of)))));
+        holders.push(Ty::Rec(false, vec![attr(1, true, &of), attr(2, true, &of)]));
+        holders.push(set(Ty::Act(3, vec![attr(element as u16, true, &of)])));
+        holders.push(set(Ty::Rec(false, one(true, &Ty::Atom(element)))));
+        holders.extend([set(of.clone()), set(set(of))]);
+    }
+    for name in [2, 4] {
+        let entity = Ty::Ent(vec![name]);
+        holders.push(Ty::Act(3, one(true, &set(entity.clone()))));
+        holders.push(set(Ty::Act(3, one(true, &entity))));
+        holders.push(set(set(entity)));
+    }
+    holders
+}
+
+/// The types of all pairs.
+pub fn paired() -> Vec<Ty> {
+    let mut types = types();
+    types.extend(holders());
+    types
+}
+
+/// The types of the lists: all leaves, some sets and records.
+fn listed() -> Vec<Ty> {
+    let types = types();
+    let some = types[..17].iter().chain(&types[36..46]);
+    let mut some: Vec<Ty> = some.chain(&types[20..24]).cloned().collect();
+    for element in [4, 5] {
+        let one = vec![attr(1, true, &set(Ty::Atom(element)))];
+        some.push(Ty::Rec(false, one.clone()));
+        some.push(set(Ty::Act(3, one)));
+    }
+    some.extend(
+        [
+            Ty::Act(3, Vec::new()),
+            Ty::Rec(false, Vec::new()),
+            Ty::Ent(vec![2]),
+        ]
+        .map(set),
+    );
+    some
 }
 
 fn values() -> Vec<Val> {
@@ -124,6 +187,8 @@ fn schema() -> Sch {
     }
 }
 
+const MODES: [u8; 3] = [0, 1, 2];
+
 /// Questions gathered into jobs of at most this many bytes.
 const JOB: usize = 30_000;
 
@@ -170,10 +235,10 @@ pub fn jobs() -> Vec<Vec<u8>> {
         bytes: 0,
         jobs: Vec::new(),
     };
-    let types: Vec<Vec<u8>> = types().iter().map(Ty::form).collect();
+    let types: Vec<Vec<u8>> = paired().iter().map(Ty::form).collect();
     pairs(&mut jobs, &types);
     singles(&mut jobs, &types);
-    folds(&mut jobs, &types);
+    folds(&mut jobs);
     short_bytes(&mut jobs);
     chains::ask_all(&mut jobs);
     jobs.close();
@@ -184,7 +249,7 @@ pub fn jobs() -> Vec<Vec<u8>> {
 fn pairs(jobs: &mut Jobs, types: &[Vec<u8>]) {
     for a in types {
         for b in types {
-            for mode in [0, 1] {
+            for mode in MODES {
                 jobs.ask(SUBTYPE, mode, 0, a, b);
                 jobs.ask(BOUND, mode, 0, a, b);
             }
@@ -221,10 +286,10 @@ fn singles(jobs: &mut Jobs, types: &[Vec<u8>]) {
     }
 }
 
-/// Every list of up to three of the first types and of some records.
-fn folds(jobs: &mut Jobs, types: &[Vec<u8>]) {
-    let some: Vec<&Vec<u8>> = types.iter().take(17).chain(types[36..46].iter()).collect();
-    for mode in [0, 1] {
+/// Every list of up to three of some types.
+fn folds(jobs: &mut Jobs) {
+    let some: Vec<Vec<u8>> = listed().iter().map(Ty::form).collect();
+    for mode in MODES {
         jobs.ask(FOLD, mode, 0, &list_form(&[]), &[]);
         for a in &some {
             jobs.ask(FOLD, mode, 0, &list_form(&[a.to_vec()]), &[]);

@@ -6,6 +6,7 @@ mod damage;
 mod schemas;
 mod sizes;
 mod types;
+mod unlike;
 mod values;
 
 use crate::trees::{job_form, Ask};
@@ -45,6 +46,11 @@ impl Rng {
     pub fn pick<'a, T>(&mut self, from: &'a [T]) -> &'a T {
         &from[self.below(from.len())]
     }
+
+    /// A mode, mode 2 as often as the others together.
+    pub fn mode(&mut self) -> u8 {
+        *self.pick(&[0, 1, 2, 2])
+    }
 }
 
 /// The names that forms are built from: few, so that names are shared.
@@ -69,16 +75,16 @@ impl Gen {
     /// The next job.
     pub fn job(&mut self) -> Vec<u8> {
         match self.rng.below(1000) {
-            0..=4 => self.job_of_counts(),
-            5..=19 => self.job_of_sizes(),
-            20..=49 => self.job_swept(),
-            50..=89 => {
+            0..=6 => self.job_of_counts(),
+            7..=26 => self.job_of_sizes(),
+            27..=56 => self.job_swept(),
+            57..=96 => {
                 let job = self.job_of_asks();
                 self.damaged(&job)
             }
-            90..=91 => self.job_around_its_size(),
-            92 => self.job_of_many(),
-            93..=107 => self.job_with_untaken_field(),
+            97..=98 => self.job_around_its_size(),
+            99 => self.job_of_many(),
+            100..=114 => self.job_with_untaken_field(),
             _ => self.job_of_asks(),
         }
     }
@@ -111,7 +117,7 @@ impl Gen {
         let form = match self.rng.below(100) {
             0..=1 => self.damaged(&tree.form()),
             2..=5 => self.damaged_entry(&tree),
-            6..=9 => {
+            6..=10 => {
                 let mut spoiled = tree.clone();
                 self.spoil_schema(&mut spoiled);
                 spoiled.form()
@@ -130,7 +136,7 @@ impl Gen {
         let at = self.rng.below(asks.len());
         let ask = &mut asks[at];
         match self.rng.below(4) {
-            0 => ask.mode = 1,
+            0 => ask.mode = *self.rng.pick(&[1, 1, 2]),
             1 => ask.attr = *self.rng.pick(&[1, 256]),
             2 if ask.t1.is_empty() => ask.t1 = vec![4],
             _ => {
@@ -149,16 +155,19 @@ impl Gen {
     /// Many tiny questions, so that their count passes one byte.
     fn job_of_many(&mut self) -> Vec<u8> {
         let count = *self.rng.pick(&[255, 256, 257, 999, 1000, 1001, 3000]);
+        let asked = [(0, 0), (0, 2), (1, 1), (1, 2), (2, 0), (2, 0)];
         let kind = |gen: &mut Gen| vec![gen.rng.below(11) as u8];
-        let asks: Vec<Ask> = (0..count)
-            .map(|_| Ask {
-                op: self.rng.below(3) as u8,
-                mode: 0,
+        let tiny = |gen: &mut Gen| {
+            let (op, mode) = *gen.rng.pick(&asked);
+            Ask {
+                op,
+                mode,
                 attr: 0,
-                t0: kind(self),
-                t1: kind(self),
-            })
-            .collect();
+                t0: kind(gen),
+                t1: kind(gen),
+            }
+        };
+        let asks: Vec<Ask> = (0..count).map(|_| tiny(self)).collect();
         job_form(&[0; 6], &asks)
     }
 

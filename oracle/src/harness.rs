@@ -1,6 +1,7 @@
 //! Comparing a candidate with the oracle: jobs by their lines, calls by their
 //! answer, every byte of the result buffer and every byte of the workspace.
 
+use crate::forms::{read_list, write_type};
 use crate::generate::Gen;
 use crate::jobs::{print_outcomes, read_job};
 use crate::model::{self, Rules};
@@ -157,8 +158,14 @@ fn length(outcome: &Outcome) -> usize {
     }
 }
 
+/// The length of a fold's first step, its first type.
+fn first_step(call: &Roomed) -> Option<usize> {
+    let types = read_list(&call.t0).filter(|_| call.op == FOLD)?;
+    Some(write_type(types.first()?).len())
+}
+
 impl Gen {
-    /// Rooms around the length of the answer.
+    /// Rooms around the length of the answer, or of a fold's first step.
     fn with_rooms(&mut self, mut call: Roomed) -> Roomed {
         (call.room, call.work) = (65_536, 131_072);
         let n = length(&answer(&call.call()));
@@ -167,9 +174,13 @@ impl Gen {
             .rng
             .pick(&[n, n, n.saturating_sub(1), n + 1, 0, 4096, 4097, 9000, any]);
         let any = self.rng.below(80);
-        let edges = [2 * n, 2 * n + 1, (2 * n).saturating_sub(1)];
+        let step = match self.rng.percent(70) {
+            true => first_step(&call).unwrap_or(n),
+            false => n,
+        };
+        let edges = [2 * step, 2 * step + 1, (2 * step).saturating_sub(1)];
         let wide = [0, 8191, 8192, 8194, 20_000, 131_072, any];
-        call.work = match self.rng.percent(50) {
+        call.work = match self.rng.percent(60) {
             true => *self.rng.pick(&edges),
             false => *self.rng.pick(&wide),
         };
@@ -222,7 +233,7 @@ impl Gen {
         let call = Roomed {
             op: FOLD,
             attr: 0,
-            mode: 1,
+            mode: self.rng.from(1, 2) as u8,
             schema: vec![0; 6],
             t0: list,
             ..call

@@ -50,6 +50,7 @@ pub mod generate;
 pub mod harness;
 pub mod jobs;
 pub mod library;
+pub mod loose;
 pub mod model;
 pub mod noted;
 pub mod programs;

@@ -8,11 +8,13 @@ mod conformance;
 mod conversions;
 pub mod faults;
 mod jobs;
+mod modes;
 mod read;
 mod relations;
 
 pub use calls::part;
 pub use jobs::lines;
+pub use modes::Mode;
 
 /// The rules, with at most one fault on; fault 0 is none.
 #[derive(Clone, Copy)]

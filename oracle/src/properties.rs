@@ -1,4 +1,7 @@
-//! Claims about the published functions, tried on generated types and values.
+//! Claims about the published functions, and about mode 2 beside them, tried on
+//! generated types and values.
+
+mod loose;
 
 use crate::cedar_policy_core::entities::SchemaType;
 use crate::cedar_policy_core::extensions::Extensions;
@@ -110,6 +113,7 @@ pub fn try_claims(gen: &mut Gen, tallies: &mut Tallies) {
     }
     across_modes(tallies, &schema, &a, &b);
     let value = gen.value_for(&a.tree, &tree);
+    loose::claims(tallies, &schema, [&a, &b, &c], &value);
     values(tallies, &schema, [&a, &b], &value);
     conversions(tallies, &schema, [&a, &b], &value);
     attributes(gen, tallies, &schema, &tree);
@@ -144,7 +148,11 @@ fn bounds(tallies: &mut Tallies, schema: &Schema, mode: ValidationMode, a: &Give
     let Ok(bound) = bound else { return };
     let form = write_type(&bound);
     let sum = a.form.len() + b.form.len();
-    tallies.claim("a bound is no longer than both together", form.len() <= sum, &forms);
+    tallies.claim(
+        "a bound is no longer than both together",
+        form.len() <= sum,
+        &forms,
+    );
     let whole = read_type(&form).is_some() || form.len() > 4096;
     tallies.claim("a bound is whole but for its length", whole, &forms);
     let above = [a, b]

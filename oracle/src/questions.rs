@@ -1,4 +1,5 @@
-//! One call: 01's questions in 01's order, put to the published functions.
+//! One call: 01's questions in 01's order, put to the published functions; in
+//! mode 2 the rule itself is the model's.
 
 use crate::cedar_policy_core::ast::{EntityUID, RestrictedExpr};
 use crate::cedar_policy_core::entities::SchemaType;
@@ -6,6 +7,7 @@ use crate::forms::{
     plain, read_list, read_schema, read_type, read_value, write_core, write_type, Schema,
     FORM_BYTES,
 };
+use crate::loose;
 use crate::smol_str::SmolStr;
 use crate::types::{AttributeType, EntityLUB, EntityRecordKind, Type};
 use crate::validation_errors::LubHelp;
@@ -110,10 +112,17 @@ pub fn answer_with(call: &Call<'_>, schema: &mut SchemaCache<'_>) -> Outcome {
     outcome.unwrap_or_else(Outcome::Refused)
 }
 
-fn mode(call: &Call<'_>) -> Refusable<ValidationMode> {
+/// Who knows the rule of a mode.
+enum Judge {
+    Published(ValidationMode),
+    Model,
+}
+
+fn judge(call: &Call<'_>) -> Refusable<Judge> {
     match call.mode {
-        0 => Ok(ValidationMode::Strict),
-        1 => Ok(ValidationMode::Permissive),
+        0 => Ok(Judge::Published(ValidationMode::Strict)),
+        1 => Ok(Judge::Published(ValidationMode::Permissive)),
+        loose::LOOSE => Ok(Judge::Model),
         _ => Err(1),
     }
 }
@@ -133,7 +142,8 @@ fn yes(answer: bool) -> Outcome {
     }
 }
 
-fn reason(help: LubHelp) -> u8 {
+/// A reason's number.
+pub fn reason(help: LubHelp) -> u8 {
     match help {
         LubHelp::AttributeQualifier => 11,
         LubHelp::RecordWidth => 12,
@@ -141,6 +151,11 @@ fn reason(help: LubHelp) -> u8 {
         LubHelp::EntityRecord => 14,
         LubHelp::None => 15,
     }
+}
+
+/// A bound's form, of any length.
+fn written(bound: Result<Type, LubHelp>) -> Refusable<Vec<u8>> {
+    bound.map(|ty| write_type(&ty)).map_err(reason)
 }
 
 /// The last question of every call that writes.
@@ -152,26 +167,46 @@ fn fits(call: &Call<'_>, form: Vec<u8>) -> Refusable<Vec<u8>> {
 }
 
 /// The question about the size of one step.
-fn step_fits(call: &Call<'_>, bound: &Type) -> Refusable<()> {
-    if write_type(bound).len() > (call.work / 2).min(FORM_BYTES) {
+fn step_fits(call: &Call<'_>, form: &[u8]) -> Refusable<()> {
+    if form.len() > (call.work / 2).min(FORM_BYTES) {
         return Err(9);
     }
     Ok(())
 }
 
 fn subtype(call: &Call<'_>, schema: &mut SchemaCache<'_>) -> Refusable<Outcome> {
-    let mode = mode(call)?;
+    let judge = judge(call)?;
     let schema = schema.whole()?;
     let (t0, t1) = (first(call)?, second(call)?);
-    Ok(yes(Type::is_subtype(&schema.types, &t0, &t1, mode)))
+    Ok(yes(match judge {
+        Judge::Published(mode) => Type::is_subtype(&schema.types, &t0, &t1, mode),
+        Judge::Model => {
+            let answer = loose::is_subtype(call.t0, call.t1);
+            let permissive = ValidationMode::Permissive;
+            let published = Type::is_subtype(&schema.types, &t0, &t1, permissive);
+            assert_eq!(answer, published, "mode 2 is not permissive");
+            answer
+        }
+    }))
 }
 
 fn bound(call: &Call<'_>, schema: &mut SchemaCache<'_>) -> Refusable<Outcome> {
-    let mode = mode(call)?;
+    let judge = judge(call)?;
     let schema = schema.whole()?;
     let (t0, t1) = (first(call)?, second(call)?);
-    let bound = Type::least_upper_bound(&schema.types, &t0, &t1, mode).map_err(reason)?;
-    Ok(Outcome::Wrote(fits(call, write_type(&bound))?))
+    let form = match judge {
+        Judge::Published(mode) => written(Type::least_upper_bound(&schema.types, &t0, &t1, mode))?,
+        Judge::Model => bound_loosely(schema, call.t0, call.t1)?,
+    };
+    Ok(Outcome::Wrote(fits(call, form)?))
+}
+
+/// The model's bound in mode 2, which the published functions give too.
+fn bound_loosely(schema: &Schema, a: &[u8], b: &[u8]) -> Refusable<Vec<u8>> {
+    let bound = loose::bound(a, b);
+    let published = loose::bound_by_published(schema, a, b);
+    assert_eq!(bound, published, "the model's bound in mode 2");
+    bound
 }
 
 fn disjoint(call: &Call<'_>) -> Refusable<Outcome> {
@@ -179,19 +214,45 @@ fn disjoint(call: &Call<'_>) -> Refusable<Outcome> {
     Ok(yes(Type::are_types_disjoint(&t0, &t1)))
 }
 
-/// The steps of the fold one by one, then the published fold over all.
 fn fold(call: &Call<'_>, schema: &mut SchemaCache<'_>) -> Refusable<Outcome> {
-    let mode = mode(call)?;
-    let schema = &schema.whole()?.types;
+    let judge = judge(call)?;
+    let schema = schema.whole()?;
     let types = read_list(call.t0).ok_or(3)?;
+    let form = match judge {
+        Judge::Published(mode) => folded(call, schema, mode, &types)?,
+        Judge::Model => folded_loosely(call, schema, &types)?,
+    };
+    Ok(Outcome::Wrote(fits(call, form)?))
+}
+
+/// The steps of the fold one by one, then the published fold over all.
+fn folded(
+    call: &Call<'_>,
+    schema: &Schema,
+    mode: ValidationMode,
+    types: &[Type],
+) -> Refusable<Vec<u8>> {
+    let schema = &schema.types;
     let mut last = Type::Never;
-    for ty in &types {
+    for ty in types {
         last = Type::least_upper_bound(schema, &last, ty, mode).map_err(reason)?;
+        step_fits(call, &write_type(&last))?;
+    }
+    let all = Type::reduce_to_least_upper_bound(schema, types, mode).map_err(reason)?;
+    assert_eq!(all, last, "the fold differs from its steps");
+    Ok(write_type(&all))
+}
+
+/// The steps of the fold in mode 2, then the model's fold over all.
+fn folded_loosely(call: &Call<'_>, schema: &Schema, types: &[Type]) -> Refusable<Vec<u8>> {
+    let mut last = write_type(&Type::Never);
+    for ty in types {
+        last = bound_loosely(schema, &last, &write_type(ty))?;
         step_fits(call, &last)?;
     }
-    let all = Type::reduce_to_least_upper_bound(schema, &types, mode).map_err(reason)?;
+    let all = loose::fold(call.t0)?;
     assert_eq!(all, last, "the fold differs from its steps");
-    Ok(Outcome::Wrote(fits(call, write_type(&all))?))
+    Ok(all)
 }
 
 /// The names of an entity type, ascending; none for other types.
@@ -222,7 +283,7 @@ fn attribute_steps(call: &Call<'_>, schema: &Schema, lub: &EntityLUB, attr: &str
             ValidationMode::Permissive,
         );
         let Ok(step) = step else { return Ok(()) };
-        step_fits(call, &step)?;
+        step_fits(call, &write_type(&step))?;
         last = Some(step);
     }
     Ok(())
@@ -331,25 +392,28 @@ pub fn lookup_part(schema: &[u8], form: &[u8], attr: u16) -> Part {
     Part::Nothing
 }
 
-/// What the published function gives where 01 asks about sizes: no step and no
-/// answer is measured. None for other operations and for forms not whole.
+/// What the published function, or the model in mode 2, gives where 01 asks
+/// about sizes: no step and no answer is measured. None for other operations
+/// and for forms not whole.
 pub fn unmeasured(call: &Call<'_>) -> Option<Outcome> {
     let schema = &read_schema(call.schema)?.types;
-    let wrote = |bound: Result<Type, LubHelp>| match bound {
-        Ok(ty) => Outcome::Wrote(write_type(&ty)),
-        Err(help) => Outcome::Refused(reason(help)),
-    };
     let attr = SmolStr::from_number(call.attr);
     Some(match call.op {
         BOUND => {
             let (t0, t1) = (read_type(call.t0)?, read_type(call.t1)?);
-            let mode = mode(call).ok()?;
-            wrote(Type::least_upper_bound(schema, &t0, &t1, mode))
+            unmeasured_form(match judge(call).ok()? {
+                Judge::Published(mode) => written(Type::least_upper_bound(schema, &t0, &t1, mode)),
+                Judge::Model => loose::bound(call.t0, call.t1),
+            })
         }
         FOLD => {
             let types = read_list(call.t0)?;
-            let mode = mode(call).ok()?;
-            wrote(Type::reduce_to_least_upper_bound(schema, &types, mode))
+            unmeasured_form(match judge(call).ok()? {
+                Judge::Published(mode) => {
+                    written(Type::reduce_to_least_upper_bound(schema, &types, mode))
+                }
+                Judge::Model => loose::fold(call.t0),
+            })
         }
         LOOKUP => match Type::lookup_attribute_type(schema, &read_type(call.t0)?, &attr) {
             None => Outcome::Nothing,
@@ -366,4 +430,8 @@ pub fn unmeasured(call: &Call<'_>) -> Option<Outcome> {
         }
         _ => return None,
     })
+}
+
+fn unmeasured_form(form: Refusable<Vec<u8>>) -> Outcome {
+    form.map_or_else(Outcome::Refused, Outcome::Wrote)
 }

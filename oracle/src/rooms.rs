@@ -5,6 +5,7 @@
 use crate::forms::Bytes;
 use crate::harness::{Judged, UNTOUCHED};
 use crate::jobs::read_job;
+use crate::loose::LOOSE;
 use crate::questions::{lookup_part, operation::*, Call, Outcome, Part};
 use std::fmt::Write;
 use std::ops::Range;
@@ -15,11 +16,12 @@ const OWN: u8 = 11;
 /// More would make long lines.
 const LARGEST: usize = 600;
 
-/// Calls in bytes, with the line of each.
+/// Calls in bytes, with the line of each, and how many are in mode 2.
 #[derive(Default)]
 pub struct Lent {
     pub input: Vec<u8>,
     pub lines: Vec<String>,
+    pub loose: usize,
 }
 
 fn bracketed(bytes: &[u8]) -> String {
@@ -107,6 +109,7 @@ impl Lent {
         let numbers = [call.attr as usize, call.room, call.work]
             .into_iter()
             .chain(lengths);
+        self.loose += (call.mode == LOOSE) as usize;
         self.input.extend([op, call.mode]);
         for number in numbers {
             let number = u16::try_from(number).expect("a u16");

@@ -1,5 +1,6 @@
-//! What the repository's test programs read: the published functions give the
-//! lines that are written there, and the model's faults are seen by them.
+//! What the repository's test programs read: the published functions, and the
+//! model in mode 2, give the lines that are written there, and the model's
+//! faults are seen by them.
 
 use oracle::jobs::{batch, lines};
 use oracle::model::{self, faults::FAULTS, Rules};

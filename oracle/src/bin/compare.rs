@@ -1,5 +1,6 @@
 //! `compare A B` compares two files of lines.
-//! `compare --model --seed N --jobs K` compares the model with the oracle.
+//! `compare --model --seed N --jobs K` compares the model with the oracle, but
+//! for mode 2, which the model judges.
 //! `compare --model --exhaustive` does so on every small question.
 //! `compare --program PATH --seed N --jobs K` compares a program that reads
 //! one job on standard input.
@@ -69,7 +70,7 @@ fn compare_library(args: &Arguments) -> ExitCode {
     use oracle::library::{linked, CheckedLibrary, Library};
     let mut plain = Library(linked::ENTRIES);
     let mut checked = CheckedLibrary(linked::ENTRIES, linked::CHECKED);
-    compare_candidates(&mut [&mut plain, &mut checked], args)
+    compare_candidates(&mut [&mut plain, &mut checked], args).2
 }
 
 #[cfg(not(feature = "library"))]
@@ -77,14 +78,35 @@ fn compare_library(_: &Arguments) -> ExitCode {
     panic!("built without the feature `library`")
 }
 
-fn compare_candidates(candidates: &mut [&mut dyn Candidate], args: &Arguments) -> ExitCode {
+/// How much of the model was compared: in mode 2 it is the judge.
+fn tell_model(coverage: &Coverage, what: &str) {
+    println!(
+        "{} {what} compared, and {} in mode 2, which the model judges",
+        coverage.questions() - coverage.loose(),
+        coverage.loose()
+    );
+}
+
+fn compare_model(args: &Arguments) -> ExitCode {
+    let (coverage, roomed, code) = compare_candidates(&mut [&mut model(args)], args);
+    tell_model(&coverage, "questions");
+    tell_model(&roomed, "calls");
+    code
+}
+
+fn compare_candidates(
+    candidates: &mut [&mut dyn Candidate],
+    args: &Arguments,
+) -> (Coverage, Coverage, ExitCode) {
     let mut gen = Gen::new(args.number("--seed", 1));
     let (mut coverage, mut roomed) = (Coverage::default(), Coverage::with_rooms());
     let mut differences = 0;
     for _ in 0..args.number("--jobs", 1000) {
         let judged = judged(&mut gen);
         coverage.count_outcomes(&judged.job, judged.outcomes.as_deref());
-        judged.calls.iter().for_each(|(c, o)| roomed.count(c.op, o));
+        for (call, outcome) in &judged.calls {
+            roomed.count(&call.call(), outcome);
+        }
         for candidate in candidates.iter_mut() {
             if let Some(what) = difference(*candidate, &judged) {
                 differences += 1;
@@ -102,7 +124,7 @@ fn compare_candidates(candidates: &mut [&mut dyn Candidate], args: &Arguments) -
         roomed.missing()
     );
     println!("{differences} jobs with a difference");
-    code(differences)
+    (coverage, roomed, code(differences))
 }
 
 fn compare_exhaustively() -> ExitCode {
@@ -116,6 +138,7 @@ fn compare_exhaustively() -> ExitCode {
         }
     }
     print!("{}", coverage.table());
+    tell_model(&coverage, "questions");
     println!("{differences} jobs with a difference");
     code(differences)
 }
@@ -163,7 +186,7 @@ fn compare_program(path: &str, ask: Asker, run: usize, args: &Arguments) -> Exit
 
 fn compare_rooms(path: &str, args: &Arguments) -> ExitCode {
     let mut gen = Gen::new(args.number("--seed", 1));
-    let (mut calls, mut differences) = (0, 0);
+    let (mut calls, mut loose, mut differences) = (0, 0, 0);
     let mut left = args.number("--jobs", 1000);
     while left > 0 {
         let jobs = left.min(2000);
@@ -174,6 +197,7 @@ fn compare_rooms(path: &str, args: &Arguments) -> ExitCode {
         let output = String::from_utf8(output).expect("ASCII");
         assert_eq!(output.lines().count(), lent.lines.len(), "lines");
         calls += lent.lines.len();
+        loose += lent.loose;
         for (got, wanted) in output.lines().zip(&lent.lines) {
             if got != wanted {
                 differences += 1;
@@ -183,7 +207,7 @@ fn compare_rooms(path: &str, args: &Arguments) -> ExitCode {
             }
         }
     }
-    println!("{calls} calls, {differences} with a difference");
+    println!("{calls} calls, {loose} of them in mode 2, {differences} with a difference");
     code(differences)
 }
 
@@ -193,7 +217,7 @@ fn main() -> ExitCode {
         return compare_exhaustively();
     }
     if args.has("--model") {
-        return compare_candidates(&mut [&mut model(&args)], &args);
+        return compare_model(&args);
     }
     if args.has("--library") {
         return compare_library(&args);

@@ -67,6 +67,7 @@ fn as_type(jobs: &mut Jobs, form: &[u8]) {
     jobs.ask(DISJOINT, 0, 0, &[4], form);
     jobs.ask(SUBTYPE, 1, 0, form, form);
     jobs.ask(BOUND, 0, 0, &[0], form);
+    jobs.ask(BOUND, 2, 0, form, &[7, 7, 5]);
     for list in [vec![form.to_vec()], vec![vec![0], form.to_vec()]] {
         jobs.ask(FOLD, 0, 0, &list_form(&list), &[]);
     }

@@ -18,7 +18,7 @@ impl Gen {
         }
         let takes_mode = matches!(ask.op, SUBTYPE | BOUND | FOLD);
         if takes_mode && self.rng.percent(percent / 2) {
-            ask.mode = *self.rng.pick(&[2, 2, 3, 255]);
+            ask.mode = *self.rng.pick(&[3, 3, 4, 255]);
         }
         ask
     }
@@ -27,9 +27,9 @@ impl Gen {
     /// form on purpose.
     pub fn whole_ask(&mut self, schema: &Sch) -> Ask {
         let op = *self.rng.pick(&[
-            SUBTYPE, SUBTYPE, BOUND, BOUND, BOUND, DISJOINT, LOOKUP, LOOKUP, MAY_HAVE, NAMES,
-            CONSISTENT, CONSISTENT, CONVERT, CONFORMS, CONFORMS, CONFORMS, CONFORMS, FOLD, FOLD,
-            LITERAL,
+            SUBTYPE, SUBTYPE, BOUND, BOUND, BOUND, BOUND, BOUND, DISJOINT, LOOKUP, LOOKUP,
+            MAY_HAVE, NAMES, CONSISTENT, CONSISTENT, CONVERT, CONFORMS, CONFORMS, CONFORMS,
+            CONFORMS, FOLD, FOLD, FOLD, FOLD, LITERAL,
         ]);
         let mut ask = Ask {
             op,
@@ -40,7 +40,7 @@ impl Gen {
         };
         match op {
             SUBTYPE | BOUND => {
-                ask.mode = self.rng.below(2) as u8;
+                ask.mode = self.rng.mode();
                 (ask.t0, ask.t1) = self.forms();
             }
             DISJOINT => (ask.t0, ask.t1) = self.entity_forms(),
@@ -49,7 +49,7 @@ impl Gen {
             CONVERT => ask.t0 = self.convertible(),
             CONFORMS => (ask.t0, ask.t1) = self.conformance_forms(schema),
             FOLD => {
-                ask.mode = self.rng.below(2) as u8;
+                ask.mode = self.rng.mode();
                 ask.t0 = self.list();
             }
             _ => ask.t0 = self.literal(),
@@ -157,19 +157,28 @@ impl Gen {
             3..=7 => self.rng.from(7, 20),
             _ => self.rng.below(6),
         };
+        let types = match n <= 20 && self.rng.percent(30) {
+            true => self.unlike_list(n.max(2)),
+            false => self.like_list(n),
+        };
+        let forms: Vec<Vec<u8>> = types.into_iter().map(|ty| self.form(ty)).collect();
+        list_form(&forms)
+    }
+
+    /// So many types changed from one.
+    fn like_list(&mut self, n: usize) -> Vec<Ty> {
         let base = match n > 20 {
             true => self.ty(1),
             false => self.ty(3),
         };
         let mut types = Vec::new();
         for _ in 0..n {
-            let changed = match self.rng.percent(60) {
+            types.push(match self.rng.percent(60) {
                 true => self.mutated(&base),
                 false => base.clone(),
-            };
-            types.push(self.form(changed));
+            });
         }
-        list_form(&types)
+        types
     }
 
     fn literal(&mut self) -> Vec<u8> {

@@ -39,6 +39,11 @@ impl Gen {
             };
             attrs = changed;
         }
+        for a in &mut attrs {
+            if matches!(a.ty, Ty::Set(_)) && self.rng.percent(30) {
+                a.ty = Ty::Set(Box::new(self.ty(1)));
+            }
+        }
         let enumerated = self.rng.percent(15);
         EntityEntry {
             name,
@@ -82,7 +87,7 @@ impl Gen {
 
     /// Break one rule of the form.
     pub fn spoil_schema(&mut self, schema: &mut Sch) {
-        match self.rng.below(10) {
+        match self.rng.below(14) {
             0 => disturb(self, &mut schema.entities),
             1 => disturb(self, &mut schema.actions),
             2 => disturb(self, &mut schema.functions),
@@ -96,8 +101,8 @@ impl Gen {
                 schema.actions.insert(0, entry);
                 schema.actions.sort_by_key(|a| (a.ty, a.id));
             }
-            6 => self.spoil_argument(schema),
-            7 => self.spoil_body(schema),
+            6..=7 => self.spoil_argument(schema),
+            8..=11 => self.spoil_body(schema),
             _ => {
                 let entry = self.entity_entry(*self.rng.clone().pick(ACTION_TYPES), &[]);
                 schema.entities.push(entry);
@@ -132,11 +137,11 @@ impl Gen {
         let at = self.entry_of(schema);
         if self.rng.percent(40) {
             let entry = &mut parts.entries[at];
-            let byte = match entry.len() == 7 && self.rng.percent(40) {
-                true => 2,
-                false => self.rng.below(entry.len()),
+            let (byte, values): (usize, &[u8]) = match entry.len() == 7 && self.rng.percent(40) {
+                true => (2, &[0, 0, 1, 2, 3]),
+                false => (self.rng.below(entry.len()), &[0, 1, 2, 2, 3, 7, 9, 10, 11]),
             };
-            entry[byte] = *self.rng.pick(&[0, 1, 2, 2, 3, 7, 9, 10, 11]);
+            entry[byte] = *self.rng.pick(values);
             return parts.form();
         }
         let body = &mut parts.bodies[at];

@@ -52,7 +52,10 @@ impl Gen {
 
     /// A length around the largest of a form.
     fn edge(&mut self) -> usize {
-        self.rng.from(4093, 4099)
+        match self.rng.percent(40) {
+            true => self.rng.from(4096, 4097),
+            false => self.rng.from(4093, 4099),
+        }
     }
 
     /// Few large questions.
@@ -75,7 +78,7 @@ impl Gen {
         let length = self.edge();
         let small = vec![4];
         let form = self.type_of_length(length);
-        let mode = self.rng.below(2) as u8;
+        let mode = self.rng.mode();
         asks.push(ask(SUBTYPE, mode, 0, form.clone(), form.clone()));
         asks.push(ask(BOUND, mode, 0, vec![0], form.clone()));
         asks.push(ask(DISJOINT, 0, 0, small.clone(), form.clone()));
@@ -109,23 +112,35 @@ impl Gen {
         (a, b)
     }
 
-    /// Two records whose strict bound is longer than each.
+    /// Two records whose strict bound is longer than each; in some cases with
+    /// unlike sets, so that the loose one is.
     fn crossed(&mut self) -> (Ty, Ty) {
-        let total = self.edge();
+        let unlike = self.rng.percent(40);
+        let total = self.edge() - if unlike { 6 } else { 0 };
         let left = self.rng.from(600, 3500);
         let big = union_of_length(left, 0);
         let other = union_of_length(total - 14 - left, 0);
         let required = self.rng.percent(50);
-        let record = |x: Ty, y: Ty| Ty::Rec(false, vec![attr(1, required, x), attr(2, true, y)]);
-        (record(Ty::Atom(0), big.clone()), record(other, Ty::Atom(0)))
+        let record = |x: Ty, y: Ty, element: u8| {
+            let mut attrs = vec![attr(1, required, x), attr(2, true, y)];
+            if unlike {
+                attrs.push(attr(3, true, Ty::Set(Box::new(Ty::Atom(element)))));
+            }
+            Ty::Rec(false, attrs)
+        };
+        (
+            record(Ty::Atom(0), big.clone(), 4),
+            record(other, Ty::Atom(0), 5),
+        )
     }
 
     fn sized_bounds(&mut self, asks: &mut Vec<Ask>) {
         let (a, b) = self.unions();
-        asks.push(ask(BOUND, 1, 0, a.form(), b.form()));
-        asks.push(ask(BOUND, 0, 0, a.form(), b.form()));
+        for mode in 0..3 {
+            asks.push(ask(BOUND, mode, 0, a.form(), b.form()));
+        }
         let (a, b) = self.crossed();
-        let mode = self.rng.below(2) as u8;
+        let mode = self.rng.mode();
         asks.push(ask(BOUND, mode, 0, a.form(), b.form()));
     }
 
@@ -139,11 +154,12 @@ impl Gen {
             if self.rng.percent(50) {
                 list.remove(at);
             }
-            asks.push(ask(FOLD, 1, 0, list_form(&list), Vec::new()));
+            let mode = self.rng.from(1, 2) as u8;
+            asks.push(ask(FOLD, mode, 0, list_form(&list), Vec::new()));
         }
         let (a, b) = self.crossed();
         let list = list_form(&[a.form(), b.form()]);
-        asks.push(ask(FOLD, self.rng.below(2) as u8, 0, list, Vec::new()));
+        asks.push(ask(FOLD, self.rng.mode(), 0, list, Vec::new()));
     }
 
     /// Entity types whose shared attribute has a bound around the size.
@@ -201,7 +217,7 @@ impl Gen {
                 Ty::Ent(names(at * 280, count)).form()
             })
             .collect();
-        let mode = self.rng.below(2) as u8;
+        let mode = self.rng.mode();
         asks.push(ask(FOLD, mode, 0, list_form(&types), Vec::new()));
     }
 

@@ -82,36 +82,38 @@ impl Gen {
     fn deep_pair(&mut self) -> (Ty, Ty) {
         let (mut a, mut b) = self.pair_from(2);
         for _ in 0..self.rng.from(10, 16) {
-            let (name, required) = (*self.rng.pick(ATTRS), self.rng.percent(60));
-            let flipped = required != self.rng.percent(2);
-            let lower = vec![Attr {
-                name,
-                required,
-                ty: a.clone(),
-            }];
-            let upper = vec![Attr {
-                name,
-                required: flipped,
-                ty: b.clone(),
-            }];
-            (a, b) = match self.rng.below(12) {
-                0..=5 => (Ty::Set(Box::new(a)), Ty::Set(Box::new(b))),
-                6..=9 => {
-                    let open = self.rng.percent(20);
-                    let other = open != self.rng.percent(3);
-                    (Ty::Rec(open, lower), Ty::Rec(other, upper))
-                }
-                _ => (Ty::Act(3, lower), Ty::Act(3, upper)),
-            };
+            (a, b) = self.held(a, b);
         }
         (a, b)
     }
 
+    /// Both below a set, an attribute or an action's attribute, with a flag
+    /// turned here and there.
+    pub fn held(&mut self, a: Ty, b: Ty) -> (Ty, Ty) {
+        let (name, required) = (*self.rng.pick(ATTRS), self.rng.percent(60));
+        let flipped = required != self.rng.percent(2);
+        let attr = |required, ty: Ty| vec![Attr { name, required, ty }];
+        match self.rng.below(12) {
+            0..=5 => (Ty::Set(Box::new(a)), Ty::Set(Box::new(b))),
+            6..=9 => {
+                let open = self.rng.percent(20);
+                let other = open != self.rng.percent(3);
+                let (lower, upper) = (attr(required, a), attr(flipped, b));
+                (Ty::Rec(open, lower), Ty::Rec(other, upper))
+            }
+            _ => {
+                let (lower, upper) = (attr(required, a), attr(flipped, b));
+                (Ty::Act(3, lower), Ty::Act(3, upper))
+            }
+        }
+    }
+
     /// Two types that are often in relation.
     pub fn pair(&mut self) -> (Ty, Ty) {
-        match self.rng.percent(8) {
-            true => self.deep_pair(),
-            false => self.pair_from(4),
+        match self.rng.below(100) {
+            0..=7 => self.deep_pair(),
+            8..=27 => self.unlike_sets(),
+            _ => self.pair_from(4),
         }
     }
 

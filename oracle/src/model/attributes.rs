@@ -1,7 +1,7 @@
 //! Lookup, may-have and names.
 
 use super::relations::find;
-use super::Rules;
+use super::{Mode, Rules};
 use crate::trees::{Attr, EntityEntry, Sch, Ty};
 
 /// What the fold of one attribute over an entity's types comes to.
@@ -26,7 +26,7 @@ impl Rules {
 
     /// One attribute folded over the types, ascending, until it is absent or
     /// has no bound.
-    fn fold_attribute(self, schema: &Sch, names: &[u16], attr: u16, limit: usize) -> Folded {
+    fn fold_attr(self, mode: Mode, schema: &Sch, names: &[u16], attr: u16, limit: usize) -> Folded {
         let mut found: Option<(bool, Ty)> = None;
         let mut too_long = false;
         let mut order = names.to_vec();
@@ -44,7 +44,7 @@ impl Rules {
                 found = Some((next.required, next.ty.clone()));
                 continue;
             };
-            let Ok(step) = self.bound(self.fault(122), &ty, &next.ty) else {
+            let Ok(step) = self.bound(self.or(122, mode, Mode::Strict), &ty, &next.ty) else {
                 return self.or(123, Folded::Absent, Folded::Found(required, ty));
             };
             too_long |= step.form().len() > limit;
@@ -68,7 +68,10 @@ impl Rules {
                 Some(a) => Folded::Found(self.or(128, a.required, true), a.ty.clone()),
                 None => Folded::Absent,
             },
-            Ty::Ent(names) => self.fold_attribute(schema, names, attr, limit),
+            Ty::Ent(names) => {
+                let mode = self.or(228, Mode::Permissive, Mode::Loose);
+                self.fold_attr(mode, schema, names, attr, limit)
+            }
             _ => Folded::Absent,
         }
     }
@@ -101,9 +104,10 @@ impl Rules {
             Ty::Ent(types) => {
                 let first = types.first().and_then(|n| self.entry(schema, *n));
                 let candidates = first.map(|e| listed(&e.attrs)).unwrap_or_default();
+                let mode = self.or(229, Mode::Permissive, Mode::Loose);
                 let mut names = Vec::new();
                 for attr in candidates {
-                    match self.fold_attribute(schema, types, attr, limit) {
+                    match self.fold_attr(mode, schema, types, attr, limit) {
                         Folded::TooLong if self.fault(136) => (),
                         Folded::TooLong => return None,
                         Folded::Found(required, _) if self.fault(137) && !required => (),

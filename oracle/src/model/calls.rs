@@ -3,7 +3,7 @@
 use super::attributes::Folded;
 use super::conformance::Walk;
 use super::relations::find;
-use super::Rules;
+use super::{Mode, Rules};
 use crate::questions::{operation::*, Call, Outcome, Part};
 use crate::trees::{Attr, Sch, Ty, Val};
 
@@ -43,9 +43,13 @@ impl Rules {
         outcome.unwrap_or_else(Outcome::Refused)
     }
 
-    fn strict(self, call: &Call<'_>) -> Result<bool, u8> {
-        ask(1, call.mode <= self.or(196, 1, 2))?;
-        Ok(call.mode == 0)
+    fn mode(self, call: &Call<'_>) -> Result<Mode, u8> {
+        match call.mode {
+            2 if self.fault(230) => Err(1),
+            2 if self.fault(231) => Ok(Mode::Permissive),
+            3 if self.fault(196) => Ok(Mode::Loose),
+            number => Mode::of(number).ok_or(1),
+        }
     }
 
     fn first(self, call: &Call<'_>) -> Result<Ty, u8> {
@@ -61,15 +65,15 @@ impl Rules {
         self,
         call: &Call<'_>,
         schema: &'s Option<Sch>,
-    ) -> Result<(bool, &'s Sch), u8> {
+    ) -> Result<(Mode, &'s Sch), u8> {
         if self.fault(180) {
             ask(2, schema.is_some())?;
         }
-        let strict = self.strict(call)?;
+        let mode = self.mode(call)?;
         if self.fault(181) {
             ask(3, call.op == FOLD || self.whole_type(call.t0).is_some())?;
         }
-        Ok((strict, schema.as_ref().ok_or(2)?))
+        Ok((mode, schema.as_ref().ok_or(2)?))
     }
 
     /// The longest bound that a step may have.
@@ -96,24 +100,35 @@ impl Rules {
     }
 
     fn compared(self, call: &Call<'_>, schema: &Option<Sch>) -> Result<Outcome, u8> {
-        let (strict, _) = self.mode_and_schema(call, schema)?;
+        let (mode, _) = self.mode_and_schema(call, schema)?;
         if self.fault(182) {
             self.second(call)?;
         }
         let (a, b) = (self.first(call)?, self.second(call)?);
         match call.op {
-            SUBTYPE => said(self.subtype(strict, &a, &b)),
+            SUBTYPE => {
+                let strict = self.fault_in_loose(238, mode);
+                said(self.subtype(if strict { Mode::Strict } else { mode }, &a, &b))
+            }
             _ => {
                 ask(10, call.t0.len() <= call.room || !self.fault(199))?;
-                self.written(call, self.bound(strict, &a, &b)?.form())
+                let bound = self.bound(mode, &a, &b)?;
+                let loosened = bound == Ty::Atom(6) && a != bound && b != bound;
+                let first = loosened && self.fault_in_loose(247, mode);
+                ask(10, call.t0.len() <= call.room || !first)?;
+                let set = matches!(bound, Ty::Set(_)) && self.fault_in_loose(224, mode);
+                match bound.form() {
+                    form if set && form.len() > call.room => self.written(call, vec![6]),
+                    form => self.written(call, form),
+                }
             }
         }
     }
 
     fn folded(self, call: &Call<'_>, schema: &Option<Sch>) -> Result<Outcome, u8> {
-        let (strict, _) = self.mode_and_schema(call, schema)?;
+        let (mode, _) = self.mode_and_schema(call, schema)?;
         let types = self.whole_list(call.t0).ok_or(3)?;
-        let bound = self.fold(strict, &types, self.step_limit(call))?;
+        let bound = self.fold(mode, &types, self.step_limit(call))?;
         self.written(call, bound.form())
     }
 

@@ -13,7 +13,10 @@ struct Entry {
 
 impl Rules {
     fn entry_stands(self, e: &Entry) -> bool {
-        let mode = matches!(e.op, 0 | 1 | 9) || e.mode == 0 || self.fault(200);
+        let mode = match e.op {
+            0 | 1 | 9 => e.mode <= 2 || !self.fault(246),
+            _ => e.mode == 0 || self.fault(200),
+        };
         let attr = matches!(e.op, 3 | 4) || e.attr == 0 || self.fault(201);
         let second = matches!(e.op, 0 | 1 | 2 | 6 | 8) || e.lengths.1 == 0 || self.fault(202);
         e.op <= self.or(203, 10, 11) && mode && attr && second

@@ -1,6 +1,6 @@
 //! Disjoint, subtype and consistency.
 
-use super::Rules;
+use super::{Mode, Rules};
 use crate::trees::{Attr, Ty};
 
 /// The attribute of that name.
@@ -31,19 +31,24 @@ impl Rules {
         }
     }
 
-    pub fn subtype(self, strict: bool, a: &Ty, b: &Ty) -> bool {
+    pub fn subtype(self, mode: Mode, a: &Ty, b: &Ty) -> bool {
+        let strict = mode == Mode::Strict;
         match (a, b) {
             (Ty::Atom(0), Ty::Rec(..)) => !self.fault(53),
             (Ty::Atom(0), _) => true,
             (Ty::Atom(1 | 2), Ty::Atom(3)) => !self.fault(54),
             (Ty::Atom(6), Ty::Set(_)) => self.fault(55),
             (Ty::Set(_), Ty::Atom(6)) => !self.fault(56),
-            (Ty::Set(a), Ty::Set(b)) => self.or(57, self.subtype(strict, a, b), a == b),
-            (Ty::Rec(oa, a), Ty::Rec(ob, b)) => self.subrecord(strict, (*oa, a), (*ob, b)),
-            (Ty::Ent(a), Ty::Ent(b)) => match self.or(58, strict, false) || self.fault(59) {
-                true => a == b,
-                false => a.iter().all(|n| b.contains(n)),
-            },
+            (Ty::Set(a), Ty::Set(b)) => self.or(57, self.subtype(mode, a, b), a == b),
+            (Ty::Rec(oa, a), Ty::Rec(ob, b)) => self.subrecord(mode, (*oa, a), (*ob, b)),
+            (Ty::Ent(a), Ty::Ent(b)) => {
+                let equal = self.or(58, strict, false) || self.fault(59);
+                match equal || self.fault_in_loose(243, mode) {
+                    true => a == b,
+                    false => a.iter().all(|n| b.contains(n)),
+                }
+            }
+            (Ty::Ent(_) | Ty::Act(..), Ty::Atom(9)) if self.fault_in_loose(244, mode) => false,
             (Ty::Ent(_), Ty::Atom(9)) => !strict || self.fault(60),
             (Ty::Act(..), Ty::Atom(9)) => !strict && !self.fault(61),
             (Ty::Act(m, a), Ty::Act(n, b)) => m == n && (a == b || self.fault(62)),
@@ -52,28 +57,31 @@ impl Rules {
         }
     }
 
-    fn subrecord(self, strict: bool, a: (bool, &[Attr]), b: (bool, &[Attr])) -> bool {
+    fn subrecord(self, mode: Mode, a: (bool, &[Attr]), b: (bool, &[Attr])) -> bool {
         if a.0 && !b.0 && !self.fault(64) {
             return false;
         }
-        let wide = b.0 && (!strict || self.fault(65)) && !self.fault(66);
+        let wide = mode != Mode::Strict || self.fault(65);
+        let narrow = self.fault(66) || self.fault_in_loose(241, mode);
+        let wide = b.0 && wide && !narrow;
         if !wide && !same_names(a.1, b.1) && !self.fault(67) {
             return false;
         }
         b.1.iter().all(|upper| match find(a.1, upper.name) {
-            Some(lower) => self.subattribute(strict, lower, upper),
+            Some(lower) => self.subattribute(mode, lower, upper),
             None => self.fault(68) && !upper.required,
         })
     }
 
-    fn subattribute(self, strict: bool, a: &Attr, b: &Attr) -> bool {
-        let equal = (strict && !self.fault(69)) || self.fault(70);
+    fn subattribute(self, mode: Mode, a: &Attr, b: &Attr) -> bool {
+        let equal = (mode == Mode::Strict && !self.fault(69)) || self.fault(70);
+        let equal = equal || self.fault_in_loose(242, mode);
         let flags = if equal {
             a.required == b.required
         } else {
             a.required || !b.required || self.fault(71)
         };
-        flags && self.subtype(strict, &a.ty, &b.ty)
+        flags && self.subtype(mode, &a.ty, &b.ty)
     }
 
     /// Is the type plain throughout?
