@@ -3,7 +3,7 @@ use mathlib.Core.Path.{_≡_, refl, ap, sym, _∙_}
 use mathlib.Core.Bool.{Bool, true, false, cond}
 use Prim.Native.Nat.{ℕ}
 use native.Mathlib.Omega.{arith}
-use Rattle.cedar.specs.Types.{Mode, isLoose, anyset, Ty, atom, set}
+use Rattle.cedar.specs.Types.{Mode, isLoose, anyset, Ty, atom}
 use Rattle.cedar.specs.TypeForm.{enc}
 use Rattle.cedar.specs.Result.{Result, ok, err}
 use Rattle.cedar.specs.Bound.{joinSet}

@@ -1,4 +1,4 @@
--- A value of either type is of their bound, in either mode and under either rule on the count of arguments.
+-- A value of either type is of their bound, in any mode and under either rule on the count of arguments.
 use Prim.Native.Nat.{ℕ, suc}
 use native.Mathlib.Omega.{arith}
 use mathlib.Core.List.{List}

@@ -2,17 +2,17 @@
 use Prim.Native.Nat.{ℕ}
 use mathlib.Core.List.{List, [], _∷_}
 use mathlib.Core.Bool.{Bool, true, false, _&&_, _||_, cond}
-use mathlib.Core.Path.{_≡_, refl, ap, ap₂, _∙_}
+use mathlib.Core.Path.{_≡_, refl, ap, ap₂}
 use mathlib.Core.Option.{none}
 use native.Mathlib.Omega.{arith}
-use lib.Dec.{T, eqb}
+use lib.Dec.{T}
 use Rattle.cedar.specs.Types.{Mode, strict, permissive, loose, isPermissive, isLoose, Atom, Ty, atom, set, rec, act, ent, ext, Attrs, nil, attr}
-use Rattle.cedar.specs.Types.{maybe, find, same, isNever, asSet, asRec, asAct, asEnt}
+use Rattle.cedar.specs.Types.{find, same, isNever, asSet, asRec}
 use Rattle.cedar.specs.Limits.{standard}
 use Rattle.cedar.specs.TypeForm.{enc, parse}
 use Rattle.cedar.specs.Subtype.{subAtom, subFlag, subRecord, sub, subAttrs}
 use Rattle.cedar.specs.Result.{Result, ok, err, bind, noBound}
-use Rattle.cedar.specs.Bound.{isTruth, apart, sameNames, absent, joinOne, joinSet, joinRecord, joinNames, upper, bound, joinAttrs}
+use Rattle.cedar.specs.Bound.{joinOne, joinSet, joinRecord, upper, bound, joinAttrs}
 use Rattle.cedar.specs.Outcome.{said, nothing}
 use Rattle.cedar.specs.Calls.{subtypeCall, boundCall, foldCall, lookupCall, namesCall}
 use Rattle.cedar.specs.Laws.Tests.{T-and, maybe-cong}

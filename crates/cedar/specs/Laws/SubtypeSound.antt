@@ -1,4 +1,4 @@
--- A value of a type is of each type above it, in either mode and under either rule on the count of arguments.
+-- A value of a type is of each type above it, in any mode and under either rule on the count of arguments.
 use Prim.Native.Nat.{ℕ}
 use mathlib.Core.List.{List}
 use mathlib.Core.Bool.{Bool, true, false, not, _&&_, _||_, cond, and-false}
