@@ -1,6 +1,6 @@
 -- Loose mode: where it is as permissive and where it is not, and its settled readings, from bytes through the calls.
 use Prim.Native.Nat.{ℕ}
-use mathlib.Core.List.{List, [], _∷_}
+use mathlib.Core.List.{List, [], _∷_, _++_}
 use mathlib.Core.Bool.{Bool, true, false, _&&_, _||_, cond}
 use mathlib.Core.Path.{_≡_, refl, ap, ap₂}
 use mathlib.Core.Option.{none}
@@ -16,7 +16,7 @@ use Rattle.cedar.specs.Bound.{joinOne, joinSet, joinRecord, upper, bound
 use Rattle.cedar.specs.Outcome.{said, nothing}
 use Rattle.cedar.specs.Calls.{subtypeCall, boundCall, foldCall, lookupCall, namesCall}
 use Rattle.cedar.specs.Laws.Tests.{T-and, maybe-cong}
-use Rattle.cedar.specs.Laws.Starred.{Seen, seen, refusal, written}
+use Rattle.cedar.specs.Laws.Starred.{Seen, seen, refusal, written, setLong, setString, anySet, entity2, action3}
 
 -- Loose is permissive.
 pub loose-permissive : (m : Mode) → isLoose m ≡ true → isPermissive m ≡ true
@@ -105,13 +105,6 @@ pub set-apart : (m : Mode) (t b : Ty) → sub m (set t) b ≡ false → sub m b 
 unfolding bound
 set-apart m t b p q e = rw (p, q, e) refl
 
--- Sets of Long and of String.
-abbrev longs : List ℕ
-longs = 7 ∷ 4 ∷ []
-
-abbrev strings : List ℕ
-strings = 7 ∷ 5 ∷ []
-
 -- Closed (1: t), required, and action 3 with that attribute, of a type of two bytes.
 abbrev holding : List ℕ → List ℕ
 holding t = 8 ∷ 0 ∷ 1 ∷ 0 ∷ 1 ∷ 0 ∷ 1 ∷ 2 ∷ 0 ∷ t
@@ -119,16 +112,12 @@ holding t = 8 ∷ 0 ∷ 1 ∷ 0 ∷ 1 ∷ 0 ∷ 1 ∷ 2 ∷ 0 ∷ t
 abbrev acting : List ℕ → List ℕ
 acting t = 11 ∷ 3 ∷ 0 ∷ 1 ∷ 0 ∷ 1 ∷ 0 ∷ 1 ∷ 2 ∷ 0 ∷ t
 
--- Action 3 with nothing.
-abbrev action3 : List ℕ
-action3 = 11 ∷ 3 ∷ 0 ∷ 0 ∷ 0 ∷ []
-
 -- Entities 2 and 4 together, and a schema with an entry for each: closed (1: 07 04) and closed (1: 07 05).
 abbrev either : List ℕ
 either = 10 ∷ 2 ∷ 0 ∷ 2 ∷ 0 ∷ 4 ∷ 0 ∷ []
 
 abbrev schema : List ℕ
-schema = 2 ∷ 0 ∷ 0 ∷ 0 ∷ 0 ∷ 0 ∷ 2 ∷ 0 ∷ 0 ∷ 11 ∷ 0 ∷ 4 ∷ 0 ∷ 0 ∷ 11 ∷ 0 ∷ 8 ∷ 0 ∷ 1 ∷ 0 ∷ 1 ∷ 0 ∷ 1 ∷ 2 ∷ 0 ∷ 7 ∷ 4 ∷ 8 ∷ 0 ∷ 1 ∷ 0 ∷ 1 ∷ 0 ∷ 1 ∷ 2 ∷ 0 ∷ 7 ∷ 5 ∷ []
+schema = 2 ∷ 0 ∷ 0 ∷ 0 ∷ 0 ∷ 0 ∷ 2 ∷ 0 ∷ 0 ∷ 11 ∷ 0 ∷ 4 ∷ 0 ∷ 0 ∷ 11 ∷ 0 ∷ (holding setLong ++ holding setString)
 
 -- A bound under that schema, with a result buffer of 4,096 bytes.
 joined : ℕ → List ℕ → List ℕ → Seen
@@ -137,17 +126,17 @@ joined mode a b = seen (boundCall standard mode schema a b 4096)
 pub asked : List Seen
 asked =
     -- 07 04 with 07 05, in each mode; sets of them; their fold with a workspace of 4 bytes.
-    joined 0 longs strings ∷ joined 1 longs strings ∷ joined 2 longs strings ∷ joined 3 longs strings ∷
-    joined 2 (7 ∷ longs) (7 ∷ strings) ∷
+    joined 0 setLong setString ∷ joined 1 setLong setString ∷ joined 2 setLong setString ∷ joined 3 setLong setString ∷
+    joined 2 (7 ∷ setLong) (7 ∷ setString) ∷
     seen (foldCall standard 2 schema (2 ∷ 0 ∷ 2 ∷ 0 ∷ 2 ∷ 0 ∷ 7 ∷ 4 ∷ 7 ∷ 5 ∷ []) 4096 4) ∷
     -- Within a record; within an action, bare and in a set; unlike actions of one name in a set.
-    joined 2 (holding longs) (holding strings) ∷
-    joined 2 (acting longs) (acting strings) ∷ joined 2 (7 ∷ acting longs) (7 ∷ acting strings) ∷
-    joined 2 action3 (acting longs) ∷ joined 2 (7 ∷ action3) (7 ∷ acting longs) ∷
+    joined 2 (holding setLong) (holding setString) ∷
+    joined 2 (acting setLong) (acting setString) ∷ joined 2 (7 ∷ acting setLong) (7 ∷ acting setString) ∷
+    joined 2 action3 (acting setLong) ∷ joined 2 (7 ∷ action3) (7 ∷ acting setLong) ∷
     -- A set with Long, with 06 and with Never.
-    joined 2 longs (4 ∷ []) ∷ joined 2 longs (6 ∷ []) ∷ joined 2 longs (0 ∷ []) ∷
+    joined 2 setLong (4 ∷ []) ∷ joined 2 setLong anySet ∷ joined 2 setLong (0 ∷ []) ∷
     -- Subtype asks as in permissive.
-    seen (subtypeCall standard 2 schema (10 ∷ 1 ∷ 0 ∷ 2 ∷ 0 ∷ []) either) ∷ seen (subtypeCall standard 3 schema longs longs) ∷
+    seen (subtypeCall standard 2 schema entity2 either) ∷ seen (subtypeCall standard 3 schema setLong setLong) ∷
     -- Lookup and names are permissive.
     seen (lookupCall standard schema 1 either 4096 8192) ∷ seen (namesCall standard schema either 4096 8192) ∷
     []
@@ -160,7 +149,7 @@ answers =
     written (8 ∷ 0 ∷ 1 ∷ 0 ∷ 1 ∷ 0 ∷ 1 ∷ 1 ∷ 0 ∷ 6 ∷ []) ∷
     refusal 15 ∷ written (6 ∷ []) ∷
     refusal 12 ∷ written (6 ∷ []) ∷
-    refusal 15 ∷ written (6 ∷ []) ∷ written longs ∷
+    refusal 15 ∷ written (6 ∷ []) ∷ written setLong ∷
     seen (said true) ∷ refusal 1 ∷
     seen nothing ∷ written [] ∷
     []

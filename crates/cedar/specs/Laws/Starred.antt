@@ -43,22 +43,22 @@ rOpen = 8 ∷ 1 ∷ 1 ∷ 0 ∷ 1 ∷ 0 ∷ 1 ∷ 1 ∷ 0 ∷ 4 ∷ []
 abbrev rTwo : List ℕ
 rTwo = 8 ∷ 0 ∷ 2 ∷ 0 ∷ 1 ∷ 0 ∷ 1 ∷ 1 ∷ 0 ∷ 2 ∷ 0 ∷ 1 ∷ 1 ∷ 0 ∷ 4 ∷ 4 ∷ []
 
-abbrev setLong : List ℕ
+abbrev pub setLong : List ℕ
 setLong = 7 ∷ 4 ∷ []
 
-abbrev setString : List ℕ
+abbrev pub setString : List ℕ
 setString = 7 ∷ 5 ∷ []
 
-abbrev anySet : List ℕ
+abbrev pub anySet : List ℕ
 anySet = 6 ∷ []
 
-abbrev entity2 : List ℕ
+abbrev pub entity2 : List ℕ
 entity2 = 10 ∷ 1 ∷ 0 ∷ 2 ∷ 0 ∷ []
 
 abbrev entity4 : List ℕ
 entity4 = 10 ∷ 1 ∷ 0 ∷ 4 ∷ 0 ∷ []
 
-abbrev action3 : List ℕ
+abbrev pub action3 : List ℕ
 action3 = 11 ∷ 3 ∷ 0 ∷ 0 ∷ 0 ∷ []
 
 abbrev action3Long : List ℕ
