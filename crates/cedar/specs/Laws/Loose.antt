@@ -15,7 +15,7 @@ use Rattle.cedar.specs.Result.{Result, ok, err, bind, noBound}
 use Rattle.cedar.specs.Bound.{joinOne, joinSet, joinRecord, upper, bound, joinAttrs}
 use Rattle.cedar.specs.Outcome.{said, nothing}
 use Rattle.cedar.specs.Calls.{subtypeCall, boundCall, foldCall, lookupCall, namesCall}
-use Rattle.cedar.specs.Laws.Tests.{T-and, maybe-cong}
+use Rattle.cedar.specs.Laws.Tests.{T-and, maybe-cong, eqb-true}
 use Rattle.cedar.specs.Laws.Starred.{Seen, seen, refusal, written, setLong, setString, anySet, entity2, action3}
 
 -- Loose is permissive.
@@ -99,6 +99,11 @@ sets-joined t u e h = go (sub loose (set t) (set u)) (sub loose (set u) (set t))
     go false true r h = let z : _≡_ {A = ℕ} 0 1 = cc in omega arith
     go false false (ok c) h = let z : _≡_ {A = ℕ} 0 1 = cc in omega arith
     go false false (err d) h = let z : _≡_ {A = ℕ} 0 1 = cc in omega arith
+
+-- In every mode actions of one name join as in strict.
+pub actions-joined : (m : Mode) (n : ℕ) (xs ys : Attrs) → bound m (act n xs) (act n ys) ≡ bound strict (act n xs) (act n ys)
+unfolding bound sub
+actions-joined m n xs ys = rw (eqb-true n) refl
 
 -- In every mode a set with what is no set, and neither under it nor above it, is 15.
 pub set-apart : (m : Mode) (t b : Ty) → sub m (set t) b ≡ false → sub m b (set t) ≡ false → asSet b ≡ none → bound m (set t) b ≡ err noBound
