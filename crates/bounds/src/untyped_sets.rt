@@ -31,7 +31,7 @@ pub fn is_untyped(mode: Mode, x: &[u8], y: &[u8], levels: usize, known: usize) -
     !has_bound(mode, x, y, levels)
 }
 
-// The length of a set's element, where the length of the set is known.
+// The length of a set's element, where the length of the set is known, else 0.
 pub fn element_length(known: usize) -> usize
     ensures { λ r. ⌜ r ≡ known - 1 ⌝ }
 {

@@ -31,7 +31,7 @@ use Rattle.forms.specs.Laws.TypeTwin.{type-twin}
 use Rattle.writing.specs.declared.form_lengths.FormLength.{FormLength}
 use Rattle.writing.specs.declared.form_lengths.FormLength.the-variants as form-lengths
 use Rattle.writing.specs.FormLengths.{cap, formLengthOf, formOf, Ready}
-use Rattle.writing.specs.Laws.FormLengths.{of-ok, not-err, exact as form-exact, ready}
+use Rattle.writing.specs.Laws.FormLengths.{of-ok, not-err, ready}
 use Rattle.writing.specs.Laws.Writing.{back, over-front}
 use Rattle.forms.specs.Laws.Bytes.{Bytes-index, Bytes-part, enc-dec}
 use Rattle.folds.specs.declared.steps.JoinStep.the-variants.{To, Not, TooLong}
@@ -141,11 +141,11 @@ module _ (m : Mode) {l len : ℕ} {last t : List ℕ} (g : Stepping l len last t
         pub step-ready : (o : List ℕ) → n ≤ length o → Ready enc (direct m (dec l hand) (dec l t)) o
         step-ready o r = ready enc (direct m (dec l hand) (dec l t)) x n o told f k r
 
-        pub step-length : n ≡ length (formOf enc (direct m (dec l hand) (dec l t)))
-        step-length = form-exact enc (direct m (dec l hand) (dec l t)) x n told f k
-
         form-written : formOf enc (direct m (dec l hand) (dec l t)) ≡ enc bounded
         form-written = ap (formOf enc) (direct-is ∙ of-type .1 .0)
+
+        pub step-length : n ≡ length (formOf enc (direct m (dec l hand) (dec l t)))
+        step-length = exact ∙ sym (ap length form-written)
 
         -- The bound's form was copied to the front of `last`.
         copied : (xs : List ℕ) → length xs ≡ 4096 → part 0 n xs ≡ enc bounded → Stepped l stepped work xs (To n)
