@@ -1,4 +1,5 @@
--- The calls: any bytes, any mode number, any room, to an outcome. Each asks its questions in 01's order; the first no refuses.
+-- The calls: any limits, any bytes, any mode number, any room, to an outcome. Each asks its questions in 01's order, 20 first; the first
+-- no refuses.
 use Prim.Native.Nat.{ℕ, zero, suc, _/_, min}
 use mathlib.Core.List.{List}
 use mathlib.Core.Bool.{Bool, true, false}
@@ -8,10 +9,10 @@ use lib.ListN.{length}
 use Rattle.cedar.specs.Types.{Mode, strict, permissive, loose, Ty, maybe}
 use Rattle.cedar.specs.Bytes.{encNames, _>>=_, guard}
 use Rattle.cedar.specs.TypeForm.{enc}
-use Rattle.cedar.specs.Limits.{Limits}
+use Rattle.cedar.specs.Limits.{Limits, allowed}
 use Rattle.cedar.specs.Whole.{wholeType, wholeValue, wholeList, wholeSchema}
 use Rattle.cedar.specs.Result.{Result, ok, err, badMode, badSchema, badFirst, badSecond, badValue, notPlain, unknownFunction, notConvertible}
-use Rattle.cedar.specs.Result.{answerTooLong}
+use Rattle.cedar.specs.Result.{answerTooLong, badLimits}
 use Rattle.cedar.specs.Outcome.{Outcome, refused, said, nothing, typed, attribute, named}
 use Rattle.cedar.specs.Disjoint.{disjoint}
 use Rattle.cedar.specs.Subtype.{sub}
@@ -72,6 +73,7 @@ ofVerdict unknown = refused unknownFunction
 -- Part 2, `euid_literal`.
 abbrev pub literalCall : Limits → List ℕ → List ℕ → ℕ → Outcome
 literalCall lim schema v room =
+    ask badLimits (guard (allowed lim)) λ _.
     ask badSchema (wholeSchema lim schema) λ s.
     ask badValue (wholeValue lim v >>= asUid) λ u.
     maybe nothing (λ t. writeType lim room (ok t)) (literal s (u .0) (u .1))
@@ -79,6 +81,7 @@ literalCall lim schema v room =
 -- Part 3, `are_types_disjoint`.
 abbrev pub disjointCall : Limits → List ℕ → List ℕ → Outcome
 disjointCall lim t₀ t₁ =
+    ask badLimits (guard (allowed lim)) λ _.
     ask badFirst (wholeType lim t₀) λ a.
     ask badSecond (wholeType lim t₁) λ b.
     said (disjoint a b)
@@ -86,6 +89,7 @@ disjointCall lim t₀ t₁ =
 -- Part 4, `is_subtype`.
 abbrev pub subtypeCall : Limits → ℕ → List ℕ → List ℕ → List ℕ → Outcome
 subtypeCall lim mode schema t₀ t₁ =
+    ask badLimits (guard (allowed lim)) λ _.
     ask badMode (modeOf mode) λ m.
     ask badSchema (wholeSchema lim schema) λ s.
     ask badFirst (wholeType lim t₀) λ a.
@@ -95,6 +99,7 @@ subtypeCall lim mode schema t₀ t₁ =
 -- Part 5, `least_upper_bound`.
 abbrev pub boundCall : Limits → ℕ → List ℕ → List ℕ → List ℕ → ℕ → Outcome
 boundCall lim mode schema t₀ t₁ room =
+    ask badLimits (guard (allowed lim)) λ _.
     ask badMode (modeOf mode) λ m.
     ask badSchema (wholeSchema lim schema) λ s.
     ask badFirst (wholeType lim t₀) λ a.
@@ -104,6 +109,7 @@ boundCall lim mode schema t₀ t₁ room =
 -- Part 6, `reduce_to_least_upper_bound`.
 abbrev pub foldCall : Limits → ℕ → List ℕ → List ℕ → ℕ → ℕ → Outcome
 foldCall lim mode schema list room work =
+    ask badLimits (guard (allowed lim)) λ _.
     ask badMode (modeOf mode) λ m.
     ask badSchema (wholeSchema lim schema) λ s.
     ask badFirst (wholeList lim list) λ ts.
@@ -112,6 +118,7 @@ foldCall lim mode schema list room work =
 -- Part 7, `lookup_attribute_type`.
 abbrev pub lookupCall : Limits → List ℕ → ℕ → List ℕ → ℕ → ℕ → Outcome
 lookupCall lim schema a t room work =
+    ask badLimits (guard (allowed lim)) λ _.
     ask badSchema (wholeSchema lim schema) λ s.
     ask badFirst (wholeType lim t) λ u.
     writeAttribute lim room (lookup (stepFits lim work) s a u)
@@ -119,6 +126,7 @@ lookupCall lim schema a t room work =
 -- Part 7, the second entry: a record's or action's attribute, handed back as the part of the caller's own form.
 abbrev pub ownAttributeCall : Limits → List ℕ → ℕ → List ℕ → Outcome
 ownAttributeCall lim schema a t =
+    ask badLimits (guard (allowed lim)) λ _.
     ask badSchema (wholeSchema lim schema) λ s.
     ask badFirst (wholeType lim t) λ u.
     maybe nothing (λ y. attribute (y .0) (y .1)) (ownAttr a u)
@@ -126,6 +134,7 @@ ownAttributeCall lim schema a t =
 -- Part 7, `may_have_attr`.
 abbrev pub mayHaveCall : Limits → List ℕ → ℕ → List ℕ → Outcome
 mayHaveCall lim schema a t =
+    ask badLimits (guard (allowed lim)) λ _.
     ask badSchema (wholeSchema lim schema) λ s.
     ask badFirst (wholeType lim t) λ u.
     said (mayHave s a u)
@@ -133,6 +142,7 @@ mayHaveCall lim schema a t =
 -- Part 7, `all_attributes`.
 abbrev pub namesCall : Limits → List ℕ → List ℕ → ℕ → ℕ → Outcome
 namesCall lim schema t room work =
+    ask badLimits (guard (allowed lim)) λ _.
     ask badSchema (wholeSchema lim schema) λ s.
     ask badFirst (wholeType lim t) λ u.
     writeNames lim room (allNames (stepFits lim work) s u)
@@ -140,6 +150,7 @@ namesCall lim schema t room work =
 -- Part 8, `is_consistent_with`.
 abbrev pub consistentCall : Limits → List ℕ → List ℕ → Outcome
 consistentCall lim t₀ t₁ =
+    ask badLimits (guard (allowed lim)) λ _.
     ask badFirst (wholeType lim t₀) λ a.
     ask badSecond (wholeType lim t₁) λ b.
     ask notPlain (guard (plain b)) λ _.
@@ -148,6 +159,7 @@ consistentCall lim t₀ t₁ =
 -- Part 8, `TryFrom<Type>`.
 abbrev pub convertCall : Limits → List ℕ → ℕ → Outcome
 convertCall lim t room =
+    ask badLimits (guard (allowed lim)) λ _.
     ask badFirst (wholeType lim t) λ a.
     ask notConvertible (convert a) λ c.
     writeType lim room (ok c)
@@ -155,6 +167,7 @@ convertCall lim t room =
 -- Part 9, by a rule on the number of a call's arguments.
 abbrev pub conformsBy : Counts → Limits → List ℕ → List ℕ → List ℕ → Outcome
 conformsBy c lim schema t v =
+    ask badLimits (guard (allowed lim)) λ _.
     ask badSchema (wholeSchema lim schema) λ s.
     ask badFirst (wholeType lim t) λ a.
     ask badValue (wholeValue lim v) λ x.

@@ -30,6 +30,7 @@ pub mod DisjointSound
 pub mod Lookup
 pub mod BodyPlace
 pub mod AttributeSound
+pub mod Limits
 pub mod Calls
 pub mod Carried
 pub mod Sequence

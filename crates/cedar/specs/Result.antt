@@ -11,7 +11,7 @@ abbrev pub bind : {A B : Type 0} → Result A → (A → Result B) → Result B
 bind (ok a) f = f a
 bind (err e) f = err e
 
--- The mode is 0 or 1?
+-- The mode is known?
 abbrev pub badMode : ℕ
 badMode = 1
 
@@ -74,3 +74,7 @@ noBound = 15
 -- The job is whole?
 abbrev pub badJob : ℕ
 badJob = 16
+
+-- The limits are within their ranges?
+abbrev pub badLimits : ℕ
+badLimits = 20

@@ -9,9 +9,9 @@ use lib.Dec.{leb→le}
 use lib.ListN.{length}
 use Rattle.cedar.specs.Types.{Mode, Ty, Value, Schema}
 use Rattle.cedar.specs.TypeForm.{enc}
-use Rattle.cedar.specs.Limits.{Limits}
+use Rattle.cedar.specs.Limits.{Limits, allowed}
 use Rattle.cedar.specs.Whole.{wholeType, wholeValue, wholeSchema}
-use Rattle.cedar.specs.Result.{Result, ok, err, answerTooLong}
+use Rattle.cedar.specs.Result.{Result, ok, err, answerTooLong, badLimits}
 use Rattle.cedar.specs.Outcome.{Outcome, refused, said, nothing, typed, attribute, named}
 use Rattle.cedar.specs.Disjoint.{disjoint}
 use Rattle.cedar.specs.Bound.{bound}
@@ -22,7 +22,7 @@ use Rattle.cedar.specs.Calls.{ask, modeOf, answerFits, stepFits, answer,
 use Rattle.cedar.specs.Calls.{ownAttributeCall, mayHaveCall}
 use Rattle.cedar.specs.Bytes.{guard}
 use Rattle.cedar.specs.Laws.Bytes.{guard-some}
-use Rattle.cedar.specs.Laws.Tests.{maybe-case}
+use Rattle.cedar.specs.Laws.Tests.{T→true, maybe-case}
 
 -- An outcome that is no refusal.
 abbrev pub Answer : Outcome → Type 0
@@ -39,6 +39,11 @@ no-answer r h e = absurd (subst Answer (sym e) h)
 -- A question before an answer was answered.
 pub ask-case : {A C : Type 0} (n : ℕ) (o : Option A) (k : A → Outcome) (r : Outcome) → Answer r → ask n o k ≡ r → ((x : A) → o ≡ some x → k x ≡ r → C) → C
 ask-case n o k r h e g = maybe-case o e (λ i p. no-answer r h p) g
+
+-- A call that answered was asked under limits that are allowed.
+pub allowed-case : {C : Type 0} (lim : Limits) (o r : Outcome) → Answer r → ask badLimits (guard (allowed lim)) (λ _. o) ≡ r →
+    (allowed lim ≡ true → o ≡ r → C) → C
+allowed-case lim o r h e k = ask-case badLimits (guard (allowed lim)) (λ _. o) r h e λ u g p. k (T→true (allowed lim) (guard-some (allowed lim) u g)) p
 
 -- An answer's bytes were within the limit on a form's length.
 pub answer-case : {C : Type 0} (lim : Limits) (room : ℕ) (w : List ℕ) (o r : Outcome) → Answer r → answer lim room w o ≡ r →
@@ -84,7 +89,8 @@ module _ {C : Type 0} (lim : Limits) where
   pub boundCall-typed : (mode : ℕ) (schema t₀ t₁ : List ℕ) (room : ℕ) (z : Ty) → boundCall lim mode schema t₀ t₁ room ≡ typed z
       → ((m : Mode) (a b : Ty) → wholeType lim t₀ ≡ some a → wholeType lim t₁ ≡ some b → bound m a b ≡ ok z → length (enc z) ≤ lim .bytes → C) → C
   boundCall-typed mode schema t₀ t₁ room z e k =
-      ask-case _ (modeOf mode) _ (typed z) tt e λ m em e₁.
+      allowed-case lim _ (typed z) tt e λ _ e₀.
+      ask-case _ (modeOf mode) _ (typed z) tt e₀ λ m em e₁.
       ask-case _ (wholeSchema lim schema) _ (typed z) tt e₁ λ s es e₂.
       ask-case _ (wholeType lim t₀) _ (typed z) tt e₂ λ a ea e₃.
       ask-case _ (wholeType lim t₁) _ (typed z) tt e₃ λ b eb e₄.
@@ -94,7 +100,8 @@ module _ {C : Type 0} (lim : Limits) where
   pub disjointCall-said : (t₀ t₁ : List ℕ) (r : Bool) → disjointCall lim t₀ t₁ ≡ said r →
       ((a b : Ty) → wholeType lim t₀ ≡ some a → wholeType lim t₁ ≡ some b → disjoint a b ≡ r → C) → C
   disjointCall-said t₀ t₁ r e k =
-      ask-case _ (wholeType lim t₀) _ (said r) tt e λ a ea e₁.
+      allowed-case lim _ (said r) tt e λ _ e₀.
+      ask-case _ (wholeType lim t₀) _ (said r) tt e₀ λ a ea e₁.
       ask-case _ (wholeType lim t₁) _ (said r) tt e₁ λ b eb e₂.
       k a b ea eb (said-inj e₂)
 
@@ -103,7 +110,8 @@ module _ {C : Type 0} (lim : Limits) where
       → ((s : Schema) (u : Ty) → wholeSchema lim schema ≡ some s → wholeType lim t ≡ some u → lookup (stepFits lim work) s a u ≡ ok (some (r, z)) →
       length (enc z) ≤ lim .bytes → C) → C
   lookupCall-found schema a t room work r z e k =
-      ask-case _ (wholeSchema lim schema) _ (attribute r z) tt e λ s es e₁.
+      allowed-case lim _ (attribute r z) tt e λ _ e₀.
+      ask-case _ (wholeSchema lim schema) _ (attribute r z) tt e₀ λ s es e₁.
       ask-case _ (wholeType lim t) _ (attribute r z) tt e₁ λ u eu e₂.
       writeAttribute-case lim room (lookup (stepFits lim work) s a u) e₂ (k s u es eu)
 
@@ -111,7 +119,8 @@ module _ {C : Type 0} (lim : Limits) where
   pub ownAttributeCall-found : (schema : List ℕ) (a : ℕ) (t : List ℕ) (r : Bool) (z : Ty) → ownAttributeCall lim schema a t ≡ attribute r z →
       ((u : Ty) → wholeType lim t ≡ some u → ownAttr a u ≡ some (r, z) → C) → C
   ownAttributeCall-found schema a t r z e k =
-      ask-case _ (wholeSchema lim schema) _ (attribute r z) tt e λ s es e₁.
+      allowed-case lim _ (attribute r z) tt e λ _ e₀.
+      ask-case _ (wholeSchema lim schema) _ (attribute r z) tt e₀ λ s es e₁.
       ask-case _ (wholeType lim t) _ (attribute r z) tt e₁ λ u eu e₂.
       maybe-case (ownAttr a u) e₂ (λ i p. nothing-attribute p) λ y ey p. k u eu (ey ∙ ap (λ (x : Bool × Ty). some x) (attribute-inj p))
 
@@ -119,7 +128,8 @@ module _ {C : Type 0} (lim : Limits) where
   pub mayHaveCall-said : (schema : List ℕ) (a : ℕ) (t : List ℕ) (r : Bool) → mayHaveCall lim schema a t ≡ said r
       → ((s : Schema) (u : Ty) → wholeSchema lim schema ≡ some s → wholeType lim t ≡ some u → mayHave s a u ≡ r → C) → C
   mayHaveCall-said schema a t r e k =
-      ask-case _ (wholeSchema lim schema) _ (said r) tt e λ s es e₁.
+      allowed-case lim _ (said r) tt e λ _ e₀.
+      ask-case _ (wholeSchema lim schema) _ (said r) tt e₀ λ s es e₁.
       ask-case _ (wholeType lim t) _ (said r) tt e₁ λ u eu e₂.
       k s u es eu (said-inj e₂)
 
@@ -128,12 +138,17 @@ module _ {C : Type 0} (lim : Limits) where
       → ((s : Schema) (a : Ty) (x : Value) → wholeSchema lim schema ≡ some s → wholeType lim t ≡ some a → wholeValue lim v ≡ some x → conforms c s a x ≡ holds →
       C) → C
   conforms-case c schema t v e k =
-      ask-case _ (wholeSchema lim schema) _ (said true) tt e λ s es e₁.
+      allowed-case lim _ (said true) tt e λ _ e₀.
+      ask-case _ (wholeSchema lim schema) _ (said true) tt e₀ λ s es e₁.
       ask-case _ (wholeType lim t) _ (said true) tt e₁ λ a ea e₂.
       ask-case _ (wholeValue lim v) _ (said true) tt e₂ λ x ex e₃.
       k s a x es ea ex (verdict-said (conforms c s a x) e₃)
 
+-- What conforms does so under limits that are allowed.
+pub conforms-allowed : (lim : Limits) (c : Counts) (schema t v : List ℕ) → Conforms lim c schema t v → allowed lim ≡ true
+conforms-allowed lim c schema t v e = allowed-case lim _ (said true) tt e λ h _. h
+
 -- What is whole, with a verdict of yes, conforms.
 pub conforms-yes : (lim : Limits) (c : Counts) (schema t v : List ℕ) (s : Schema) (a : Ty) (x : Value)
-    → wholeSchema lim schema ≡ some s → wholeType lim t ≡ some a → wholeValue lim v ≡ some x → conforms c s a x ≡ holds → Conforms lim c schema t v
-conforms-yes lim c schema t v s a x es ea ex h = rw (es, ea, ex, h)
+    → allowed lim ≡ true → wholeSchema lim schema ≡ some s → wholeType lim t ≡ some a → wholeValue lim v ≡ some x → conforms c s a x ≡ holds → Conforms lim c schema t v
+conforms-yes lim c schema t v s a x y es ea ex h = rw (y, es, ea, ex, h)

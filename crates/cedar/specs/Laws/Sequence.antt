@@ -12,7 +12,7 @@ use Rattle.cedar.specs.Types.{Ty, atom, set, rec, act, ent, ext, Value, 
 use Rattle.cedar.specs.Laws.Shape.{Ordered}
 use Rattle.cedar.specs.Bytes.{Bytes}
 use Rattle.cedar.specs.TypeForm.{enc}
-use Rattle.cedar.specs.Limits.{Limits, standard}
+use Rattle.cedar.specs.Limits.{Limits, allowed}
 use Rattle.cedar.specs.Whole.{wholeSchema, wholeType, wholeValue}
 use Rattle.cedar.specs.Result.{ok}
 use Rattle.cedar.specs.Disjoint.{disjoint}
@@ -34,7 +34,8 @@ use Rattle.cedar.specs.Laws.DisjointSound.{disjoint-sound}
 use Rattle.cedar.specs.Laws.Lookup.{record-part, lookup-WF}
 use Rattle.cedar.specs.Laws.AttributeSound.{CarriesPairs, Has, EntriesOrdered, lookup-sound, ownAttr-sound, mayHave-sound}
 use Rattle.cedar.specs.Laws.Calls.{boundCall-typed, disjointCall-said, lookupCall-found, ownAttributeCall-found, mayHaveCall-said, conforms-case}
-use Rattle.cedar.specs.Laws.Calls.{conforms-yes}
+use Rattle.cedar.specs.Laws.Calls.{conforms-yes, conforms-allowed}
+use Rattle.cedar.specs.Laws.Limits.{allowed-bytes, bound-refused}
 use Rattle.cedar.specs.Laws.Carried.{attributeOf-name, attributeOf-some, entity-whole, carried-case}
 
 not-action-form : (a : Ty) → T (not (isActionForm (enc a))) → asAct a ≡ none
@@ -59,7 +60,8 @@ conforms-tree lim c schema t v s a x es ea ex h = conforms-case lim c schema t v
     (subst (λ (z : Ty). conforms c s z x′ ≡ holds) (agree ea′ ea) (subst (λ (z : Schema). conforms c z a′ x′ ≡ holds) (agree es′ es) yes)))
 
 module _ (lim : Limits) (c : Counts) (schema t v : List ℕ) (hs : Bytes schema) (ht : Bytes t) (s : Schema) (a : Ty) (x : Value)
-    (es : wholeSchema lim schema ≡ some s) (ea : wholeType lim t ≡ some a) (ex : wholeValue lim v ≡ some x) (held : Holds (conforms c s a x)) where
+    (fair : allowed lim ≡ true) (es : wholeSchema lim schema ≡ some s) (ea : wholeType lim t ≡ some a) (ex : wholeValue lim v ≡ some x)
+    (held : Holds (conforms c s a x)) where
   apart-from : (u : List ℕ) (b : Ty) → wholeType lim u ≡ some b → T (disjoint a b) ⊎ T (disjoint b a) → Conforms lim c schema u v → ⊥
   apart-from u b eb (inl d) h = disjoint-sound c s a b x d held (conforms-tree lim c schema u v s b x es eb ex h)
   apart-from u b eb (inr d) h = disjoint-sound c s b a x d (conforms-tree lim c schema u v s b x es eb ex h) held
@@ -105,13 +107,13 @@ module _ (lim : Limits) (c : Counts) (schema t v : List ℕ) (hs : Bytes schema)
 
   kept-here : Kept lim c schema t v
   kept-here = record {
-    conforming = conforms-yes lim c schema t v s a x es ea ex (Holds→yes (conforms c s a x) held);
+    conforming = conforms-yes lim c schema t v s a x fair es ea ex (Holds→yes (conforms c s a x) held);
     notDisjoint = λ u e h. apart-call u h e;
     required =
         λ i w g n y e. carried-case lim c schema v w s x hs es ex g λ ps ep cp. subst T (sym (attributeOf-name lim w ps ep n))
         (looked i n true y ps cp e .0 .there-if tt);
     typedAs = λ i w hw g n r y e z ez. carried-case lim c schema v w s x hs es ex g λ ps ep cp. attributeOf-some lim w ps ep n z hw ez λ q iq eq.
-        let (f, k) = looked i n r y ps cp e in conforms-yes lim c schema (enc y) z s y q es k eq (Holds→yes (conforms c s y q) (f .typed q iq));
+        let (f, k) = looked i n r y ps cp e in conforms-yes lim c schema (enc y) z s y q fair es k eq (Holds→yes (conforms c s y q) (f .typed q iq));
     denied = λ i w g n e. carried-case lim c schema v w s x hs es ex g λ ps ep cp. mayHaveCall-said lim schema n t false e λ s′ a′ es′ ea′ d.
         none-of (attributeOf lim n w) (attributeOf-name lim w ps ep n ∙ not-T→false (hasName n ps) (λ k. mayHave-sound c s n a x ps (no-action i)
         (λ m. subst T (ap (λ (z : Schema). mayHave z n a) (agree es es′) ∙ ap (mayHave s′ n) (agree ea ea′) ∙ d) m) held cp k));
@@ -120,7 +122,8 @@ module _ (lim : Limits) (c : Counts) (schema t v : List ℕ) (hs : Bytes schema)
 -- A value that conforms to a type keeps what is said of it.
 pub kept : (lim : Limits) (c : Counts) (schema t v : List ℕ) → Bytes schema → Bytes t → Conforms lim c schema t v → Kept lim c schema t v
 kept lim c schema t v hs ht h =
-    conforms-case lim c schema t v h λ s a x es ea ex e. kept-here lim c schema t v hs ht s a x es ea ex (yes→Holds (conforms c s a x) e)
+    conforms-case lim c schema t v h λ s a x es ea ex e.
+    kept-here lim c schema t v hs ht s a x (conforms-allowed lim c schema t v h) es ea ex (yes→Holds (conforms c s a x) e)
 
 -- The bound of two listed types keeps the values of both, and is bytes.
 module _ (lim : Limits) (small : lim .bytes < 65536) (c : Counts) (schema t₀ t₁ : List ℕ) (h₀ : Bytes t₀) (h₁ : Bytes t₁) (mode room : ℕ) (z : Ty)
@@ -133,9 +136,11 @@ module _ (lim : Limits) (small : lim .bytes < 65536) (c : Counts) (schema t₀ t
       let oa = (wholeType-reads lim) .into t₀ a h₀ ea .1 .0 .1 in
       let ob = (wholeType-reads lim) .into t₁ b h₁ eb .1 .0 .1 in
       let ez = bound-whole lim small t₀ t₁ h₀ h₁ m a b z ea eb p l .1 in
-      go h (λ g. conforms-case lim c schema t₀ v g λ s a′ x es ea′ ex y. conforms-yes lim c schema (enc z) v s z x es ez ex (Holds→yes (conforms c s z x)
+      go h (λ g. conforms-case lim c schema t₀ v g λ s a′ x es ea′ ex y. conforms-yes lim c schema (enc z) v s z x
+      (conforms-allowed lim c schema t₀ v g) es ez ex (Holds→yes (conforms c s z x)
       (bound-sound c s m a b z oa ob p x (inl (yes→Holds (conforms c s a x) (subst (λ (i : Ty). conforms c s i x ≡ holds) (agree ea′ ea) y))))))
-      (λ g. conforms-case lim c schema t₁ v g λ s b′ x es eb′ ex y. conforms-yes lim c schema (enc z) v s z x es ez ex (Holds→yes (conforms c s z x)
+      (λ g. conforms-case lim c schema t₁ v g λ s b′ x es eb′ ex y. conforms-yes lim c schema (enc z) v s z x
+      (conforms-allowed lim c schema t₁ v g) es ez ex (Holds→yes (conforms c s z x)
       (bound-sound c s m a b z oa ob p x (inr (yes→Holds (conforms c s b x) (subst (λ (i : Ty). conforms c s i x ≡ holds) (agree eb′ eb) y))))))
     where
       go : {A B D : Type 0} → A ⊎ B → (A → D) → (B → D) → D
@@ -252,15 +257,31 @@ module _ (lim : Limits) (small : lim .bytes < 65536) (c : Counts) (schema : List
   steps-good [] xs good = good
   steps-good (s ∷ ss) xs good = steps-good ss (afterStep lim schema xs s) (step-good xs good s)
 
--- Demand 3, within any limits whose lengths are two bytes.
-pub run-keeps : (lim : Limits) → lim .bytes < 65536 → RunKeeps lim
-run-keeps lim small c schema given steps hs hg i j x y ei ej m v h =
+-- Demand 3, within any record of limits: what conforms does so under allowed ones.
+pub run-keeps : (lim : Limits) → RunKeeps lim
+run-keeps lim c schema given steps hs hg i j x y ei ej m v h =
+    let most = allowed-bytes lim (conforms-allowed lim c schema (x .form) v h) .1 in
+    let small : lim .bytes < 65536 = omega (arith, most) in
     let good = steps-good lim small c schema steps (givenFrom 0 given) (given-good lim small c schema given hg) in
     kept lim c schema (y .form) v hs (good .bytes j y ej) (good .keeps j y ej i x m ei v h)
 
--- Demand 3, within 01's limits.
-pub run-keeps-standard : RunKeeps standard
-run-keeps-standard = run-keeps standard (omega arith)
+-- Limits out of their ranges refuse every bound, so a run under them adds nothing to the types given.
+module _ (lim : Limits) (schema : List ℕ) (bad : allowed lim ≡ false) where
+  step-adds-none : (xs : List Listed) (s : Step) → afterStep lim schema xs s ≡ xs
+  step-adds-none xs s = left (standing xs (s .left))
+    where
+      right : (x : Listed) (o : Option Listed) → maybe xs (λ y. copied xs x y (written (boundCall lim (s .mode) schema (x .form) (y .form) (s .room)))) o ≡ xs
+      right x none = refl
+      right x (some y) = ap (λ (o : Outcome). copied xs x y (written o)) (bound-refused lim bad (s .mode) schema (x .form) (y .form) (s .room))
+
+      left : (o : Option Listed) →
+          maybe xs (λ x. maybe xs (λ y. copied xs x y (written (boundCall lim (s .mode) schema (x .form) (y .form) (s .room)))) (standing xs (s .right))) o ≡ xs
+      left none = refl
+      left (some x) = right x (standing xs (s .right))
+
+  pub run-adds-none : (steps : List Step) (xs : List Listed) → afterSteps lim schema xs steps ≡ xs
+  run-adds-none [] xs = refl
+  run-adds-none (s ∷ steps) xs = run-adds-none steps (afterStep lim schema xs s) ∙ step-adds-none xs s
 
 standing-stays : (xs ys : List Listed) (i : ℕ) (x : Listed) → standing xs i ≡ some x → standing (xs ++ ys) i ≡ some x
 standing-stays [] ys i x e = none-some e

@@ -1,5 +1,5 @@
 -- Demand 3 applied: one run with refused and answered calls, computed; what its values carry and what lookup finds; each conclusion
--- drawn from `run-keeps-standard`, none computed; and why kind 11 is left out.
+-- drawn from `run-keeps`, none computed; and why kind 11 is left out.
 use Prim.Native.Nat.{ℕ}
 use mathlib.Core.List.{List, [], _∷_}
 use mathlib.Core.Bool.{Bool, true, false, _&&_}
@@ -20,7 +20,7 @@ use Rattle.cedar.specs.Outcome.{refused, said}
 use Rattle.cedar.specs.Calls.{boundCall, mayHaveCall}
 use Rattle.cedar.specs.Sequence.{Listed, Step, standing, EachBytes, givenFrom, run, attributeOf, Carries, itself, ofEntry, ofMissing, LooksUp, Kept}
 use Rattle.cedar.specs.Laws.Tests.{T-and, none-some}
-use Rattle.cedar.specs.Laws.Sequence.{run-keeps-standard}
+use Rattle.cedar.specs.Laws.Sequence.{run-keeps}
 
 -- Types: entities 2, 4 and 6; entities 2 and 4 together.
 abbrev entity2 : List ℕ
@@ -176,7 +176,7 @@ fields-bytes = areBytes→ fields tt
 kept-at : (i j : ℕ) (x y : Listed) → standing listed i ≡ some x → standing listed j ≡ some y → T (mem i (y .madeFrom))
     → (v : List ℕ) → Conforms standard shorter schema (x .form) v → Kept standard shorter schema (y .form) v
 kept-at i j x y ei ej =
-    run-keeps-standard shorter schema given steps schema-bytes given-bytes i j x y (ap (λ (l : List Listed). standing l i) run-example ∙ ei)
+    run-keeps standard shorter schema given steps schema-bytes given-bytes i j x y (ap (λ (l : List Listed). standing l i) run-example ∙ ei)
     (ap (λ (l : List Listed). standing l j) run-example ∙ ej)
 
 -- The values conform to types given: the uids to entities 2 and 4, the record to (1: Long, 2: String), the sets to theirs.
