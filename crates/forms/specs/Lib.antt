@@ -1,5 +1,6 @@
 pub mod Parts
 pub mod Modes
+pub mod Limits
 pub mod Rows
 pub mod TypeBytes
 pub mod ValueBytes

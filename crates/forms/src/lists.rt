@@ -8,14 +8,14 @@ ghost use mathlib.Core.Path.{_≡_};
 ghost use Prim.Native.Nat.{_*_};
 ghost use lib.ListN.{length};
 ghost use Rattle.cedar.specs.Types.{present};
-ghost use Rattle.cedar.specs.Limits.{standard};
 ghost use Rattle.cedar.specs.Whole.{wholeList};
+ghost use Rattle.forms.specs.Limits.{asLimits};
 ghost use Rattle.forms.specs.ListBytes.{wholeTs};
 
 // Whether n lengths and the bytes after them are n whole types, with no byte over.
-fn types_within(es: &[u8], bs: &[u8], n: usize) -> bool
+fn types_within(es: &[u8], bs: &[u8], n: usize, limits: Limits) -> bool
     requires { ⌜ length (now es) ≡ 2 * n ⌝ }
-    ensures { λ r. ⌜ r ≡ wholeTs standard n (now (es .entry)) (now (bs .entry)) ⌝ }
+    ensures { λ r. ⌜ r ≡ wholeTs (asLimits limits) n (now (es .entry)) (now (bs .entry)) ⌝ }
 {
     let mut e = es;
     let mut b = bs;
@@ -25,7 +25,7 @@ fn types_within(es: &[u8], bs: &[u8], n: usize) -> bool
         if b.len() < len {
             return false;
         }
-        if !whole_type(&b[0..len]) {
+        if !whole_type(&b[0..len], limits) {
             return false;
         }
         e = &e[Width::MEMBER..];
@@ -36,8 +36,8 @@ fn types_within(es: &[u8], bs: &[u8], n: usize) -> bool
 }
 
 // Whether l is a whole list within the limits.
-pub fn whole_list(l: &[u8]) -> bool
-    ensures { λ r. ⌜ r ≡ present (wholeList standard (now (l .entry))) ⌝ }
+pub fn whole_list(l: &[u8], limits: Limits) -> bool
+    ensures { λ r. ⌜ r ≡ present (wholeList (asLimits limits) (now (l .entry))) ⌝ }
 {
     if Limits::BLOCK_BYTES < l.len() {
         return false;
@@ -53,5 +53,5 @@ pub fn whole_list(l: &[u8]) -> bool
     if l.len() < end {
         return false;
     }
-    types_within(&l[Offset::LIST_ENTRIES..end], &l[end..], n)
+    types_within(&l[Offset::LIST_ENTRIES..end], &l[end..], n, limits)
 }

@@ -33,4 +33,6 @@ impl Refusal {
     pub const NONE: u8 = 15;
 
     pub const JOB: u8 = 16;
+
+    pub const LIMITS: u8 = 20;
 }

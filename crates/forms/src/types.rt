@@ -10,8 +10,8 @@ ghost use mathlib.Core.Path.{_≡_};
 ghost use Prim.Native.Nat.{_*_, _<_, _≤_};
 ghost use lib.ListN.{length};
 ghost use Rattle.cedar.specs.Types.{present};
-ghost use Rattle.cedar.specs.Limits.{standard};
 ghost use Rattle.cedar.specs.Whole.{wholeType};
+ghost use Rattle.forms.specs.Limits.{asLimits};
 ghost use Rattle.forms.specs.Rows.{tableFits};
 ghost use Rattle.forms.specs.TypeBytes.{namesUp, namesFit, attrRow, whole};
 
@@ -144,11 +144,11 @@ pub fn type_within(t: &[u8], levels: usize) -> bool
 }
 
 // Whether t is a whole type form within the limits.
-pub fn whole_type(t: &[u8]) -> bool
-    ensures { λ r. ⌜ r ≡ present (wholeType standard (now (t .entry))) ⌝ }
+pub fn whole_type(t: &[u8], limits: Limits) -> bool
+    ensures { λ r. ⌜ r ≡ present (wholeType (asLimits limits) (now (t .entry))) ⌝ }
 {
-    if Limits::BYTES < t.len() {
+    if limits.bytes < t.len() {
         return false;
     }
-    type_within(t, Limits::LEVELS)
+    type_within(t, limits.levels)
 }

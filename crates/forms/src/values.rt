@@ -7,8 +7,8 @@ use crate::widths::Width;
 ghost use mathlib.Core.Path.{_≡_};
 ghost use Prim.Native.Nat.{_<_};
 ghost use Rattle.cedar.specs.Types.{present};
-ghost use Rattle.cedar.specs.Limits.{standard};
 ghost use Rattle.cedar.specs.Whole.{wholeValue};
+ghost use Rattle.forms.specs.Limits.{asLimits};
 ghost use Rattle.forms.specs.Rows.{tableFits};
 ghost use Rattle.forms.specs.ValueBytes.{memberRow, pairRow, wholeV};
 
@@ -113,11 +113,11 @@ pub fn value_within(v: &[u8], levels: usize) -> bool
 }
 
 // Whether v is a whole value form within the limits.
-pub fn whole_value(v: &[u8]) -> bool
-    ensures { λ r. ⌜ r ≡ present (wholeValue standard (now (v .entry))) ⌝ }
+pub fn whole_value(v: &[u8], limits: Limits) -> bool
+    ensures { λ r. ⌜ r ≡ present (wholeValue (asLimits limits) (now (v .entry))) ⌝ }
 {
-    if Limits::BYTES < v.len() {
+    if limits.bytes < v.len() {
         return false;
     }
-    value_within(v, Limits::LEVELS)
+    value_within(v, limits.levels)
 }

@@ -6,7 +6,8 @@ use mathlib.Core.Path.{_≡_}
 use lib.Dec.{eqb}
 use lib.ListN.{length, getD}
 use Rattle.cedar.specs.Types.{Attrs}
-use Rattle.cedar.specs.Limits.{standard, blockBytes}
+use Rattle.cedar.specs.Limits.{Limits, allowed, blockBytes}
+use Rattle.forms.specs.Limits.{asLimits}
 use Rattle.forms.specs.Parts.{rest, rd}
 use Rattle.forms.specs.Tables.{attrsAt}
 use Rattle.schemas.specs.SchemaBytes.{sectionEnd, sectionsOf, wholeS}
@@ -51,13 +52,14 @@ pub record LaidIn (w : ℕ) (x : Section) (b : List ℕ) : Type 0 where
 -- A schema that was checked, and its sections.
 pub record Sectioned (b : List ℕ) (x : Sections) : Type 0 where
   pub few : length b ≤ blockBytes
-  pub yes : wholeS standard b ≡ true
-  pub is : x ≡ sectionsOf b
+  pub fair : allowed (asLimits (x .limits)) ≡ true
+  pub yes : wholeS (asLimits (x .limits)) b ≡ true
+  pub is : x ≡ sectionsOf (x .limits) b
 
 -- Whether an entry's body, a record form, is open.
 abbrev pub openAt : List ℕ → Bool
 openAt c = eqb (getD c 1 0) 1
 
 -- Its attributes.
-abbrev pub bodyAttrs : List ℕ → Attrs
-bodyAttrs c = attrsAt (standard .levels - 1) 2 c
+abbrev pub bodyAttrs : Limits → List ℕ → Attrs
+bodyAttrs lim c = attrsAt (lim .levels - 1) 2 c

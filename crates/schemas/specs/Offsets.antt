@@ -3,7 +3,7 @@ use Rattle.schemas.specs.declared.offsets.Offsets.{Offsets}
 use Rattle.schemas.specs.declared.whole.Checked.{Checked}
 use Rattle.schemas.specs.declared.whole.Checked.the-variants.{Whole, Broken}
 
--- Where the bodies of each section start; all 0 for a schema that is broken.
+-- Its limits, and where the bodies of each section start; all 0 for a schema that is broken.
 abbrev pub offsetsOf : Checked → Offsets
-offsetsOf (Whole x) = record { entities = x .entities .bodies; actions = x .actions .bodies; functions = x .functions .bodies }
-offsetsOf Broken = record { entities = 0; actions = 0; functions = 0 }
+offsetsOf (Whole x) = record { limits = x .limits; entities = x .entities .bodies; actions = x .actions .bodies; functions = x .functions .bodies }
+offsetsOf (Broken l) = record { limits = l; entities = 0; actions = 0; functions = 0 }

@@ -6,12 +6,14 @@ use mathlib.Core.Option.{Option, none, some}
 use lib.Dec.{eqb, leb, ltb}
 use lib.ListN.{length, getD}
 use Rattle.cedar.specs.Types.{Ty, Attrs, nil, Arg, argBool, Schema, isAction, maybe, present, asRec}
-use Rattle.cedar.specs.Limits.{Limits, standard, blockBytes, maxEntities, maxActions, maxFunctions}
+use Rattle.cedar.specs.Limits.{Limits, allowed, blockBytes, maxEntities, maxActions, maxFunctions}
 use Rattle.cedar.specs.SchemaForm.{argOf, parseArgs, entitiesOf, actionsOf, functionsOf}
+use Rattle.forms.specs.Limits.{asLimits}
 use Rattle.forms.specs.Parts.{rest, rd}
 use Rattle.forms.specs.Rows.{Row, rowsTo, rowsOf}
 use Rattle.forms.specs.TypeBytes.{whole, dec}
 use Rattle.forms.specs.Search.{used}
+use Rattle.forms.specs.declared.limits.Limits.{Limits as LimitsStruct}
 use Rattle.schemas.specs.declared.kinds.SectionKind.{SectionKind}
 use Rattle.schemas.specs.declared.kinds.SectionKind.the-variants.{Entities, Actions, Functions}
 use Rattle.schemas.specs.declared.order.Low.{Low}
@@ -166,9 +168,9 @@ actionSection b = sectionAt Actions (sectionEnd 5 (entitySection b) b) b
 abbrev pub functionSection : List ℕ → Section
 functionSection b = sectionAt Functions (sectionEnd 6 (actionSection b) b) b
 
--- All three.
-unfoldable pub sectionsOf : List ℕ → Sections
-sectionsOf b = record { entities = entitySection b; actions = actionSection b; functions = functionSection b }
+-- All three, of a schema that is checked under these limits.
+unfoldable pub sectionsOf : LimitsStruct → List ℕ → Sections
+sectionsOf l b = record { limits = l; entities = entitySection b; actions = actionSection b; functions = functionSection b }
 
 -- The counts are there and within their limits, and the entries are there.
 abbrev pub headFits : List ℕ → Bool
@@ -200,9 +202,18 @@ pub record Inside (w : ℕ) (x : Section) (b : List ℕ) : Type 0 where
   pub bodies : x .bodies ≤ length b
 
 -- The answer of a walk over a section.
-unfoldable pub passedBy : SectionKind → Section → List ℕ → Passed
-passedBy k x b = cond (sectionFits standard k x b) (To (sectionEnd (rowOf k .width) x b)) Broken
+unfoldable pub passedBy : Limits → SectionKind → Section → List ℕ → Passed
+passedBy lim k x b = cond (sectionFits lim k x b) (To (sectionEnd (rowOf k .width) x b)) Broken
+
+-- The limits that a schema was checked under.
+abbrev pub limitsOf : Checked → LimitsStruct
+limitsOf (checks.Whole x) = x .limits
+limitsOf (checks.Broken l) = l
+
+-- What the check of a schema finds within limits that are allowed.
+unfoldable pub checkedWithin : LimitsStruct → List ℕ → Checked
+checkedWithin l b = cond (leb (length b) blockBytes && wholeS (asLimits l) b) (checks.Whole (sectionsOf l b)) (checks.Broken l)
 
 -- The answer of `check_schema`.
-unfoldable pub checked : List ℕ → Checked
-checked b = cond (leb (length b) blockBytes && wholeS standard b) (checks.Whole (sectionsOf b)) checks.Broken
+unfoldable pub checked : LimitsStruct → List ℕ → Checked
+checked l b = cond (allowed (asLimits l)) (checkedWithin l b) (checks.Broken l)

@@ -6,13 +6,14 @@ use crate::order::action_follows;
 use crate::order::entity_follows;
 use crate::order::function_follows;
 use forms::kinds::EntityKind;
+use forms::limits::Limits;
 use forms::numbers::u16_at;
 use forms::offsets::SchemaOffset;
 use forms::widths::Width;
 ghost use mathlib.Core.Path.{_≡_};
 ghost use Prim.Native.Nat.{_≤_, _<_};
 ghost use lib.ListN.{length};
-ghost use Rattle.cedar.specs.Limits.{standard};
+ghost use Rattle.forms.specs.Limits.{asLimits};
 ghost use Rattle.forms.specs.Rows.{bodyLength};
 ghost use Rattle.schemas.specs.SchemaBytes.{rowOf, bodyTest, lowIn};
 
@@ -81,15 +82,19 @@ impl SectionKind {
     }
 
     // Whether the body of an entry is whole.
-    pub fn body_within(self, e: &[u8], b: &[u8]) -> bool
+    pub fn body_within(self, e: &[u8], b: &[u8], limits: Limits) -> bool
         requires { ⌜ rowOf self .width ≤ length (now e) ⌝ }
-        ensures { λ r. ⌜ r ≡ bodyTest standard self (rowOf self .head (now (e .entry))) (now (b .entry)) ⌝ }
+        ensures { λ r. ⌜ r ≡ bodyTest (asLimits limits) self (rowOf self .head (now (e .entry))) (now (b .entry)) ⌝ }
     {
         match self {
             SectionKind::Entities => {
-                body_within(b, e[SchemaOffset::ENTITY_KIND] == EntityKind::ENUMERATED)
+                body_within(
+                    b,
+                    e[SchemaOffset::ENTITY_KIND] == EntityKind::ENUMERATED,
+                    limits,
+                )
             }
-            SectionKind::Actions => body_within(b, true),
+            SectionKind::Actions => body_within(b, true, limits),
             SectionKind::Functions => arguments_within(b),
         }
     }

@@ -1,12 +1,14 @@
 // The three sections of a schema. Entries of one width stand together, and their bodies in the same order behind all entries.
 use crate::kinds::SectionKind;
 use crate::order::Low;
+use forms::limits::Limits;
 use forms::numbers::u16_at;
 use forms::offsets::SchemaOffset;
 use forms::widths::Width;
 ghost use mathlib.Core.Path.{_≡_};
 ghost use Prim.Native.Nat.{_≤_};
 ghost use lib.ListN.{length};
+ghost use Rattle.forms.specs.Limits.{asLimits};
 ghost use Rattle.schemas.specs.SchemaBytes.{rowOf, Inside, passedBy, entriesEnd, sectionAt};
 
 // How many bytes the three counts take.
@@ -23,8 +25,9 @@ pub struct Section {
     pub bodies: usize,
 }
 
-// The sections of a schema, found once and handed to every search.
+// The sections of a schema, found once and handed to every search, with the limits that it was checked under.
 pub struct Sections {
+    pub limits: Limits,
     pub entities: Section,
     pub actions: Section,
     pub functions: Section,
@@ -75,9 +78,9 @@ pub fn section_at(s: &[u8], kind: SectionKind, bodies: usize) -> Section
 }
 
 // Passes the entries of a section, each with its body.
-pub fn section_within(s: &[u8], kind: SectionKind, x: Section) -> Passed
+pub fn section_within(s: &[u8], kind: SectionKind, x: Section, limits: Limits) -> Passed
     requires { ⌜ Inside (rowOf kind .width) x (now s) ⌝ }
-    ensures { λ r. ⌜ r ≡ passedBy kind x (now (s .entry)) ⌝ }
+    ensures { λ r. ⌜ r ≡ passedBy (asLimits limits) kind x (now (s .entry)) ⌝ }
 {
     let width = kind.width();
     let start = x.entries;
@@ -94,7 +97,7 @@ pub fn section_within(s: &[u8], kind: SectionKind, x: Section) -> Passed
         if b.len() < len {
             return Passed::Broken;
         }
-        if !kind.body_within(e, &b[0..len]) {
+        if !kind.body_within(e, &b[0..len], limits) {
             return Passed::Broken;
         }
         low = kind.next(e);

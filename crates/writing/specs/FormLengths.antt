@@ -6,14 +6,14 @@ use mathlib.Core.Path.{_≡_}
 use lib.ListN.{length}
 use Rattle.cedar.specs.Types.{Attrs, maybe}
 use Rattle.cedar.specs.TypeForm.{entries, bodies}
-use Rattle.cedar.specs.Limits.{standard}
+use Rattle.cedar.specs.Limits.{mostBytes}
 use Rattle.cedar.specs.Result.{Result, ok, err}
 use Rattle.writing.specs.declared.form_lengths.FormLength.{FormLength}
 use Rattle.writing.specs.declared.form_lengths.FormLength.the-variants.{Of, Not}
 
--- A length, or one byte more than the largest form.
+-- A length, or one byte more than the largest form that any limits allow.
 abbrev pub cap : ℕ → ℕ
-cap n = min n (suc (standard .bytes))
+cap n = min n (suc mostBytes)
 
 -- So many bytes more.
 abbrev pub plus : ℕ → FormLength → FormLength
@@ -34,11 +34,11 @@ abbrev pub formOf : {A : Type 0} → (A → List ℕ) → Result A → List ℕ
 formOf w (ok a) = w a
 formOf w (err e) = []
 
--- There is a result, within the largest form and a buffer.
+-- There is a result, within the largest form that any limits allow and a buffer.
 pub record Ready {A : Type 0} (w : A → List ℕ) (r : Result A) (o : List ℕ) : Type 0 where
   pub result : A
   pub is : r ≡ ok result
-  pub small : length (w result) ≤ standard .bytes
+  pub small : length (w result) ≤ mostBytes
   pub room : length (w result) ≤ length o
 
 -- An answer, or a refusal of this number.

@@ -3,23 +3,23 @@ use forms::limits::Limits;
 ghost use mathlib.Core.Path.{_≡_};
 ghost use Rattle.writing.specs.FormLengths.{cap, plus};
 
-// A length of at most one byte more than the largest form, or the number of a refusal.
+// A length of at most one byte more than the largest form that any limits allow, or the number of a refusal.
 pub enum FormLength {
     Of(usize),
     Not(u8),
 }
 
-// A length, or one byte more than the largest form.
+// A length, or one byte more than the largest form that any limits allow.
 pub fn capped(n: usize) -> usize
     ensures { λ r. ⌜ r ≡ cap n ⌝ }
 {
-    if n < Limits::BYTES {
+    if n < Limits::MOST_BYTES {
         return n;
     }
-    if n == Limits::BYTES {
+    if n == Limits::MOST_BYTES {
         return n;
     }
-    Limits::BYTES + 1
+    Limits::MOST_BYTES + 1
 }
 
 impl FormLength {

@@ -5,10 +5,11 @@ use mathlib.Core.List.{List}
 use mathlib.Core.Path.{_≡_, refl, ap, sym, _∙_}
 use lib.ListN.{length}
 use Rattle.cedar.specs.Limits.{blockBytes}
-use Rattle.schemas.specs.SchemaBytes.{entriesEnd, sectionAt, sectionsOf, checked}
+use Rattle.schemas.specs.SchemaBytes.{entriesEnd, sectionAt, sectionsOf, limitsOf, checked}
 use Rattle.schemas.specs.Offsets.{offsetsOf}
-use Rattle.schemas.specs.Laws.Checks.{sections-are}
+use Rattle.schemas.specs.Laws.Checks.{sections-are, checked-limits}
 use Rattle.schemas.specs.Laws.Finders.{kept, kept-counts, actions-laid, functions-laid}
+use Rattle.forms.specs.declared.limits.Limits.{Limits as LimitsStruct}
 use Rattle.schemas.specs.declared.kinds.SectionKind.the-variants.{Entities, Actions, Functions}
 use Rattle.schemas.specs.declared.offsets.Offsets.{Offsets}
 use Rattle.schemas.specs.declared.sections.Section.{Section}
@@ -25,10 +26,10 @@ pub record Stands (b : List ℕ) (o : Offsets) : Type 0 where
   pub second : o .actions ≤ length b
   pub third : o .functions ≤ length b
 
-pub stands : (b : List ℕ) (x : Sections) → checked b ≡ Whole x → Stands b (offsetsOf (Whole x))
+pub stands : (l : LimitsStruct) (b : List ℕ) (x : Sections) → checked l b ≡ Whole x → Stands b (offsetsOf (Whole x))
 unfolding sectionsOf
-stands b x e =
-    let k = kept b (checked b) refl x e in
+stands l b x e =
+    let k = kept l b (checked l b) refl x e .0 in
     let p = ap (λ (y : Sections). y .entities .bodies) (k .is) in
     let q = ap (λ (y : Sections). y .actions .bodies) (k .is) in
     record {
@@ -40,34 +41,49 @@ stands b x e =
       third = omega (arith, functions-laid k .room);
     }
 
+-- The offsets of what a check found.
+module _ (l : LimitsStruct) (b : List ℕ) (y : Checked) (q : y ≡ checked l b) where
+  pub of-whole : (x : Sections) → y ≡ Whole x →
+      record { limits = l; entities = x .entities .bodies; actions = x .actions .bodies; functions = x .functions .bodies } ≡ offsetsOf (checked l b)
+  of-whole x h =
+      ap (λ (m : LimitsStruct). record { limits = m; entities = x .entities .bodies; actions = x .actions .bodies; functions = x .functions .bodies })
+      (sym (kept l b y q x h .1)) ∙ ap offsetsOf (sym h ∙ q)
+
+  pub of-broken : (d : LimitsStruct) → y ≡ Broken d → offsetsOf (Broken l) ≡ offsetsOf (checked l b)
+  of-broken d h = ap (λ (m : LimitsStruct). offsetsOf (Broken m)) (sym (ap limitsOf (sym h ∙ q) ∙ checked-limits l b)) ∙ ap offsetsOf (sym h ∙ q)
+
 -- Offsets that are a schema's own, by the outcome of its check.
-module _ (b : List ℕ) (o : Offsets) (own : o ≡ offsetsOf (checked b)) where
-  pub check-broken : o .entities ≡ 0 → Broken ≡ checked b
-  check-broken z = go (checked b) refl own
+module _ (b : List ℕ) (o : Offsets) (own : o ≡ offsetsOf (checked (o .limits) b)) where
+  pub check-broken : o .entities ≡ 0 → Broken (o .limits) ≡ checked (o .limits) b
+  check-broken z = go (checked (o .limits) b) refl own
     where
-      go : (y : Checked) → checked b ≡ y → o ≡ offsetsOf y → Broken ≡ y
-      go Broken e n = refl
-      go (Whole x) e n = absurd (omega (arith, ap (λ (p : Offsets). p .entities) n, stands b x e .first))
+      go : (y : Checked) → checked (o .limits) b ≡ y → o ≡ offsetsOf y → Broken (o .limits) ≡ y
+      go (Broken l) e n = ap Broken (ap (λ (p : Offsets). p .limits) n)
+      go (Whole x) e n = absurd (omega (arith, ap (λ (p : Offsets). p .entities) n, stands (o .limits) b x e .first))
 
   module _ (nz : o .entities ≡ 0 → ⊥) where
-    whole-is : (x : Sections) × (checked b ≡ Whole x) × (o ≡ offsetsOf (Whole x))
-    whole-is = go (checked b) refl own
+    whole-is : (x : Sections) × (checked (o .limits) b ≡ Whole x) × (o ≡ offsetsOf (Whole x))
+    whole-is = go (checked (o .limits) b) refl own
       where
-        go : (y : Checked) → checked b ≡ y → o ≡ offsetsOf y → (x : Sections) × (y ≡ Whole x) × (o ≡ offsetsOf (Whole x))
-        go Broken e n = absurd (nz (ap (λ (p : Offsets). p .entities) n))
+        go : (y : Checked) → checked (o .limits) b ≡ y → o ≡ offsetsOf y → (x : Sections) × (y ≡ Whole x) × (o ≡ offsetsOf (Whole x))
+        go (Broken l) e n = absurd (nz (ap (λ (p : Offsets). p .entities) n))
         go (Whole x) e n = (x, refl, n)
 
     -- The counts can be read.
     pub check-room : 6 ≤ length b
-    check-room = let (x, e, n) = whole-is in stands b x e .room
+    check-room = let (x, e, n) = whole-is in stands (o .limits) b x e .room
 
     pub check-whole : (u v w : Section) → u ≡ sectionAt Entities (o .entities) b → v ≡ sectionAt Actions (o .actions) b →
-        w ≡ sectionAt Functions (o .functions) b → Whole (record { entities = u; actions = v; functions = w }) ≡ checked b
+        w ≡ sectionAt Functions (o .functions) b →
+        Whole (record { limits = o .limits; entities = u; actions = v; functions = w }) ≡ checked (o .limits) b
     unfolding sectionsOf
     check-whole u v w ue ve we =
         let (x, e, n) = whole-is in
-        let is = kept b (checked b) refl x e .is in
+        let is = kept (o .limits) b (checked (o .limits) b) refl x e .0 .is in
+        let l = ap (λ (y : Offsets). y .limits) n in
         let p = ap (λ (y : Offsets). y .entities) n ∙ ap (λ (y : Sections). y .entities .bodies) is in
         let q = ap (λ (y : Offsets). y .actions) n ∙ ap (λ (y : Sections). y .actions .bodies) is in
         let r = ap (λ (y : Offsets). y .functions) n ∙ ap (λ (y : Sections). y .functions .bodies) is in
-        ap Whole (sections-are b (o .entities) (o .actions) (o .functions) p q r u v w ue ve we ∙ sym is) ∙ sym e
+        ap Whole
+        (sections-are (o .limits) b (o .entities) (o .actions) (o .functions) p q r u v w ue ve we ∙ ap (λ (m : LimitsStruct). sectionsOf m b) l ∙ sym is)
+        ∙ sym e

@@ -8,7 +8,7 @@ use lib.Dec.{leb}
 use lib.ListN.{length}
 use borrow.Author.Tests.{lt-leb, le-leb, not-true, not-false}
 use Rattle.forms.specs.Parts.{part, rest}
-use Rattle.cedar.specs.Limits.{Limits, standard}
+use Rattle.cedar.specs.Limits.{Limits}
 use Rattle.forms.specs.Rows.{bodyLength, rowsTo}
 use Rattle.forms.specs.Search.{used}
 use Rattle.forms.specs.Laws.Parts.{and-not-l, and-not-r, and-yes, length-rest}
@@ -42,19 +42,19 @@ section-ends lim k x b h g =
     omega (arith, r, length-rest (x .bodies) b)
 
 -- The rows of a section that are left.
-abbrev left-rows : (k : SectionKind) → ℕ → Low → List ℕ → List ℕ → Bool
-left-rows k n low es bs = rowsTo (rowOf k) (bodyTest standard k) any n (lowIn k low) es bs
+abbrev left-rows : Limits → (k : SectionKind) → ℕ → Low → List ℕ → List ℕ → Bool
+left-rows lim k n low es bs = rowsTo (rowOf k) (bodyTest lim k) any n (lowIn k low) es bs
 
 -- A walk that has come so far: what is left answers for the section, and what was passed are its bodies.
-pub record WalkLeft (k : SectionKind) (x : Section) (b : List ℕ) (left : ℕ) (low : Low) (e f : List ℕ) : Type 0 where
-  pub same : sectionFits standard k x b ≡ left-rows k left low e f
+pub record WalkLeft (lim : Limits) (k : SectionKind) (x : Section) (b : List ℕ) (left : ℕ) (low : Low) (e f : List ℕ) : Type 0 where
+  pub same : sectionFits lim k x b ≡ left-rows lim k left low e f
   pub sized : rowOf k .width * left ≤ length e
   pub inside : length f ≤ length b
   pub split : sectionEnd (rowOf k .width) x b ≡ length b - length f + used (rowOf k .width) left e
 
-pub walk-start : {k : SectionKind} {x : Section} {b : List ℕ} → Inside (rowOf k .width) x b →
-    WalkLeft k x b (x .count) lowest (rest (x .entries) b) (rest (x .bodies) b)
-walk-start {k} {x} {b} i =
+pub walk-start : {lim : Limits} {k : SectionKind} {x : Section} {b : List ℕ} → Inside (rowOf k .width) x b →
+    WalkLeft lim k x b (x .count) lowest (rest (x .entries) b) (rest (x .bodies) b)
+walk-start {lim} {k} {x} {b} i =
     record {
       same = refl;
       sized = omega (arith, length-rest (x .entries) b, i .entries);
@@ -62,16 +62,16 @@ walk-start {k} {x} {b} i =
       split = omega (arith, length-rest (x .bodies) b, i .bodies);
     }
 
-module _ {k : SectionKind} {x : Section} {b : List ℕ} {left : ℕ} {low : Low} {e f : List ℕ} (i : WalkLeft k x b left low e f) where
-  broken : left-rows k left low e f ≡ false → Broken ≡ passedBy k x b
+module _ {lim : Limits} {k : SectionKind} {x : Section} {b : List ℕ} {left : ℕ} {low : Low} {e f : List ℕ} (i : WalkLeft lim k x b left low e f) where
+  broken : left-rows lim k left low e f ≡ false → Broken ≡ passedBy lim k x b
   unfolding passedBy
   broken h = rw (i .same ∙ h) refl
 
-  pub walk-end : left ≤ 0 → To (length b - length f) ≡ passedBy k x b
+  pub walk-end : left ≤ 0 → To (length b - length f) ≡ passedBy lim k x b
   unfolding passedBy
   walk-end h =
       let z : length b - length f ≡ sectionEnd (rowOf k .width) x b = omega (arith, i .split, used-none (rowOf k .width) left e h) in
-      rw (i .same ∙ rows-none (rowOf k) (bodyTest standard k) any left (lowIn k low) e f h, z) refl
+      rw (i .same ∙ rows-none (rowOf k) (bodyTest lim k) any left (lowIn k low) e f h, z) refl
 
   module _ (p : 0 < left) where
     pub walk-room : rowOf k .width ≤ length e
@@ -88,32 +88,32 @@ module _ {k : SectionKind} {x : Section} {b : List ℕ} {left : ℕ} {low : Low}
     room = leb long (length f)
 
     abbrev whole : ℕ → Bool
-    whole j = bodyTest standard k (rowOf k .head e) (part 0 j f)
+    whole j = bodyTest lim k (rowOf k .head e) (part 0 j f)
 
     abbrev others : LowOf k → ℕ → Bool
-    others t j = rowsTo (rowOf k) (bodyTest standard k) any (left - 1) t (rest (rowOf k .width) e) (rest j f)
+    others t j = rowsTo (rowOf k) (bodyTest lim k) any (left - 1) t (rest (rowOf k .width) e) (rest j f)
 
-    step : left-rows k left low e f ≡ (fits && (room && (whole long && others (rowOf k .next e) long)))
-    step = rows-step (rowOf k) (bodyTest standard k) any left (lowIn k low) e f p
+    step : left-rows lim k left low e f ≡ (fits && (room && (whole long && others (rowOf k .next e) long)))
+    step = rows-step (rowOf k) (bodyTest lim k) any left (lowIn k low) e f p
 
-    pub walk-unfit : (y : Bool) → y ≡ fits → not y ≡ true → Broken ≡ passedBy k x b
+    pub walk-unfit : (y : Bool) → y ≡ fits → not y ≡ true → Broken ≡ passedBy lim k x b
     walk-unfit y q h = broken (step ∙ sym (and-not-l fits _ (sym q ∙ not-true y h)))
 
     module _ (n : ℕ) (q : n ≡ long) where
-      pub walk-short : length f < n → Broken ≡ passedBy k x b
+      pub walk-short : length f < n → Broken ≡ passedBy lim k x b
       walk-short h = broken (step ∙ sym (and-not-r fits _ (sym (and-not-l room _ (lt-leb long (length f) (omega arith))))))
 
       module _ (y : Bool) (z : y ≡ whole n) where
-        pub walk-body : not y ≡ true → Broken ≡ passedBy k x b
+        pub walk-body : not y ≡ true → Broken ≡ passedBy lim k x b
         walk-body h =
             let no : whole long ≡ false = ap whole (sym q) ∙ sym z ∙ not-true y h in
             broken (step ∙ sym (and-not-r fits _ (sym (and-not-r room _ (sym (and-not-l (whole long) _ no))))))
 
         pub walk-again : not y ≡ false → (o : Bool) → o ≡ fits → not o ≡ false → n ≤ length f → (w : ℕ) → w ≡ rowOf k .width → (u : Low) →
             lowIn k u ≡ rowOf k .next e →
-            WalkLeft k x b (left - 1) u (rest w e) (rest n f)
+            WalkLeft lim k x b (left - 1) u (rest w e) (rest n f)
         walk-again yh o oq oh h w wq u uq =
-            subst (λ (j : ℕ). WalkLeft k x b (left - 1) u (rest j e) (rest n f)) (sym wq)
+            subst (λ (j : ℕ). WalkLeft lim k x b (left - 1) u (rest j e) (rest n f)) (sym wq)
             (record {
               same =
                   i .same ∙ step
@@ -127,18 +127,18 @@ module _ {k : SectionKind} {x : Section} {b : List ℕ} {left : ℕ} {low : Low}
             })
 
 -- What an answer says.
-module _ (k : SectionKind) (x : Section) (b : List ℕ) (y : Passed) (q : y ≡ passedBy k x b) where
-  pub passed-broken : y ≡ Broken → sectionFits standard k x b ≡ false
+module _ (lim : Limits) (k : SectionKind) (x : Section) (b : List ℕ) (y : Passed) (q : y ≡ passedBy lim k x b) where
+  pub passed-broken : y ≡ Broken → sectionFits lim k x b ≡ false
   unfolding passedBy
-  passed-broken h = go (sectionFits standard k x b) (sym h ∙ q)
+  passed-broken h = go (sectionFits lim k x b) (sym h ∙ q)
     where
       go : (z : Bool) → Broken ≡ cond z (To (sectionEnd (rowOf k .width) x b)) Broken → z ≡ false
       go true e = absurd (let z : _≡_ {A = ℕ} 0 1 = cc in omega arith)
       go false e = refl
 
-  pub passed-to : (n : ℕ) → y ≡ To n → (sectionFits standard k x b ≡ true) × (n ≡ sectionEnd (rowOf k .width) x b)
+  pub passed-to : (n : ℕ) → y ≡ To n → (sectionFits lim k x b ≡ true) × (n ≡ sectionEnd (rowOf k .width) x b)
   unfolding passedBy
-  passed-to n h = go (sectionFits standard k x b) (sym h ∙ q)
+  passed-to n h = go (sectionFits lim k x b) (sym h ∙ q)
     where
       go : (z : Bool) → To n ≡ cond z (To (sectionEnd (rowOf k .width) x b)) Broken → (z ≡ true) × (n ≡ sectionEnd (rowOf k .width) x b)
       go true e = (refl, (cc))

@@ -2,12 +2,13 @@
 use mathlib.Core.Path.{_≡_, refl, ap, sym, _∙_}
 use mathlib.Core.List.{List, _++_}
 use mathlib.Core.Bool.{Bool}
-use Prim.Native.Nat.{ℕ, _+_, _*_, _≤_}
+use Prim.Native.Nat.{ℕ, suc, _+_, _*_, _≤_}
 use native.Mathlib.Omega.{arith}
 use lib.ListN.{length, length-append}
 use Rattle.cedar.specs.Types.{Ty, Attrs, nil, attr}
 use Rattle.cedar.specs.TypeForm.{count, enc, entries, bodies}
 use Rattle.cedar.specs.Result.{Result, ok, err, bind}
+use Rattle.cedar.specs.Limits.{mostBytes}
 use Rattle.writing.specs.declared.form_lengths.FormLength.{FormLength}
 use Rattle.writing.specs.declared.form_lengths.FormLength.the-variants.{Of, Not}
 use Rattle.writing.specs.FormLengths.{cap, plus, table, formLengthOf, formOf, Ready}
@@ -27,14 +28,14 @@ module _ {A : Type 0} (w : A → List ℕ) where
   not-err (ok a) x e p q = absurd (let z : _≡_ {A = ℕ} 0 1 = cc in omega arith)
   not-err (err d) x e p q = ap err cc
 
-  pub of-small : (r : Result A) (x : FormLength) (k : ℕ) → x ≡ formLengthOf w r → x ≡ Of k → k ≤ 4097
+  pub of-small : (r : Result A) (x : FormLength) (k : ℕ) → x ≡ formLengthOf w r → x ≡ Of k → k ≤ suc mostBytes
   of-small r x k p q = let s = of-ok r x k p q in omega (arith, s .1 .1)
 
   -- Its length is exact where it is no more than the largest form.
-  pub exact : (r : Result A) (x : FormLength) (k : ℕ) → x ≡ formLengthOf w r → x ≡ Of k → k ≤ 4096 → k ≡ length (formOf w r)
+  pub exact : (r : Result A) (x : FormLength) (k : ℕ) → x ≡ formLengthOf w r → x ≡ Of k → k ≤ mostBytes → k ≡ length (formOf w r)
   exact r x k p q h = let s = of-ok r x k p q in omega (arith, s .1 .1, ap (λ (z : Result A). length (formOf w z)) (s .1 .0))
 
-  pub ready : (r : Result A) (x : FormLength) (k : ℕ) (o : List ℕ) → x ≡ formLengthOf w r → x ≡ Of k → k ≤ 4096 → k ≤ length o → Ready w r o
+  pub ready : (r : Result A) (x : FormLength) (k : ℕ) (o : List ℕ) → x ≡ formLengthOf w r → x ≡ Of k → k ≤ mostBytes → k ≤ length o → Ready w r o
   ready r x k o p q h g =
       let s = of-ok r x k p q in
       let l : length (w (s .0)) ≡ k = omega (arith, s .1 .1) in
@@ -71,10 +72,10 @@ table-length n r t xs =
 
 -- The loop of a length pass: `all` is to be measured, `sum` bytes are, and `ahead` is left.
 pub record Summing (all ahead : Result Attrs) (sum : ℕ) : Type 0 where
-  pub small : sum ≤ 4097
+  pub small : sum ≤ suc mostBytes
   pub same : formLengthOf table all ≡ plus sum (formLengthOf table ahead)
 
-plus-none : (x : FormLength) → ((k : ℕ) → x ≡ Of k → k ≤ 4097) → x ≡ plus 0 x
+plus-none : (x : FormLength) → ((k : ℕ) → x ≡ Of k → k ≤ suc mostBytes) → x ≡ plus 0 x
 plus-none (Of k) h = ap Of (omega (arith, h k refl))
 plus-none (Not e) h = refl
 

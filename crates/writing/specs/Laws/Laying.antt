@@ -11,6 +11,7 @@ use Rattle.cedar.specs.Bytes.{u16, flag}
 use Rattle.cedar.specs.TypeForm.{count, enc, entries, bodies}
 use Rattle.cedar.specs.Result.{Result, ok, err}
 use Rattle.cedar.specs.Outcome.{over}
+use Rattle.cedar.specs.Limits.{mostBytes}
 use Rattle.forms.specs.Parts.{rest}
 use Rattle.forms.specs.Laws.Parts.{length-rest}
 use Rattle.writing.specs.Written.{Written}
@@ -30,7 +31,7 @@ module _ {A : Type 0} {w : A → List ℕ} {r : Result A} {o : List ℕ} (g : Re
   same-result : g .result ≡ a
   same-result = let z : ok (g .result) ≡ ok a = sym (g .is) ∙ e in cc
 
-  pub ready-room : (length (w a) ≤ 4096) × (length (w a) ≤ length o)
+  pub ready-room : (length (w a) ≤ mostBytes) × (length (w a) ≤ length o)
   ready-room = (rw (← same-result) (g .small), rw (← same-result) (g .room))
 
   pub written-known : (v xs : List ℕ) (x : ℕ) → w a ≡ v → xs ≡ over v o → x ≡ length v → Written (formOf w r) o xs x
@@ -63,7 +64,7 @@ module _ {A B : Type 0} {w : A → List ℕ} {v : B → List ℕ} {p : List ℕ}
           room = omega (arith, sums, g .room, room-at o p xs at q m behind-front .1);
         }
 
-    pub behind-small : (ys : List ℕ) (x : ℕ) → Written (formOf w r) (rest at xs) ys x → x + at ≤ 4096
+    pub behind-small : (ys : List ℕ) (x : ℕ) → Written (formOf w r) (rest at xs) ys x → x + at ≤ mostBytes
     behind-small ys x t = omega (arith, t .many, ap (λ (z : Result A). length (formOf w z)) (inner .1 .0), sums, g .small)
 
     pub behind-written : (ys : List ℕ) (x : ℕ) → Written (formOf w r) (rest at xs) ys x → Written (formOf v s) o (back at xs ys) (x + at)
@@ -75,7 +76,7 @@ module _ {A B : Type 0} {w : A → List ℕ} {v : B → List ℕ} {p : List ℕ}
 pub record Laying (all ahead : Result Attrs) (o : List ℕ) (at pos : ℕ) (out : List ℕ) : Type 0 where
   pub total : Attrs
   pub total-is : all ≡ ok total
-  pub small : length (table total) ≤ 4096
+  pub small : length (table total) ≤ mostBytes
   pub attrs : Attrs
   pub is : ahead ≡ ok attrs
   pub filling : Filling (entries total) (bodies total) (entries attrs) (bodies attrs) o at pos out
@@ -144,7 +145,7 @@ module _ {all ahead : Result Attrs} {o : List ℕ} {at pos : ℕ} {out : List �
     entry-long : length (entries (i .attrs)) ≡ 5 + length (entries (parts .1 .1 .0))
     entry-long = ap length entry ∙ length-append (u16 n ++ (flag r ∷ u16 (length (enc (parts .0))))) (entries (parts .1 .1 .0))
 
-    total-long : pos + length (bodies (i .attrs)) ≤ 4096
+    total-long : pos + length (bodies (i .attrs)) ≤ mostBytes
     total-long =
         omega (
           arith,
@@ -185,7 +186,7 @@ module _ {all ahead : Result Attrs} {o : List ℕ} {at pos : ℕ} {out : List �
       pub laying-back : length (back pos out ys) ≡ length out
       laying-back = omega (arith, filling-length half, laying-length)
 
-      pub laying-small : (x ≤ 4096) × ((pos + x ≤ 4096) × (at + 5 ≤ 4096))
+      pub laying-small : (x ≤ mostBytes) × ((pos + x ≤ mostBytes) × (at + 5 ≤ mostBytes))
       laying-small = (
         omega (arith, written .many, body-long, total-long),
         (omega (arith, written .many, body-long, total-long), omega (arith, filling-at (i .filling), entry-long, total-long)),

@@ -1,6 +1,6 @@
 use mathlib.Core.Path.{refl}
 use mathlib.Core.Bool.{true}
-use Rattle.cedar.specs.Limits.{standard}
+use Rattle.forms.specs.Limits.{asLimits}
 use Rattle.forms.specs.Rows.{noneLeft}
 use Rattle.forms.specs.ValueBytes.{memberRow}
 use Rattle.forms.specs.ListBytes.{typeFits}
@@ -14,22 +14,19 @@ use Rattle.forms.proofs.numbers.u16_at.Reads as u16-at-reads
 use Rattle.forms.proofs.types.whole_type.Reads as whole-type-reads
 
 abbrev Inv-loop : tie.InvT-loop
-Inv-loop es bs n e₀ b₀ left₀ e b left = RowsLeft memberRow (λ _. typeFits standard) noneLeft n tt es bs left tt e b
+Inv-loop es bs n limits e₀ b₀ left₀ e b left = RowsLeft memberRow (λ _. typeFits (asLimits limits)) noneLeft n tt es bs left tt e b
 
 abbrev μ-loop : tie.MeasureT-loop
-μ-loop es bs n e₀ b₀ left₀ e b left = left
+μ-loop es bs n limits e₀ b₀ left₀ e b left = left
 
--- src/lists.rt:22:5
 loop-holds : tie.Need-loop-holds Inv-loop μ-loop
 loop-holds c =
     let pre = c .before .before .pre in
     rows-start pre
 
--- src/lists.rt:23:13
 u16-at-requires : tie.Need-u16-at-requires Inv-loop μ-loop
 u16-at-requires c κs = omega arith
 
--- src/lists.rt:25:13
 returns : tie.Need-returns Inv-loop μ-loop
 returns c =
     let u16-at = c .before .u16-at in
@@ -37,23 +34,18 @@ returns c =
     let loop = c .before .before .before .loop in
     rows-short (loop .inv) (loop-test .taken) (u16-at .result) (u16-at .ensures .0) (c .if1 .taken)
 
--- src/lists.rt:27:24
 sub-whole-type : tie.Need-sub-whole-type Inv-loop μ-loop
 sub-whole-type c = omega arith
 
--- src/lists.rt:27:24
 part-whole-type-start : tie.Need-part-whole-type-start Inv-loop μ-loop
 part-whole-type-start c = omega arith
 
--- src/lists.rt:27:24
 part-whole-type-end : tie.Need-part-whole-type-end Inv-loop μ-loop
 part-whole-type-end c = omega arith
 
--- src/lists.rt:27:13
 whole-type-requires : tie.Need-whole-type-requires Inv-loop μ-loop
 whole-type-requires c κs = omega arith
 
--- src/lists.rt:28:13
 returns-2 : tie.Need-returns-2 Inv-loop μ-loop
 returns-2 c =
     let whole-type = c .before .whole-type in
@@ -62,39 +54,30 @@ returns-2 c =
     let loop = c .before .before .before .before .before .before .loop in
     rows-body (loop .inv) (loop-test .taken) (u16-at .result) (u16-at .ensures .0) (whole-type .result) (whole-type .ensures) (c .if2 .taken)
 
--- src/lists.rt:30:13
 sub-e : tie.Need-sub-e Inv-loop μ-loop
 sub-e c = omega arith
 
--- src/lists.rt:30:13
 part-e-start : tie.Need-part-e-start Inv-loop μ-loop
 part-e-start c = omega arith
 
--- src/lists.rt:30:13
 part-e-end : tie.Need-part-e-end Inv-loop μ-loop
 part-e-end c = omega arith
 
--- src/lists.rt:31:13
 sub-b : tie.Need-sub-b Inv-loop μ-loop
 sub-b c = omega arith
 
--- src/lists.rt:31:13
 part-b-start : tie.Need-part-b-start Inv-loop μ-loop
 part-b-start c = omega arith
 
--- src/lists.rt:31:13
 part-b-end : tie.Need-part-b-end Inv-loop μ-loop
 part-b-end c = omega arith
 
--- src/lists.rt:32:9
 sub-left : tie.Need-sub-left Inv-loop μ-loop
 sub-left c = omega arith
 
--- src/lists.rt:22:5
 loop-less : tie.Need-loop-less Inv-loop μ-loop
 loop-less c = omega arith
 
--- src/lists.rt:22:5
 loop-again : tie.Need-loop-again Inv-loop μ-loop
 loop-again c =
     let if2 = c .before .before .if2 in
@@ -106,7 +89,6 @@ loop-again c =
     rows-again (loop .inv) (loop-test .taken) (u16-at .result) (u16-at .ensures .0) true refl refl (if1 .left) (whole-type .result) (whole-type .ensures)
     (if2 .left) tt refl
 
--- src/lists.rt:15:1
 returns-3 : tie.Need-returns-3 Inv-loop μ-loop
 returns-3 c = rows-end ((c .before) .loop .inv) (c .loop-test .left) _ refl
 

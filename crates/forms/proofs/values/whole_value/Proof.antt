@@ -8,21 +8,18 @@ use Rattle.forms.proofs.values.whole_value.Reads as reads
 use Rattle.forms.proofs.values.whole_value.Lts as lts
 use Rattle.forms.proofs.values.value_within.Reads as value-within-reads
 
--- src/values.rt:119:9
 returns : tie.Need-returns
 returns c =
-    let args = c .before .before .args in
-    within-over 4096 (parseValue 16) (args .v .now) (value-twin 16 (args .v .now)) (c .if1 .taken)
+    let args = c .before .before .before .args in
+    within-over (args .limits .bytes) (parseValue (args .limits .levels)) (args .v .now) (value-twin (args .limits .levels) (args .v .now)) (c .if1 .taken)
 
--- src/values.rt:121:5
 value-within-requires : tie.Need-value-within-requires
 value-within-requires c κs = omega arith
 
--- src/values.rt:115:1
 returns-2 : tie.Need-returns-2
 returns-2 c =
-    let args = c .before .before .before .args in
-    within-yes 4096 (parseValue 16) (args .v .now) (value-twin 16 (args .v .now)) (c .before .if1 .left) (c .value-within .result) (c .value-within .ensures)
+    let args = c .before .before .before .before .args in
+    within-yes (args .limits .bytes) (parseValue (args .limits .levels)) (args .v .now) (value-twin (args .limits .levels) (args .v .now)) (c .before .if1 .left) (c .value-within .result) (c .value-within .ensures)
 
 pub whole-value-spec : {M : Type 1} → statement M
 whole-value-spec = tie.close (tie.spec returns value-within-requires returns-2)

@@ -1,3 +1,4 @@
+use Rattle.forms.specs.Limits.{asLimits}
 use Rattle.schemas.specs.Laws.Walks.{WalkLeft, walk-start, walk-room, walk-unfit, walk-short, walk-body, walk-again, walk-end}
 use borrow.Author.Needs.{needs}
 use native.Mathlib.Omega.{arith}
@@ -5,10 +6,10 @@ use Rattle.schemas.proofs.sections.section_within.Statement.{statement}
 use Rattle.schemas.proofs.sections.section_within.Tie as tie
 
 abbrev Inv-loop : tie.InvT-loop
-Inv-loop s kind width start bodies e₀ b₀ left₀ low₀ e b left low = WalkLeft kind (record { count = left₀; entries = start; bodies = bodies }) s left low e b
+Inv-loop s kind limits width start bodies e₀ b₀ left₀ low₀ e b left low = WalkLeft (asLimits limits) kind (record { count = left₀; entries = start; bodies = bodies }) s left low e b
 
 abbrev μ-loop : tie.MeasureT-loop
-μ-loop s kind width start bodies e₀ b₀ left₀ low₀ e b left low = left
+μ-loop s kind limits width start bodies e₀ b₀ left₀ low₀ e b left low = left
 
 width-requires : tie.Need-width-requires Inv-loop μ-loop
 width-requires c κs = search needs
@@ -155,8 +156,8 @@ loop-again c =
     (body-within .body-within .result) (body-within .body-within .ensures) (else3 .if3 .left) (follows .follows .result) (follows .follows .ensures)
     (else1 .if1 .left) (else2 .if2 .left) (width .width .result) (width .width .ensures) (next .next .result) (next .next .ensures)
 
-sub-t28 : tie.Need-sub-t28 Inv-loop μ-loop
-sub-t28 c =
+sub-t29 : tie.Need-sub-t29 Inv-loop μ-loop
+sub-t29 c =
     let loop = c .before in
     omega (arith, loop .loop .inv .inside)
 
@@ -198,5 +199,5 @@ section-within-spec =
     sub-left
     loop-less
     loop-again
-    sub-t28
+    sub-t29
     returns-4)
