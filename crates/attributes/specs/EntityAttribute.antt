@@ -6,7 +6,7 @@ use mathlib.Core.Option.{Option, none}
 use mathlib.Core.Path.{_≡_}
 use lib.ListN.{length}
 use Rattle.cedar.specs.Types.{maybe, names}
-use Rattle.cedar.specs.Limits.{standard}
+use Rattle.cedar.specs.Limits.{Limits}
 use Rattle.cedar.specs.Attribute.{entityOf, attrOf, mayHaveType}
 use Rattle.forms.specs.Parts.{part}
 use Rattle.forms.specs.TypeBytes.{namesBy}
@@ -20,14 +20,14 @@ use Rattle.attributes.specs.Place.{Placed}
 
 -- The attribute a of the entity type k: it stands at the place, no longer than a form may be; or it is absent, and the type may have
 -- it just where its body is open; or there is no such type.
-abbrev pub AttributeIn : List ℕ → ℕ → ℕ → EntityAttribute → Type 0
-AttributeIn b k a (At s e q) =
-    Placed (standard .levels - 1) b (attrOf (decS standard b) a k) (PlaceAt s e q) × (e ≤ s + standard .bytes) × (mayHaveType (decS standard b) a k ≡ true)
-AttributeIn b k a (Absent o) = (attrOf (decS standard b) a k ≡ none) × (mayHaveType (decS standard b) a k ≡ o)
-AttributeIn b k a Missing = entityOf (decS standard b) k ≡ none
+abbrev pub AttributeIn : Limits → List ℕ → ℕ → ℕ → EntityAttribute → Type 0
+AttributeIn lim b k a (At s e q) =
+    Placed (lim .levels - 1) b (attrOf (decS lim b) a k) (PlaceAt s e q) × (e ≤ s + lim .bytes) × (mayHaveType (decS lim b) a k ≡ true)
+AttributeIn lim b k a (Absent o) = (attrOf (decS lim b) a k ≡ none) × (mayHaveType (decS lim b) a k ≡ o)
+AttributeIn lim b k a Missing = entityOf (decS lim b) k ≡ none
 
 -- n entries from s on have the names of the entity type k, no more than a form has room for; or there is no such type.
-abbrev pub EntriesIn : List ℕ → ℕ → EntityEntries → Type 0
-EntriesIn b k (From s n) =
-    (s + 5 * n ≤ length b) × (5 * n ≤ standard .bytes) × (maybe [] (λ e. names (e .attrs)) (entityOf (decS standard b) k) ≡ namesBy 5 n (part s (s + 5 * n) b))
-EntriesIn b k NoEntity = entityOf (decS standard b) k ≡ none
+abbrev pub EntriesIn : Limits → List ℕ → ℕ → EntityEntries → Type 0
+EntriesIn lim b k (From s n) =
+    (s + 5 * n ≤ length b) × (5 * n ≤ lim .bytes) × (maybe [] (λ e. names (e .attrs)) (entityOf (decS lim b) k) ≡ namesBy 5 n (part s (s + 5 * n) b))
+EntriesIn lim b k NoEntity = entityOf (decS lim b) k ≡ none

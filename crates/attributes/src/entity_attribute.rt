@@ -2,12 +2,12 @@
 use crate::own_attribute::Place;
 use crate::own_attribute::own_attribute;
 use forms::kinds::Openness;
-use forms::limits::Limits;
 use forms::numbers::u16_at;
 use forms::offsets::Offset;
 use schemas::entries::FoundEntry;
 use schemas::entries::find_entity;
 use schemas::sections::Sections;
+ghost use Rattle.forms.specs.Limits.{asLimits};
 ghost use Rattle.schemas.specs.Entries.{Sectioned};
 ghost use Rattle.attributes.specs.EntityAttribute.{AttributeIn, EntriesIn};
 
@@ -22,13 +22,13 @@ pub enum EntityAttribute {
 // The attribute of a name.
 pub fn entity_attribute(schema: &[u8], at: Sections, entity: usize, name: usize) -> EntityAttribute
     requires { ⌜ Sectioned (now schema) «at» ⌝ }
-    ensures { λ r. ⌜ AttributeIn (now (schema .entry)) entity name r ⌝ }
+    ensures { λ r. ⌜ AttributeIn (asLimits («at» .limits)) (now (schema .entry)) entity name r ⌝ }
 {
     let FoundEntry::At(_, start, end) = find_entity(schema, at, entity) else {
         return EntityAttribute::Missing;
     };
     let body = &schema[start..end];
-    let Place::At(s, e, required) = own_attribute(body, name, Limits::LEVELS) else {
+    let Place::At(s, e, required) = own_attribute(body, name, at.limits.levels) else {
         return EntityAttribute::Absent(body[Offset::OPEN] == Openness::OPEN);
     };
     EntityAttribute::At(start + s, start + e, required)
@@ -43,7 +43,7 @@ pub enum EntityEntries {
 // The entries of its attributes.
 pub fn entity_entries(schema: &[u8], at: Sections, entity: usize) -> EntityEntries
     requires { ⌜ Sectioned (now schema) «at» ⌝ }
-    ensures { λ r. ⌜ EntriesIn (now (schema .entry)) entity r ⌝ }
+    ensures { λ r. ⌜ EntriesIn (asLimits («at» .limits)) (now (schema .entry)) entity r ⌝ }
 {
     let FoundEntry::At(_, start, end) = find_entity(schema, at, entity) else {
         return EntityEntries::Missing;

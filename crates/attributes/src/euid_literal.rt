@@ -13,8 +13,9 @@ ghost use mathlib.Core.Path.{_≡_};
 ghost use Prim.Native.Nat.{_≤_, _<_};
 ghost use lib.ListN.{length};
 ghost use Rattle.cedar.specs.Outcome.{over};
+ghost use Rattle.forms.specs.Limits.{asLimits};
 ghost use Rattle.schemas.specs.Entries.{Sectioned};
-ghost use Rattle.attributes.specs.Literal.{literalLength, literalForm, Standing, LiteralAt};
+ghost use Rattle.attributes.specs.Literal.{literalLength, literalForm, Laid, LiteralAt};
 
 // What a uid's type is: an action, with the start and end of the body that lists its attributes; an entity; or nothing.
 pub enum Literal {
@@ -26,7 +27,7 @@ pub enum Literal {
 // The type of the uid of an entity type and an id.
 pub fn find_literal(schema: &[u8], at: Sections, entity: usize, id: usize) -> Literal
     requires { ⌜ Sectioned (now schema) «at» ⌝ }
-    ensures { λ r. ⌜ LiteralAt (now (schema .entry)) entity id r ⌝ }
+    ensures { λ r. ⌜ LiteralAt (asLimits («at» .limits)) (now (schema .entry)) entity id r ⌝ }
 {
     if is_action(entity) {
         let FoundEntry::At(_, start, end) = find_action(schema, at, entity, id) else {
@@ -42,7 +43,7 @@ pub fn find_literal(schema: &[u8], at: Sections, entity: usize, id: usize) -> Li
 
 // How long the type's form is. An action has its name where a record has its open byte.
 pub fn literal_length(schema: &[u8], found: Literal) -> usize
-    requires { ⌜ Standing (now schema) found ⌝ }
+    requires { ⌜ Laid (now schema) found ⌝ }
     ensures { λ r. ⌜ r ≡ literalLength found ⌝ }
 {
     match found {
@@ -57,7 +58,7 @@ pub fn literal_length(schema: &[u8], found: Literal) -> usize
 
 // Writes the type's form.
 pub fn write_literal(schema: &[u8], found: Literal, entity: usize, out: &mut [u8])
-    requires { ⌜ Standing (now schema) found ⌝ }
+    requires { ⌜ Laid (now schema) found ⌝ }
     requires { ⌜ entity < 65536 ⌝ }
     requires { ⌜ literalLength found ≤ length (now out) ⌝ }
     ensures { λ _. ⌜ now (out .exit) ≡ over (literalForm (now (schema .entry)) entity found) (now (out .entry)) ⌝ }

@@ -5,7 +5,6 @@ use crate::own_attribute::Place;
 use crate::own_attribute::own_attribute;
 use forms::kinds::Kind;
 use forms::kinds::Openness;
-use forms::limits::Limits;
 use forms::numbers::u16_at;
 use forms::offsets::Offset;
 use forms::widths::Width;
@@ -16,8 +15,8 @@ ghost use Prim.Native.Nat.{_*_, _≤_};
 ghost use lib.ListN.{length};
 ghost use Rattle.cedar.specs.Types.{present};
 ghost use Rattle.cedar.specs.TypeForm.{recordCode};
-ghost use Rattle.cedar.specs.Limits.{standard};
 ghost use Rattle.cedar.specs.Attribute.{ownAttr, mayHaveType, mayHaveNames, mayHave};
+ghost use Rattle.forms.specs.Limits.{asLimits};
 ghost use Rattle.forms.specs.Parts.{kind};
 ghost use Rattle.forms.specs.TypeBytes.{whole, dec, namesBy};
 ghost use Rattle.schemas.specs.SchemaBytes.{decS};
@@ -50,7 +49,7 @@ fn record_may_have(t: &[u8], name: usize, levels: usize) -> bool
 // Whether an entity type is missing from the schema, is open, or lists the attribute.
 fn entity_type_may_have(schema: &[u8], at: Sections, entity: usize, name: usize) -> bool
     requires { ⌜ Sectioned (now schema) «at» ⌝ }
-    ensures { λ r. ⌜ r ≡ mayHaveType (decS standard (now (schema .entry))) name entity ⌝ }
+    ensures { λ r. ⌜ r ≡ mayHaveType (decS (asLimits («at» .limits)) (now (schema .entry))) name entity ⌝ }
 {
     match entity_attribute(schema, at, entity, name) {
         EntityAttribute::At(_, _, _) => true,
@@ -63,7 +62,7 @@ fn entity_type_may_have(schema: &[u8], at: Sections, entity: usize, name: usize)
 fn entity_may_have(schema: &[u8], at: Sections, types: &[u8], n: usize, name: usize) -> bool
     requires { ⌜ Sectioned (now schema) «at» ⌝ }
     requires { ⌜ 2 * n ≤ length (now types) ⌝ }
-    ensures { λ r. ⌜ r ≡ mayHaveNames (decS standard (now (schema .entry))) name (namesBy 2 n (now (types .entry))) ⌝ }
+    ensures { λ r. ⌜ r ≡ mayHaveNames (decS (asLimits («at» .limits)) (now (schema .entry))) name (namesBy 2 n (now (types .entry))) ⌝ }
 {
     let mut e = types;
     let mut left = n;
@@ -80,14 +79,14 @@ fn entity_may_have(schema: &[u8], at: Sections, types: &[u8], n: usize, name: us
 // Whether a value of the type might have the attribute.
 pub fn may_have_attr(schema: &[u8], at: Sections, t: &[u8], name: usize) -> bool
     requires { ⌜ Sectioned (now schema) «at» ⌝ }
-    requires { ⌜ whole (standard .levels) (now t) ≡ true ⌝ }
-    ensures { λ r. ⌜ r ≡ mayHave (decS standard (now (schema .entry))) name (dec (standard .levels) (now (t .entry))) ⌝ }
+    requires { ⌜ whole («at» .limits .levels) (now t) ≡ true ⌝ }
+    ensures { λ r. ⌜ r ≡ mayHave (decS (asLimits («at» .limits)) (now (schema .entry))) name (dec («at» .limits .levels) (now (t .entry))) ⌝ }
 {
     let k = t[0];
     match k {
         Kind::NEVER => true,
         Kind::ANY_ENTITY => true,
-        Kind::RECORD => record_may_have(t, name, Limits::LEVELS),
+        Kind::RECORD => record_may_have(t, name, at.limits.levels),
         Kind::ENTITY => entity_may_have(
             schema,
             at,
@@ -95,7 +94,7 @@ pub fn may_have_attr(schema: &[u8], at: Sections, t: &[u8], name: usize) -> bool
             u16_at(t, Offset::ENTITY_COUNT),
             name,
         ),
-        Kind::ACTION => lists_attribute(t, name, Limits::LEVELS),
+        Kind::ACTION => lists_attribute(t, name, at.limits.levels),
         _ => false,
     }
 }

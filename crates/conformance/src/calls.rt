@@ -15,9 +15,9 @@ ghost use mathlib.Core.Path.{_≡_};
 ghost use mathlib.Core.Bool.{true};
 ghost use Prim.Native.Nat.{_≤_};
 ghost use lib.ListN.{length};
-ghost use Rattle.cedar.specs.Limits.{standard};
 ghost use Rattle.cedar.specs.ValueForm.{callKind};
 ghost use Rattle.cedar.specs.Conformance.{shorter, ofArgument, ofArguments, isExtension};
+ghost use Rattle.forms.specs.Limits.{asLimits};
 ghost use Rattle.forms.specs.Parts.{rd};
 ghost use Rattle.schemas.specs.SchemaBytes.{decS, argFits, argAt, argsFit, argsOf};
 ghost use Rattle.schemas.specs.Entries.{Sectioned};
@@ -35,7 +35,7 @@ pub fn call_returns(
 ) -> Verdict
     requires { ⌜ Sectioned (now schema) sections ⌝ }
     requires { ⌜ wholeVAs (wholeV levels) callKind (now v) ≡ true ⌝ }
-    ensures { λ r. ⌜ r ≡ verdictOf (isExtension shorter (decS standard (now (schema .entry))) extension (rd (now (v .entry)) 1, argumentsOf levels (now (v .entry)))) ⌝ }
+    ensures { λ r. ⌜ r ≡ verdictOf (isExtension shorter (decS (asLimits (sections .limits)) (now (schema .entry))) extension (rd (now (v .entry)) 1, argumentsOf levels (now (v .entry)))) ⌝ }
 {
     let name = u16_at(v, ValueOffset::FUNCTION);
     let FoundFunction::At(f) = find_function(schema, sections, name) else {
@@ -63,7 +63,7 @@ fn arguments_fit(
     requires { ⌜ Sectioned (now schema) sections ⌝ }
     requires { ⌜ argsFit (now asked) ≡ true ⌝ }
     requires { ⌜ wholeVAs (wholeV levels) callKind (now v) ≡ true ⌝ }
-    ensures { λ r. ⌜ r ≡ verdictOf (ofArguments shorter (decS standard (now (schema .entry))) (argumentsOf levels (now (v .entry))) (argsOf (now (asked .entry)))) ⌝ }
+    ensures { λ r. ⌜ r ≡ verdictOf (ofArguments shorter (decS (asLimits (sections .limits)) (now (schema .entry))) (argumentsOf levels (now (v .entry))) (argsOf (now (asked .entry)))) ⌝ }
 {
     let n = u16_at(v, ValueOffset::CALL_COUNT);
     let end = ValueOffset::CALL_ENTRIES + Width::MEMBER * n;
@@ -99,7 +99,7 @@ fn argument_fits(
     requires { ⌜ Sectioned (now schema) sections ⌝ }
     requires { ⌜ (3 ≤ length (now asked)) × (argFits (now asked) ≡ true) ⌝ }
     requires { ⌜ wholeV levels (now v) ≡ true ⌝ }
-    ensures { λ r. ⌜ r ≡ verdictOf (ofArgument shorter (decS standard (now (schema .entry))) (decV levels (now (v .entry))) (argAt (now (asked .entry)))) ⌝ }
+    ensures { λ r. ⌜ r ≡ verdictOf (ofArgument shorter (decS (asLimits (sections .limits)) (now (schema .entry))) (decV levels (now (v .entry))) (argAt (now (asked .entry)))) ⌝ }
 {
     let k = asked[0];
     let j = v[0];

@@ -19,10 +19,10 @@ use schemas::sections::Sections;
 ghost use mathlib.Core.Path.{_≡_};
 ghost use mathlib.Core.Bool.{true};
 ghost use lib.Dec.{eqb};
-ghost use Rattle.cedar.specs.Limits.{standard};
 ghost use Rattle.cedar.specs.TypeForm.{recKind};
 ghost use Rattle.cedar.specs.ValueForm.{setKind, recordKind};
 ghost use Rattle.cedar.specs.Conformance.{shorter, eachValue, conforms as has, conformsAt};
+ghost use Rattle.forms.specs.Limits.{asLimits};
 ghost use Rattle.forms.specs.TypeBytes.{wholeAs, whole, dec, decA, Sound};
 ghost use Rattle.schemas.specs.SchemaBytes.{decS};
 ghost use Rattle.schemas.specs.Entries.{Sectioned};
@@ -35,7 +35,7 @@ pub fn conforms(schema: &[u8], sections: Sections, t: &[u8], v: &[u8], levels: u
     requires { ⌜ Sectioned (now schema) sections ⌝ }
     requires { ⌜ whole levels (now t) ≡ true ⌝ }
     requires { ⌜ wholeV levels (now v) ≡ true ⌝ }
-    ensures { λ r. ⌜ r ≡ verdictOf (has shorter (decS standard (now (schema .entry))) (dec levels (now (t .entry))) (decV levels (now (v .entry)))) ⌝ }
+    ensures { λ r. ⌜ r ≡ verdictOf (has shorter (decS (asLimits (sections .limits)) (now (schema .entry))) (dec levels (now (t .entry))) (decV levels (now (v .entry)))) ⌝ }
 {
     let k = t[0];
     if !takes_kind(k, v[0]) {
@@ -66,7 +66,7 @@ fn members_conform(schema: &[u8], sections: Sections, t: &[u8], v: &[u8], levels
     requires { ⌜ Sectioned (now schema) sections ⌝ }
     requires { ⌜ whole levels (now t) ≡ true ⌝ }
     requires { ⌜ wholeVAs (wholeV levels) setKind (now v) ≡ true ⌝ }
-    ensures { λ r. ⌜ r ≡ verdictOf (eachValue (λ x. has shorter (decS standard (now (schema .entry))) (dec levels (now (t .entry))) x) (membersOf levels (now (v .entry)))) ⌝ }
+    ensures { λ r. ⌜ r ≡ verdictOf (eachValue (λ x. has shorter (decS (asLimits (sections .limits)) (now (schema .entry))) (dec levels (now (t .entry))) x) (membersOf levels (now (v .entry)))) ⌝ }
 {
     let n = u16_at(v, ValueOffset::SET_COUNT);
     let end = ValueOffset::SET_ENTRIES + Width::MEMBER * n;
@@ -92,7 +92,7 @@ fn record_conforms(schema: &[u8], sections: Sections, t: &[u8], v: &[u8], levels
     requires { ⌜ Sectioned (now schema) sections ⌝ }
     requires { ⌜ wholeAs (whole levels) recKind (now t) ≡ true ⌝ }
     requires { ⌜ wholeVAs (wholeV levels) recordKind (now v) ≡ true ⌝ }
-    ensures { λ r. ⌜ r ≡ verdictOf (recordSaid (decS standard (now (schema .entry))) (isOpen (now (t .entry))) (attributesOf levels (now (t .entry))) (pairsOf levels (now (v .entry)))) ⌝ }
+    ensures { λ r. ⌜ r ≡ verdictOf (recordSaid (decS (asLimits (sections .limits)) (now (schema .entry))) (isOpen (now (t .entry))) (attributesOf levels (now (t .entry))) (pairsOf levels (now (v .entry)))) ⌝ }
 {
     let m = u16_at(t, Offset::RECORD_COUNT);
     let n = u16_at(v, ValueOffset::RECORD_COUNT);
@@ -142,7 +142,7 @@ fn pair_conforms(
     requires { ⌜ Sectioned (now schema) sections ⌝ }
     requires { ⌜ Sound levels n 0 (now f) (now c) ⌝ }
     requires { ⌜ wholeV levels (now v) ≡ true ⌝ }
-    ensures { λ r. ⌜ r ≡ verdictOf (conformsAt shorter (decS standard (now (schema .entry))) (eqb openness 1) (decA (dec levels) n (now (f .entry)) (now (c .entry))) name (decV levels (now (v .entry)))) ⌝ }
+    ensures { λ r. ⌜ r ≡ verdictOf (conformsAt shorter (decS (asLimits (sections .limits)) (now (schema .entry))) (eqb openness 1) (decA (dec levels) n (now (f .entry)) (now (c .entry))) name (decV levels (now (v .entry)))) ⌝ }
 {
     let Found::At(i, start) = find(Width::ATTRIBUTE, f, c, n, name) else {
         return tested(openness == Openness::OPEN);

@@ -9,12 +9,12 @@ use forms::offsets::Offset;
 use forms::refusals::Refusal;
 use forms::widths::Width;
 ghost use lib.ListN.{length};
-ghost use Rattle.cedar.specs.Limits.{standard};
 ghost use Rattle.cedar.specs.Fold.{foldFrom, foldTypes};
 ghost use Rattle.cedar.specs.Calls.{stepFits};
 ghost use Rattle.forms.specs.Parts.{part};
 ghost use Rattle.forms.specs.TypeBytes.{dec};
 ghost use Rattle.forms.specs.ListBytes.{SoundTs, decTs, listOf};
+ghost use Rattle.forms.specs.Limits.{asLimits};
 ghost use Rattle.forms.specs.Modes.{asMode};
 ghost use Rattle.folds.specs.Steps.{Held};
 ghost use Rattle.folds.specs.Lists.{Opened, FoldsTo};
@@ -33,11 +33,12 @@ fn fold_onto(
     lengths: &[u8],
     bytes: &[u8],
     n: usize,
+    limits: Limits,
     work: &mut [u8],
 ) -> Folded
-    requires { ⌜ Held (standard .levels) len (now last) ⌝ }
-    requires { ⌜ SoundTs standard n (now lengths) (now bytes) ⌝ }
-    ensures { λ r. ⌜ FoldsTo (foldFrom (stepFits standard (length (now (work .entry)))) (asMode mode) (dec (standard .levels) (part 0 len (now (last .entry)))) (decTs (standard .levels) n (now (lengths .entry)) (now (bytes .entry)))) (now (last .exit)) r ⌝ }
+    requires { ⌜ Held (asLimits limits) len (now last) ⌝ }
+    requires { ⌜ SoundTs (asLimits limits) n (now lengths) (now bytes) ⌝ }
+    ensures { λ r. ⌜ FoldsTo (asLimits limits) (foldFrom (stepFits (asLimits limits) (length (now (work .entry)))) (asMode mode) (dec (limits .levels) (part 0 len (now (last .entry)))) (decTs (limits .levels) n (now (lengths .entry)) (now (bytes .entry)))) (now (last .exit)) r ⌝ }
 {
     let mut to = len;
     let mut second = true;
@@ -46,7 +47,7 @@ fn fold_onto(
     let mut left = n;
     while 0 < left {
         let size = u16_at(e, 0);
-        match join_step(mode, last, to, &b[0..size], Limits::LEVELS, second, work) {
+        match join_step(mode, last, to, &b[0..size], limits, second, work) {
             JoinStep::To(m) => to = m,
             JoinStep::Not(reason) => return Folded::Not(reason),
             JoinStep::TooLong => return Folded::Not(Refusal::WORKSPACE),
@@ -60,9 +61,15 @@ fn fold_onto(
 }
 
 // The fold of a list, from Never; its form is left in the first bytes of `last`.
-pub fn fold_types(mode: Mode, list: &[u8], last: &mut [u8], work: &mut [u8]) -> Folded
-    requires { ⌜ Opened (now list) (now last) ⌝ }
-    ensures { λ r. ⌜ FoldsTo (foldTypes (stepFits standard (length (now (work .entry)))) (asMode mode) (listOf (standard .levels) (now (list .entry)))) (now (last .exit)) r ⌝ }
+pub fn fold_types(
+    mode: Mode,
+    list: &[u8],
+    limits: Limits,
+    last: &mut [u8],
+    work: &mut [u8],
+) -> Folded
+    requires { ⌜ Opened (asLimits limits) (now list) (now last) ⌝ }
+    ensures { λ r. ⌜ FoldsTo (asLimits limits) (foldTypes (stepFits (asLimits limits) (length (now (work .entry)))) (asMode mode) (listOf (limits .levels) (now (list .entry)))) (now (last .exit)) r ⌝ }
 {
     let n = u16_at(list, 0);
     let end = Offset::LIST_ENTRIES + Width::MEMBER * n;
@@ -74,6 +81,7 @@ pub fn fold_types(mode: Mode, list: &[u8], last: &mut [u8], work: &mut [u8]) -> 
         &list[Offset::LIST_ENTRIES..end],
         &list[end..],
         n,
+        limits,
         work,
     )
 }

@@ -12,6 +12,7 @@ ghost use lib.ListN.{length};
 ghost use Rattle.cedar.specs.Bound.{bound};
 ghost use Rattle.forms.specs.Parts.{part};
 ghost use Rattle.forms.specs.TypeBytes.{whole, dec};
+ghost use Rattle.forms.specs.Limits.{asLimits};
 ghost use Rattle.forms.specs.Modes.{asMode};
 ghost use Rattle.folds.specs.Steps.{Held, Stepped};
 
@@ -29,31 +30,31 @@ fn write_step(
     last: &mut [u8],
     len: usize,
     t: &[u8],
-    levels: usize,
+    limits: Limits,
     second: bool,
     work: &mut [u8],
 ) -> JoinStep
-    requires { ⌜ Held levels len (now last) ⌝ }
-    requires { ⌜ whole levels (now t) ≡ true ⌝ }
-    ensures { λ r. ⌜ Stepped levels (bound (asMode mode) (dec levels (part 0 len (now (last .entry)))) (dec levels (now (t .entry)))) (length (now (work .entry))) (now (last .exit)) r ⌝ }
+    requires { ⌜ Held (asLimits limits) len (now last) ⌝ }
+    requires { ⌜ whole (limits .levels) (now t) ≡ true ⌝ }
+    ensures { λ r. ⌜ Stepped (asLimits limits) (bound (asMode mode) (dec (limits .levels) (part 0 len (now (last .entry)))) (dec (limits .levels) (now (t .entry)))) (length (now (work .entry))) (now (last .exit)) r ⌝ }
 {
     let half = work.len() / 2;
-    let n = match bound_length(mode, &last[0..len], t, levels) {
+    let n = match bound_length(mode, &last[0..len], t, limits.levels) {
         FormLength::Of(n) => n,
         FormLength::Not(e) => return JoinStep::Not(e),
     };
     if half < n {
         return JoinStep::TooLong;
     }
-    if Limits::BYTES < n {
+    if limits.bytes < n {
         return JoinStep::TooLong;
     }
     if second {
-        write_bound(mode, &last[0..len], t, levels, n, &mut work[half..]);
+        write_bound(mode, &last[0..len], t, limits.levels, n, &mut work[half..]);
         copy(&work[half..half + n], last);
         return JoinStep::To(n);
     }
-    write_bound(mode, &last[0..len], t, levels, n, &mut work[..half]);
+    write_bound(mode, &last[0..len], t, limits.levels, n, &mut work[..half]);
     copy(&work[0..n], last);
     JoinStep::To(n)
 }
@@ -64,16 +65,16 @@ pub fn join_step(
     last: &mut [u8],
     len: usize,
     t: &[u8],
-    levels: usize,
+    limits: Limits,
     second: bool,
     work: &mut [u8],
 ) -> JoinStep
-    requires { ⌜ Held levels len (now last) ⌝ }
-    requires { ⌜ whole levels (now t) ≡ true ⌝ }
-    ensures { λ r. ⌜ Stepped levels (bound (asMode mode) (dec levels (part 0 len (now (last .entry)))) (dec levels (now (t .entry)))) (length (now (work .entry))) (now (last .exit)) r ⌝ }
+    requires { ⌜ Held (asLimits limits) len (now last) ⌝ }
+    requires { ⌜ whole (limits .levels) (now t) ≡ true ⌝ }
+    ensures { λ r. ⌜ Stepped (asLimits limits) (bound (asMode mode) (dec (limits .levels) (part 0 len (now (last .entry)))) (dec (limits .levels) (now (t .entry)))) (length (now (work .entry))) (now (last .exit)) r ⌝ }
 {
-    if !is_subtype(mode, t, &last[0..len], levels) {
-        return write_step(mode, last, len, t, levels, second, work);
+    if !is_subtype(mode, t, &last[0..len], limits.levels) {
+        return write_step(mode, last, len, t, limits, second, work);
     }
     if work.len() / 2 < len {
         return JoinStep::TooLong;

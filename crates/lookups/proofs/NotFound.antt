@@ -7,7 +7,7 @@ use Prim.Native.Nat.{ℕ}
 use native.Mathlib.Omega.{arith}
 use types.Run.{OneOf}
 use denote.Enum.Declared.{tagOf}
-use Rattle.cedar.specs.Limits.{standard}
+use Rattle.cedar.specs.Limits.{Limits}
 use Rattle.cedar.specs.Attribute.{attrOf}
 use Rattle.schemas.specs.SchemaBytes.{decS}
 use Rattle.attributes.specs.declared.entity_attribute.EntityAttribute.{EntityAttribute}
@@ -15,8 +15,8 @@ use Rattle.attributes.specs.declared.entity_attribute.EntityAttribute.the-varia
 use Rattle.attributes.specs.EntityAttribute.{AttributeIn}
 use Rattle.attributes.proofs.entity_attribute.EntityAttribute as declared
 
-pub attribute-none : (b : List ℕ) (k a : ℕ) (x : EntityAttribute) → AttributeIn b k a x → OneOf (1 ∷ 2 ∷ []) (tagOf declared.the-type x) →
-    attrOf (decS standard b) a k ≡ none
-attribute-none b k a (At s e q) p h = absurd (⊎-elim (λ z. omega arith) (λ z. omega arith) h)
-attribute-none b k a (Absent o) p h = p .0
-attribute-none b k a Missing p h = rw p refl
+pub attribute-none : (lim : Limits) (b : List ℕ) (k a : ℕ) (x : EntityAttribute) → AttributeIn lim b k a x → OneOf (1 ∷ 2 ∷ []) (tagOf declared.the-type x) →
+    attrOf (decS lim b) a k ≡ none
+attribute-none lim b k a (At s e q) p h = absurd (⊎-elim (λ z. omega arith) (λ z. omega arith) h)
+attribute-none lim b k a (Absent o) p h = p .0
+attribute-none lim b k a Missing p h = rw p refl

@@ -5,7 +5,7 @@ use mathlib.Core.Bool.{Bool, true, false}
 use mathlib.Core.Path.{_≡_}
 use lib.ListN.{length}
 use Rattle.cedar.specs.Bytes.{u16, encNames}
-use Rattle.cedar.specs.Limits.{standard}
+use Rattle.cedar.specs.Limits.{mostBytes}
 use Rattle.cedar.specs.Result.{Result, ok, err, stepTooLong}
 use Rattle.writing.specs.Written.{Written}
 use Rattle.lookups.specs.declared.lookup_attribute_type.Looked.{Looked}
@@ -29,7 +29,7 @@ keptName looks.TooLong a = []
 pub record Entered (n : ℕ) (es kept : List ℕ) : Type 0 where
   pub sized : 5 * n ≤ length es
   pub room : 2 * n ≤ length kept
-  pub size : length kept ≡ standard .bytes
+  pub size : length kept ≤ mostBytes
 
 -- The name list o ends: with the bytes of its names written, or with 9.
 abbrev pub NamedBy : Result (List ℕ) → List ℕ → List ℕ → Names → Type 0

@@ -14,9 +14,10 @@ ghost use mathlib.Core.Path.{_≡_};
 ghost use Prim.Native.Nat.{_*_, _<_, _≤_};
 ghost use lib.ListN.{length};
 ghost use Rattle.cedar.specs.Bytes.{encNames};
-ghost use Rattle.cedar.specs.Limits.{standard};
+ghost use Rattle.cedar.specs.Limits.{mostBytes};
 ghost use Rattle.cedar.specs.Attribute.{lookupNames, keepFound, entityNames, allNames};
 ghost use Rattle.cedar.specs.Calls.{stepFits};
+ghost use Rattle.forms.specs.Limits.{asLimits};
 ghost use Rattle.forms.specs.TypeBytes.{dec, namesBy};
 ghost use Rattle.schemas.specs.SchemaBytes.{decS};
 ghost use Rattle.schemas.specs.Entries.{Sectioned};
@@ -88,9 +89,9 @@ fn kept_names(
 ) -> Names
     requires { ⌜ Sectioned (now schema) «at» ⌝ }
     requires { ⌜ Named n (now types) ⌝ }
-    requires { ⌜ length (now last) ≡ standard .bytes ⌝ }
+    requires { ⌜ «at» .limits .bytes ≤ length (now last) ⌝ }
     requires { ⌜ Entered m (now es) (now kept) ⌝ }
-    ensures { λ r. ⌜ NamedBy (keepFound (λ a. lookupNames (stepFits standard (length (now (work .entry)))) (decS standard (now (schema .entry))) a (namesBy 2 n (now (types .entry)))) (namesBy 5 m (now (es .entry)))) (now (kept .entry)) (now (kept .exit)) r ⌝ }
+    ensures { λ r. ⌜ NamedBy (keepFound (λ a. lookupNames (stepFits (asLimits («at» .limits)) (length (now (work .entry)))) (decS (asLimits («at» .limits)) (now (schema .entry))) a (namesBy 2 n (now (types .entry)))) (namesBy 5 m (now (es .entry)))) (now (kept .entry)) (now (kept .exit)) r ⌝ }
 {
     let mut e = es;
     let mut left = m;
@@ -120,9 +121,9 @@ fn entity_names(
 ) -> Names
     requires { ⌜ Sectioned (now schema) «at» ⌝ }
     requires { ⌜ Named n (now types) ⌝ }
-    requires { ⌜ length (now last) ≡ standard .bytes ⌝ }
-    requires { ⌜ length (now kept) ≡ standard .bytes ⌝ }
-    ensures { λ r. ⌜ NamedBy (entityNames (stepFits standard (length (now (work .entry)))) (decS standard (now (schema .entry))) (namesBy 2 n (now (types .entry)))) (now (kept .entry)) (now (kept .exit)) r ⌝ }
+    requires { ⌜ «at» .limits .bytes ≤ length (now last) ⌝ }
+    requires { ⌜ («at» .limits .bytes ≤ length (now kept)) × (length (now kept) ≤ mostBytes) ⌝ }
+    ensures { λ r. ⌜ NamedBy (entityNames (stepFits (asLimits («at» .limits)) (length (now (work .entry)))) (decS (asLimits («at» .limits)) (now (schema .entry))) (namesBy 2 n (now (types .entry)))) (now (kept .entry)) (now (kept .exit)) r ⌝ }
 {
     if n == 0 {
         return Names::Of(0);
@@ -154,9 +155,9 @@ pub fn all_names(
     kept: &mut [u8],
 ) -> Names
     requires { ⌜ Sectioned (now schema) «at» ⌝ }
-    requires { ⌜ Asked (now t) (now last) ⌝ }
-    requires { ⌜ length (now kept) ≡ standard .bytes ⌝ }
-    ensures { λ r. ⌜ NamedBy (allNames (stepFits standard (length (now (work .entry)))) (decS standard (now (schema .entry))) (dec (standard .levels) (now (t .entry)))) (now (kept .entry)) (now (kept .exit)) r ⌝ }
+    requires { ⌜ Asked (asLimits («at» .limits)) (now t) (now last) ⌝ }
+    requires { ⌜ («at» .limits .bytes ≤ length (now kept)) × (length (now kept) ≤ mostBytes) ⌝ }
+    ensures { λ r. ⌜ NamedBy (allNames (stepFits (asLimits («at» .limits)) (length (now (work .entry)))) (decS (asLimits («at» .limits)) (now (schema .entry))) (dec («at» .limits .levels) (now (t .entry)))) (now (kept .entry)) (now (kept .exit)) r ⌝ }
 {
     let k = t[0];
     match k {

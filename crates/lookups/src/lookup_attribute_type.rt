@@ -14,18 +14,18 @@ use forms::widths::Width;
 use schemas::sections::Sections;
 use writing::writers::copy;
 ghost use mathlib.Core.Path.{_≡_};
-ghost use Prim.Native.Nat.{_-_};
+ghost use Prim.Native.Nat.{_-_, _≤_};
 ghost use mathlib.Core.Bool.{_&&_};
 ghost use lib.ListN.{length};
-ghost use Rattle.cedar.specs.Limits.{standard};
 ghost use Rattle.cedar.specs.Attribute.{foldAttr, lookupNames, lookup};
 ghost use Rattle.cedar.specs.Calls.{stepFits};
+ghost use Rattle.forms.specs.Limits.{asLimits};
 ghost use Rattle.forms.specs.Parts.{part};
 ghost use Rattle.forms.specs.TypeBytes.{dec, namesBy};
 ghost use Rattle.schemas.specs.SchemaBytes.{decS};
 ghost use Rattle.schemas.specs.Entries.{Sectioned};
 ghost use Rattle.folds.specs.Steps.{Held};
-ghost use Rattle.lookups.specs.Lookup.{Named, Asked, LookedUp};
+ghost use Rattle.lookups.specs.Lookup.{Named, below, Asked, LookedUp};
 
 // How a lookup ends: found, required?, with so many bytes; nothing; or a step's bound is too long.
 pub enum Looked {
@@ -58,9 +58,13 @@ fn fold_attribute(
 ) -> Looked
     requires { ⌜ Sectioned (now schema) «at» ⌝ }
     requires { ⌜ Named n (now types) ⌝ }
-    requires { ⌜ Held (standard .levels - 1) bytes (now last) ⌝ }
-    ensures { λ r. ⌜ LookedUp (foldAttr (stepFits standard (length (now (work .entry)))) (decS standard (now (schema .entry))) name (first, dec (standard .levels - 1) (part 0 bytes (now (last .entry)))) (namesBy 2 n (now (types .entry)))) (now (last .exit)) r ⌝ }
+    requires { ⌜ Held (below (asLimits («at» .limits))) bytes (now last) ⌝ }
+    ensures { λ r. ⌜ LookedUp (asLimits («at» .limits)) (foldAttr (stepFits (asLimits («at» .limits)) (length (now (work .entry)))) (decS (asLimits («at» .limits)) (now (schema .entry))) name (first, dec («at» .limits .levels - 1) (part 0 bytes (now (last .entry)))) (namesBy 2 n (now (types .entry)))) (now (last .exit)) r ⌝ }
 {
+    let parts = Limits {
+        levels: at.limits.levels - 1,
+        bytes: at.limits.bytes,
+    };
     let mut len = bytes;
     let mut required = first;
     let mut second = false;
@@ -72,15 +76,7 @@ fn fold_attribute(
             return Looked::Nothing;
         };
         let t = &schema[start..end];
-        match join_step(
-            Mode::Permissive,
-            last,
-            len,
-            t,
-            Limits::LEVELS - 1,
-            second,
-            work,
-        ) {
+        match join_step(Mode::Permissive, last, len, t, parts, second, work) {
             JoinStep::To(m) => len = m,
             JoinStep::Not(_) => return Looked::Nothing,
             JoinStep::TooLong => return Looked::TooLong,
@@ -105,8 +101,8 @@ pub fn look_up_types(
 ) -> Looked
     requires { ⌜ Sectioned (now schema) «at» ⌝ }
     requires { ⌜ Named n (now types) ⌝ }
-    requires { ⌜ length (now last) ≡ standard .bytes ⌝ }
-    ensures { λ r. ⌜ LookedUp (lookupNames (stepFits standard (length (now (work .entry)))) (decS standard (now (schema .entry))) name (namesBy 2 n (now (types .entry)))) (now (last .exit)) r ⌝ }
+    requires { ⌜ «at» .limits .bytes ≤ length (now last) ⌝ }
+    ensures { λ r. ⌜ LookedUp (asLimits («at» .limits)) (lookupNames (stepFits (asLimits («at» .limits)) (length (now (work .entry)))) (decS (asLimits («at» .limits)) (now (schema .entry))) name (namesBy 2 n (now (types .entry)))) (now (last .exit)) r ⌝ }
 {
     if n == 0 {
         return Looked::Nothing;
@@ -143,8 +139,8 @@ pub fn look_up(
     work: &mut [u8],
 ) -> Looked
     requires { ⌜ Sectioned (now schema) «at» ⌝ }
-    requires { ⌜ Asked (now t) (now last) ⌝ }
-    ensures { λ r. ⌜ LookedUp (lookup (stepFits standard (length (now (work .entry)))) (decS standard (now (schema .entry))) name (dec (standard .levels) (now (t .entry)))) (now (last .exit)) r ⌝ }
+    requires { ⌜ Asked (asLimits («at» .limits)) (now t) (now last) ⌝ }
+    ensures { λ r. ⌜ LookedUp (asLimits («at» .limits)) (lookup (stepFits (asLimits («at» .limits)) (length (now (work .entry)))) (decS (asLimits («at» .limits)) (now (schema .entry))) name (dec («at» .limits .levels) (now (t .entry)))) (now (last .exit)) r ⌝ }
 {
     if t[0] == Kind::ENTITY {
         return look_up_types(
@@ -157,7 +153,7 @@ pub fn look_up(
             work,
         );
     }
-    let Place::At(start, end, required) = own_attribute(t, name, Limits::LEVELS) else {
+    let Place::At(start, end, required) = own_attribute(t, name, at.limits.levels) else {
         return Looked::Nothing;
     };
     copy(&t[start..end], last);

@@ -9,7 +9,7 @@ use lib.Dec.{eqb}
 use lib.ListN.{length, getD}
 use borrow.Author.Tests.{eq-eqb, ne-eqb}
 use Rattle.cedar.specs.Types.{Atom, never, anyent, Ty, atom, Schema, present, is}
-use Rattle.cedar.specs.Limits.{standard}
+use Rattle.cedar.specs.Limits.{Limits}
 use Rattle.cedar.specs.TypeForm.{Kind, one, setKind, recKind, entKind, actKind, extKind, noKind, kindOf}
 use Rattle.cedar.specs.Attribute.{ownAttr, mayHaveType, mayHaveNames, mayHave}
 use Rattle.forms.specs.Parts.{part, rest, rd, kind}
@@ -44,15 +44,15 @@ module _ (name l : ℕ) (b : List ℕ) (w : whole l b ≡ true) (k : kind b ≡ 
   closed-may-have r e q = q ∙ rw (is-record l b w k .is, ne-eqb (getD b 1 0) 1 e) refl
 
 -- An entity type, by what is found of it.
-module _ (b : List ℕ) (n name : ℕ) (r : EntityAttribute) (p : AttributeIn b n name r) where
-  pub found-may-have : (s e : ℕ) (q : Bool) → r ≡ AttributeAt s e q → true ≡ mayHaveType (decS standard b) name n
-  found-may-have s e q h = sym (attribute-at b n name r p s e q h .2)
+module _ (lim : Limits) (b : List ℕ) (n name : ℕ) (r : EntityAttribute) (p : AttributeIn lim b n name r) where
+  pub found-may-have : (s e : ℕ) (q : Bool) → r ≡ AttributeAt s e q → true ≡ mayHaveType (decS lim b) name n
+  found-may-have s e q h = sym (attribute-at lim b n name r p s e q h .2)
 
-  pub absent-may-have : (o : Bool) → r ≡ Absent o → o ≡ mayHaveType (decS standard b) name n
-  absent-may-have o h = sym (attribute-absent b n name r p o h .1)
+  pub absent-may-have : (o : Bool) → r ≡ Absent o → o ≡ mayHaveType (decS lim b) name n
+  absent-may-have o h = sym (attribute-absent lim b n name r p o h .1)
 
-  pub missing-may-have : r ≡ Missing → true ≡ mayHaveType (decS standard b) name n
-  missing-may-have h = rw (attribute-missing b n name r p h) refl
+  pub missing-may-have : r ≡ Missing → true ≡ mayHaveType (decS lim b) name n
+  missing-may-have h = rw (attribute-missing lim b n name r p h) refl
 
 -- The loop over an entity's types.
 module _ (s : Schema) (name : ℕ) {all : Bool} {left : ℕ} {ns : List ℕ} (i : Ahead all (mayHaveNames s name) left ns) where

@@ -14,6 +14,7 @@ use Rattle.cedar.specs.TypeForm.{atomCode, enc, one, kindOf}
 use Rattle.cedar.specs.Result.{Result, ok, err, bind}
 use Rattle.cedar.specs.Subtype.{sub}
 use Rattle.cedar.specs.Bound.{bound, joinRecord, joinSet, lost}
+use Rattle.cedar.specs.Limits.{mostBytes}
 use Rattle.cedar.specs.Laws.DirectBound.{direct, directNames}
 use Rattle.cedar.specs.Laws.TypeForm.{parse-iff}
 use Rattle.forms.specs.Parts.{part, rest, rd, kind}
@@ -134,7 +135,7 @@ atom-join m anyent = refl
 pub known-length : (r : Result Ty) (c : Ty) (w : List ℕ) (x : ℕ) → r ≡ ok c → enc c ≡ w → x ≡ cap (length w) → FormLengthOf x ≡ formLengthOf enc r
 known-length r c w x e f g = ap FormLengthOf g ∙ sym (rw (e, f) refl)
 
-pub of-length : (r : Result Ty) (c : Ty) (n : ℕ) → r ≡ ok c → length (enc c) ≡ n → n ≤ 4096 → FormLengthOf n ≡ formLengthOf enc r
+pub of-length : (r : Result Ty) (c : Ty) (n : ℕ) → r ≡ ok c → length (enc c) ≡ n → n ≤ mostBytes → FormLengthOf n ≡ formLengthOf enc r
 of-length r c n e f g = known-length r c (enc c) n e refl (omega arith)
 
 -- A type made of attributes, with n bytes before them.

@@ -14,6 +14,7 @@ use Rattle.cedar.specs.Types.{Mode, isPermissive, eqFlag, Ty, Attrs, nil, attr,
 use Rattle.cedar.specs.TypeForm.{enc}
 use Rattle.cedar.specs.Result.{Result, ok, err, bind, attributeQualifier, recordWidth}
 use Rattle.cedar.specs.Bound.{absent, joinKept, joinEqual, joinOne}
+use Rattle.cedar.specs.Limits.{mostBytes}
 use Rattle.cedar.specs.Laws.DirectBound.{direct, directAttrs}
 use Rattle.forms.specs.Parts.{part, rest, rd}
 use Rattle.forms.specs.TypeBytes.{decA, whole, dec, Sound, namesBy}
@@ -168,7 +169,7 @@ add k s (Of c x) = Of (c + k) (cap (x + s))
 add k s (Not e) = Not e
 
 pub record Keeping (all ahead : Result Attrs) (n left num sum : ℕ) : Type 0 where
-  pub small : sum ≤ 4097
+  pub small : sum ≤ suc mostBytes
   pub most : num + left ≤ n
   pub same : attributesLengthOf all ≡ add num sum (attributesLengthOf ahead)
 
@@ -192,7 +193,7 @@ module _ {all ahead : Result Attrs} {n left num sum : ℕ} (i : Keeping all ahea
     keeping-dropped : x ≡ Dropped → Keeping all cs n (left - 1) num sum
     keeping-dropped q = record { small = i .small; most = omega (arith, i .most); same = i .same ∙ rw (e, pair-dropped J x told q) refl }
 
-    keeping-small : (k : ℕ) → x ≡ PairOf k → (k ≤ 4097) × (sum ≤ 4097)
+    keeping-small : (k : ℕ) → x ≡ PairOf k → (k ≤ suc mostBytes) × (sum ≤ suc mostBytes)
     keeping-small k q = (omega (arith, pair-kept J x told k q .1 .1), i .small)
 
     keeping-more : (k s : ℕ) → x ≡ PairOf k → s ≡ cap (sum + k + 5) → Keeping all cs n (left - 1) (num + 1) s
@@ -288,7 +289,7 @@ module _ (M : Mode) {l n m N num sum : ℕ} {es bs fs cs : List ℕ} {all : Resu
     pub next-dropped : x ≡ Dropped → Keeping all D N (n - 1) num sum
     next-dropped e = keeping-dropped i (rd es 0) J D (walk-step w p k q name ne j off h M) x told p e
 
-    pub next-small : (y : ℕ) → x ≡ PairOf y → (y ≤ 4097) × (sum ≤ 4097)
+    pub next-small : (y : ℕ) → x ≡ PairOf y → (y ≤ suc mostBytes) × (sum ≤ suc mostBytes)
     next-small y e = keeping-small i (rd es 0) J D (walk-step w p k q name ne j off h M) x told p y e
 
     pub next-more : (y s : ℕ) → x ≡ PairOf y → s ≡ cap (sum + y + 5) → Keeping all D N (n - 1) (num + 1) s

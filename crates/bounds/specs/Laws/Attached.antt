@@ -12,6 +12,7 @@ use Rattle.cedar.specs.Bytes.{u16, flag}
 use Rattle.cedar.specs.TypeForm.{enc, bodies}
 use Rattle.cedar.specs.Result.{Result, ok, err}
 use Rattle.cedar.specs.Outcome.{over}
+use Rattle.cedar.specs.Limits.{mostBytes}
 use Rattle.cedar.specs.Laws.DirectBound.{direct}
 use Rattle.forms.specs.Parts.{rest}
 use Rattle.writing.specs.Written.{Written}
@@ -135,7 +136,7 @@ module _ {all : Result Attrs} {n : ℕ} {j : Result (Option (Bool × Ty))} {cs :
       pub attach-entry : 5 ≤ length (rest at (back pos out ys))
       attach-entry = laying-entry (g .laying) n (y .0) (ok (y .1)) cs step ys x body
 
-      pub attach-small : (x ≤ 4096) × ((pos + x ≤ 4096) × (at + 5 ≤ 4096))
+      pub attach-small : (x ≤ mostBytes) × ((pos + x ≤ mostBytes) × (at + 5 ≤ mostBytes))
       attach-small = laying-small (g .laying) n (y .0) (ok (y .1)) cs step ys x body
 
       pub attach-more : (v : ℕ) (zs : List ℕ) → v ≡ flag (y .0) → zs ≡ over (u16 n ++ (v ∷ u16 x)) (rest at (back pos out ys)) →

@@ -13,6 +13,7 @@ use Rattle.cedar.specs.TypeForm.{enc}
 use Rattle.cedar.specs.Bytes.{u16, flag}
 use Rattle.cedar.specs.Result.{Result, ok, err}
 use Rattle.cedar.specs.Outcome.{over}
+use Rattle.cedar.specs.Limits.{mostBytes}
 use Rattle.cedar.specs.Laws.DirectBound.{direct, directAttrs}
 use Rattle.forms.specs.Parts.{part, rest, rd}
 use Rattle.forms.specs.Search.{below, used}
@@ -171,7 +172,7 @@ module _ {d : Mode} {all : Result Attrs} {l : ℕ} {o : List ℕ} {left : ℕ} {
             pub joining-room : 5 ≤ length (rest at (back pos out zs))
             joining-room = attach-entry joining-turn zs x t (kept .0) (kept .1)
 
-            pub joining-small : (x ≤ 4096) × ((pos + x ≤ 4096) × (at + 5 ≤ 4096))
+            pub joining-small : (x ≤ mostBytes) × ((pos + x ≤ mostBytes) × (at + 5 ≤ mostBytes))
             joining-small = attach-small joining-turn zs x t (kept .0) (kept .1)
 
             pub joining-some : (v : ℕ) (us : List ℕ) → v ≡ flag (eqb (getD e 2 0) 1 && eqb (getD (rest (5 * k) f) 2 0) 1) →

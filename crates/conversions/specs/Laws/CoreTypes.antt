@@ -21,6 +21,7 @@ use Rattle.forms.specs.Laws.Sure.{rd-drop}
 use Rattle.writing.specs.declared.form_lengths.FormLength.{FormLength}
 use Rattle.writing.specs.declared.form_lengths.FormLength.the-variants.{Of, Not}
 use Rattle.cedar.specs.Outcome.{over}
+use Rattle.cedar.specs.Limits.{mostBytes}
 use Rattle.writing.specs.Written.{Written}
 use Rattle.writing.specs.FormLengths.{cap, table, formLengthOf, formOf, Ready, orRefuse}
 use Rattle.writing.specs.Laws.Writing.{back}
@@ -263,7 +264,7 @@ module _ {all : Result Attrs} {l n : ℕ} {es bs o : List ℕ} {at pos : ℕ} {o
       pub core-entry : 5 ≤ length (rest at (back pos out ys))
       core-entry = laying-entry i (rd es 0) (eqb (getD es 2 0) 1) Type′ Rest (attrs-step s p k q) ys x t
 
-      pub core-small : (x ≤ 4096) × ((pos + x ≤ 4096) × (at + 5 ≤ 4096))
+      pub core-small : (x ≤ mostBytes) × ((pos + x ≤ mostBytes) × (at + 5 ≤ mostBytes))
       core-small = laying-small i (rd es 0) (eqb (getD es 2 0) 1) Type′ Rest (attrs-step s p k q) ys x t
 
       pub core-more : (m : ℕ) (zs : List ℕ) → m ≡ rd es 0 → zs ≡ over (u16 m ++ (getD es 2 0 ∷ u16 x)) (rest at (back pos out ys)) →

@@ -13,7 +13,7 @@ use Rattle.cedar.specs.Bytes.{Bytes}
 use Rattle.cedar.specs.Laws.Shape.{Ordered}
 use Rattle.cedar.specs.Subtype.{sub}
 use Rattle.cedar.specs.TypeForm.{enc}
-use Rattle.cedar.specs.Limits.{standard}
+use Rattle.cedar.specs.Limits.{Limits, mostBytes}
 use Rattle.cedar.specs.Result.{Result, ok}
 use Rattle.cedar.specs.Bound.{bound}
 use Rattle.cedar.specs.Laws.DirectBound.{direct}
@@ -56,7 +56,7 @@ first-half w o ys zs n e l = part-is n (ys ++ zs) ∙ ap (λ (y : List ℕ). tak
 
 -- A bound's form is whole, and says the bound.
 module _ (l : ℕ) (m : Mode) (a b : List ℕ) (p : Bytes a) (q : Bytes b) (u : whole l a ≡ true) (v : whole l b ≡ true) (c : Ty)
-    (e : bound m (dec l a) (dec l b) ≡ ok c) (s : length (enc c) ≤ 4096) where
+    (e : bound m (dec l a) (dec l b) ≡ ok c) (s : length (enc c) ≤ mostBytes) where
   bytes : Bytes (enc c)
   bytes = bound-bytes m (dec l a) (dec l b) c e (rw (enc-dec l a p u) p) (rw (enc-dec l b q v) q) (omega arith)
 
@@ -67,17 +67,20 @@ module _ (l : ℕ) (m : Mode) (a b : List ℕ) (p : Bytes a) (q : Bytes b) (u : 
       sure-some (type-twin l (enc c)) (parse-iff l (enc c) c bytes .1 (refl, bound-WF l m (dec l a) (dec l b) c f g e))
 
 -- What a step starts from: the type at hand in the first bytes of `last`, and another, both of bytes.
-pub record Stepping (l len : ℕ) (last t : List ℕ) : Type 0 where
-  pub held : Held l len last
-  pub other : whole l t ≡ true
+pub record Stepping (lim : Limits) (len : ℕ) (last t : List ℕ) : Type 0 where
+  pub held : Held lim len last
+  pub other : whole (lim .levels) t ≡ true
   pub bytes : (i : ℕ) → getD last i 0 < 256
   pub bytes′ : (i : ℕ) → getD t i 0 < 256
 
-pub stepping : {l len : ℕ} {last t : List ℕ} → Held l len last → whole l t ≡ true → ((i : ℕ) → getD last i 0 < 256) → ((i : ℕ) → getD t i 0 < 256) →
-    Stepping l len last t
+pub stepping : {lim : Limits} {len : ℕ} {last t : List ℕ} → Held lim len last → whole (lim .levels) t ≡ true → ((i : ℕ) → getD last i 0 < 256) → ((i : ℕ) → getD t i 0 < 256) →
+    Stepping lim len last t
 stepping h w p q = record { held = h; other = w; bytes = p; bytes′ = q }
 
-module _ (m : Mode) {l len : ℕ} {last t : List ℕ} (g : Stepping l len last t) where
+module _ (m : Mode) {lim : Limits} {len : ℕ} {last t : List ℕ} (g : Stepping lim len last t) where
+  abbrev l : ℕ
+  l = lim .levels
+
   abbrev hand : List ℕ
   hand = part 0 len last
 
@@ -108,17 +111,17 @@ module _ (m : Mode) {l len : ℕ} {last t : List ℕ} (g : Stepping l len last t
     long : length (enc (dec l hand)) ≡ len
     long = ap length (g .held .exact) ∙ length-part 0 len last (omega (arith, g .held .fits, g .held .room)) ∙ omega arith
 
-    pub step-stays : len ≤ work / 2 → Stepped l stepped work last (To len)
-    step-stays k = (under, le-leb (length (enc (dec l hand))) (min (work / 2) 4096) (omega (arith, long, g .held .fits)), g .held)
+    pub step-stays : len ≤ work / 2 → Stepped lim stepped work last (To len)
+    step-stays k = (under, le-leb (length (enc (dec l hand))) (min (work / 2) (lim .bytes)) (omega (arith, long, g .held .fits)), g .held)
 
-    pub step-stays-long : work / 2 < len → Stepped l stepped work last TooLong
-    step-stays-long k = (dec l hand, (under, lt-leb (length (enc (dec l hand))) (min (work / 2) 4096) (omega (arith, long))))
+    pub step-stays-long : work / 2 < len → Stepped lim stepped work last TooLong
+    step-stays-long k = (dec l hand, (under, lt-leb (length (enc (dec l hand))) (min (work / 2) (lim .bytes)) (omega (arith, long))))
 
   module _ (x : FormLength) (told : x ≡ formLengthOf enc (direct m (dec l hand) (dec l t))) (work : ℕ) where
     told-is : x ≡ formLengthOf enc stepped
     told-is = told ∙ ap (formLengthOf enc) direct-is
 
-    pub step-none : (e : ℕ) → x ≡ form-lengths.Not e → Stepped l stepped work last (Not e)
+    pub step-none : (e : ℕ) → x ≡ form-lengths.Not e → Stepped lim stepped work last (Not e)
     step-none e f = not-err enc stepped x e told-is f
 
     module _ (n : ℕ) (f : x ≡ form-lengths.Of n) where
@@ -128,18 +131,18 @@ module _ (m : Mode) {l len : ℕ} {last t : List ℕ} (g : Stepping l len last t
       abbrev bounded : Ty
       bounded = of-type .0
 
-      pub step-over-half : work / 2 < n → Stepped l stepped work last TooLong
-      step-over-half h = (bounded, (of-type .1 .0, lt-leb (length (enc bounded)) (min (work / 2) 4096) (omega (arith, of-type .1 .1))))
+      pub step-over-half : work / 2 < n → Stepped lim stepped work last TooLong
+      step-over-half h = (bounded, (of-type .1 .0, lt-leb (length (enc bounded)) (min (work / 2) (lim .bytes)) (omega (arith, of-type .1 .1, g .held .most))))
 
-      pub step-over-form : 4096 < n → Stepped l stepped work last TooLong
-      step-over-form h = (bounded, (of-type .1 .0, lt-leb (length (enc bounded)) (min (work / 2) 4096) (omega (arith, of-type .1 .1))))
+      pub step-over-form : lim .bytes < n → Stepped lim stepped work last TooLong
+      step-over-form h = (bounded, (of-type .1 .0, lt-leb (length (enc bounded)) (min (work / 2) (lim .bytes)) (omega (arith, of-type .1 .1, g .held .most))))
 
-      module _ (h : n ≤ work / 2) (k : n ≤ 4096) where
+      module _ (h : n ≤ work / 2) (k : n ≤ lim .bytes) where
         exact : n ≡ length (enc bounded)
-        exact = omega (arith, of-type .1 .1)
+        exact = omega (arith, of-type .1 .1, g .held .most)
 
         pub step-ready : (o : List ℕ) → n ≤ length o → Ready enc (direct m (dec l hand) (dec l t)) o
-        step-ready o r = ready enc (direct m (dec l hand) (dec l t)) x n o told f k r
+        step-ready o r = ready enc (direct m (dec l hand) (dec l t)) x n o told f (omega (arith, g .held .most)) r
 
         form-written : formOf enc (direct m (dec l hand) (dec l t)) ≡ enc bounded
         form-written = ap (formOf enc) (direct-is ∙ of-type .1 .0)
@@ -148,28 +151,28 @@ module _ (m : Mode) {l len : ℕ} {last t : List ℕ} (g : Stepping l len last t
         step-length = exact ∙ sym (ap length form-written)
 
         -- The bound's form was copied to the front of `last`.
-        copied : (xs : List ℕ) → length xs ≡ 4096 → part 0 n xs ≡ enc bounded → Stepped l stepped work xs (To n)
+        copied : (xs : List ℕ) → lim .bytes ≤ length xs → part 0 n xs ≡ enc bounded → Stepped lim stepped work xs (To n)
         copied xs r y =
-            let w = bound-form l m hand t p q (g .held .good) (g .other) bounded (of-type .1 .0) (omega (arith, exact)) in
+            let w = bound-form l m hand t p q (g .held .good) (g .other) bounded (of-type .1 .0) (omega (arith, exact, g .held .most)) in
             let z : dec l (part 0 n xs) ≡ bounded = ap (dec l) y ∙ w .1 in (
               of-type .1 .0 ∙ ap ok (sym z),
-              ap (stepFits standard work) z ∙ le-leb (length (enc bounded)) (min (work / 2) 4096) (omega (arith, exact)),
-              record { room = r; fits = k; good = ap (whole l) y ∙ w .0; exact = ap enc z ∙ sym y },
+              ap (stepFits lim work) z ∙ le-leb (length (enc bounded)) (min (work / 2) (lim .bytes)) (omega (arith, exact)),
+              record { most = g .held .most; room = r; fits = k; good = ap (whole l) y ∙ w .0; exact = ap enc z ∙ sym y },
             )
 
         -- It was written into the second half of the workspace, or into the first, and copied from there.
         module _ (ws ys xs : List ℕ) (s : length ws ≡ work) (r : length xs ≡ length last) where
           pub step-second : ys ≡ over (formOf enc (direct m (dec l hand) (dec l t))) (rest (work / 2) ws) →
-              xs ≡ over (part (work / 2) (work / 2 + n) (back (work / 2) ws ys)) last → Stepped l stepped work xs (To n)
+              xs ≡ over (part (work / 2) (work / 2 + n) (back (work / 2) ws ys)) last → Stepped lim stepped work xs (To n)
           step-second w e =
               let y : ys ≡ over (enc bounded) (rest (work / 2) ws) = w ∙ ap (λ (z : List ℕ). over z (rest (work / 2) ws)) form-written in
               let i = second-half ws (enc bounded) ys (work / 2) n (omega (arith, s)) y exact in
-              copied xs (r ∙ g .held .room) (over-front (enc bounded) last xs n (e ∙ ap (λ (z : List ℕ). over z last) i) exact)
+              copied xs (omega (arith, r, g .held .room)) (over-front (enc bounded) last xs n (e ∙ ap (λ (z : List ℕ). over z last) i) exact)
 
           pub step-first : ys ≡ over (formOf enc (direct m (dec l hand) (dec l t))) (take (work / 2) ws) →
               xs ≡ over (part 0 n (ys ++ drop (work / 2) ws)) last →
-              Stepped l stepped work xs (To n)
+              Stepped lim stepped work xs (To n)
           step-first w e =
               let y : ys ≡ over (enc bounded) (take (work / 2) ws) = w ∙ ap (λ (z : List ℕ). over z (take (work / 2) ws)) form-written in
               let i = first-half (enc bounded) (take (work / 2) ws) ys (drop (work / 2) ws) n y exact in
-              copied xs (r ∙ g .held .room) (over-front (enc bounded) last xs n (e ∙ ap (λ (z : List ℕ). over z last) i) exact)
+              copied xs (omega (arith, r, g .held .room)) (over-front (enc bounded) last xs n (e ∙ ap (λ (z : List ℕ). over z last) i) exact)

@@ -8,7 +8,7 @@ use mathlib.Core.Path.{_≡_, refl, ap, sym, subst, _∙_}
 use lib.ListN.{length}
 use Rattle.cedar.specs.Types.{permissive, Ty, Schema}
 use Rattle.cedar.specs.TypeForm.{enc}
-use Rattle.cedar.specs.Limits.{standard}
+use Rattle.cedar.specs.Limits.{Limits, mostBytes}
 use Rattle.cedar.specs.Result.{Result, ok, err}
 use Rattle.cedar.specs.Bound.{bound}
 use Rattle.cedar.specs.Outcome.{over}
@@ -25,41 +25,50 @@ use Rattle.folds.specs.declared.steps.JoinStep.the-variants.{To, Not, TooLong}
 use Rattle.lookups.specs.declared.lookup_attribute_type.Looked.{Looked}
 use Rattle.lookups.specs.declared.lookup_attribute_type.Looked.the-variants as looks
 use Rattle.folds.specs.Steps.{Held, Stepped}
-use Rattle.lookups.specs.Lookup.{Named, Asked, LookedUp}
+use Rattle.lookups.specs.Lookup.{Named, below, LookedUp}
 use Rattle.writing.specs.Laws.Writing.{over-front}
 
 -- A form that was copied to the front of `last`.
-pub held-copy : (b last xs : List ℕ) (s e : ℕ) → s ≤ e → e ≤ length b → e ≤ s + 4096 → length last ≡ 4096 → length xs ≡ length last →
-    whole 15 (part s e b) ≡ true → enc (dec 15 (part s e b)) ≡ part s e b → xs ≡ over (part s e b) last →
-    (part 0 (e - s) xs ≡ part s e b) × Held 15 (e - s) xs
-held-copy b last xs s e h g k r l w x f =
-    let p = over-front (part s e b) last xs (e - s) f (sym (length-part s e b g)) in
-    (p, record { room = l ∙ r; fits = omega arith; good = ap (whole 15) p ∙ w; exact = ap (λ (z : List ℕ). enc (dec 15 z)) p ∙ x ∙ sym p })
+pub held-copy : (lim : Limits) → lim .bytes ≤ mostBytes → (b last xs : List ℕ) (s e : ℕ) → s ≤ e → e ≤ length b → e ≤ s + lim .bytes →
+    lim .bytes ≤ length last → length xs ≡ length last →
+    whole (lim .levels - 1) (part s e b) ≡ true → enc (dec (lim .levels - 1) (part s e b)) ≡ part s e b → xs ≡ over (part s e b) last →
+    (part 0 (e - s) xs ≡ part s e b) × Held (below lim) (e - s) xs
+held-copy lim most b last xs s e h g k r l w x f =
+    let p = over-front (part s e b) last xs (e - s) f (sym (length-part s e b g)) in (
+      p,
+      record {
+        most = most;
+        room = omega (arith, l, r);
+        fits = omega arith;
+        good = ap (whole (lim .levels - 1)) p ∙ w;
+        exact = ap (λ (z : List ℕ). enc (dec (lim .levels - 1) z)) p ∙ x ∙ sym p;
+      },
+    )
 
 -- The loop of the fold: `all` is what it is to end with.
-pub record Folding (work : ℕ) (s : Schema) (a : ℕ) (all : Result (Option (Bool × Ty))) (len : ℕ) (q : Bool) (last : List ℕ) (left : ℕ) (ns : List ℕ) : Type 0
-  where
-    pub held : Held 15 len last
-    pub ahead : Ahead all (foldAttr (stepFits standard work) s a (q, dec 15 (part 0 len last))) left ns
+pub record Folding (lim : Limits) (work : ℕ) (s : Schema) (a : ℕ) (all : Result (Option (Bool × Ty))) (len : ℕ) (q : Bool) (last : List ℕ) (left : ℕ)
+    (ns : List ℕ) : Type 0 where
+  pub held : Held (below lim) len last
+  pub ahead : Ahead all (foldAttr (stepFits lim work) s a (q, dec (lim .levels - 1) (part 0 len last))) left ns
 
-pub folding-start : (work : ℕ) (s : Schema) (a len : ℕ) (q : Bool) (last : List ℕ) (n : ℕ) (ns : List ℕ) → Held 15 len last → Named n ns →
-    Folding work s a (foldAttr (stepFits standard work) s a (q, dec 15 (part 0 len last)) (namesBy 2 n ns)) len q last n ns
-folding-start work s a len q last n ns h k =
-    record { held = h; ahead = ahead-start (foldAttr (stepFits standard work) s a (q, dec 15 (part 0 len last))) n ns (k .sized) }
+pub folding-start : (lim : Limits) (work : ℕ) (s : Schema) (a len : ℕ) (q : Bool) (last : List ℕ) (n : ℕ) (ns : List ℕ) → Held (below lim) len last → Named n ns →
+    Folding lim work s a (foldAttr (stepFits lim work) s a (q, dec (lim .levels - 1) (part 0 len last)) (namesBy 2 n ns)) len q last n ns
+folding-start lim work s a len q last n ns h k =
+    record { held = h; ahead = ahead-start (foldAttr (stepFits lim work) s a (q, dec (lim .levels - 1) (part 0 len last))) n ns (k .sized) }
 
-module _ {work : ℕ} {s : Schema} {a : ℕ} {all : Result (Option (Bool × Ty))} {len : ℕ} {q : Bool} {last : List ℕ} {left : ℕ} {ns : List ℕ}
-    (i : Folding work s a all len q last left ns) where
-  pub folding-end : left ≤ 0 → LookedUp all last (looks.Found q len)
+module _ {lim : Limits} {work : ℕ} {s : Schema} {a : ℕ} {all : Result (Option (Bool × Ty))} {len : ℕ} {q : Bool} {last : List ℕ} {left : ℕ} {ns : List ℕ}
+    (i : Folding lim work s a all len q last left ns) where
+  pub folding-end : left ≤ 0 → LookedUp lim all last (looks.Found q len)
   folding-end h = (ahead-end (i .ahead) h, i .held)
 
   module _ (p : 0 < left) (k : ℕ) (e : k ≡ rd ns 0) where
     pub folding-lacks : attrOf s a k ≡ none → all ≡ ok none
     folding-lacks f = ahead-first (i .ahead) p k e ∙ rw f refl
 
-    module _ (y : Bool) (t : List ℕ) (f : attrOf s a k ≡ some (y, dec 15 t)) (last′ : List ℕ) (r : JoinStep)
-        (g : Stepped 15 (bound permissive (dec 15 (part 0 len last)) (dec 15 t)) work last′ r) where
-      told : (x : JoinStep) → r ≡ x → Stepped 15 (bound permissive (dec 15 (part 0 len last)) (dec 15 t)) work last′ x
-      told x h = subst (λ (y : JoinStep). Stepped 15 (bound permissive (dec 15 (part 0 len last)) (dec 15 t)) work last′ y) h g
+    module _ (y : Bool) (t : List ℕ) (f : attrOf s a k ≡ some (y, dec (lim .levels - 1) t)) (last′ : List ℕ) (r : JoinStep)
+        (g : Stepped (below lim) (bound permissive (dec (lim .levels - 1) (part 0 len last)) (dec (lim .levels - 1) t)) work last′ r) where
+      told : (x : JoinStep) → r ≡ x → Stepped (below lim) (bound permissive (dec (lim .levels - 1) (part 0 len last)) (dec (lim .levels - 1) t)) work last′ x
+      told x h = subst (λ (y : JoinStep). Stepped (below lim) (bound permissive (dec (lim .levels - 1) (part 0 len last)) (dec (lim .levels - 1) t)) work last′ y) h g
 
       pub folding-unbounded : (n : ℕ) → r ≡ Not n → all ≡ ok none
       folding-unbounded n h =
@@ -71,12 +80,12 @@ module _ {work : ℕ} {s : Schema} {a : ℕ} {all : Result (Option (Bool × Ty))
           let d = told TooLong h in
           ahead-first (i .ahead) p k e ∙ rw (f, d .1 .0, d .1 .1) refl
 
-      pub folding-next : (m : ℕ) → r ≡ To m → (z : Bool) → z ≡ q && y → Folding work s a all m z last′ (left - 1) (rest 2 ns)
+      pub folding-next : (m : ℕ) → r ≡ To m → (z : Bool) → z ≡ q && y → Folding lim work s a all m z last′ (left - 1) (rest 2 ns)
       folding-next m h z c =
           let d = told (To m) h in
           record {
             held = d .2;
-            ahead = ahead-next (i .ahead) p k e (foldAttr (stepFits standard work) s a (z, dec 15 (part 0 m last′))) (rw (f, d .0, d .1, c) refl);
+            ahead = ahead-next (i .ahead) p k e (foldAttr (stepFits lim work) s a (z, dec (lim .levels - 1) (part 0 m last′))) (rw (f, d .0, d .1, c) refl);
           }
 
 -- The first of an entity's types.
@@ -121,6 +130,6 @@ module _ (fits : Ty → Bool) (s : Schema) (a l : ℕ) (b : List ℕ) (w : whole
     pub own-none : ownAttr a (dec l b) ≡ none → lookup fits s a (dec l b) ≡ ok none
     own-none f = sym (other-lookup n) ∙ ap ok f
 
-    pub own-found : (q : Bool) (t : List ℕ) → ownAttr a (dec l b) ≡ some (q, dec 15 t) → (last : List ℕ) {k : ℕ} → (part 0 k last ≡ t) × Held 15 k last →
-        LookedUp (lookup fits s a (dec l b)) last (looks.Found q k)
-    own-found q t f last {k} h = (sym (other-lookup n) ∙ ap ok (f ∙ ap (λ (z : List ℕ). some (q, dec 15 z)) (sym (h .0))), h .1)
+    pub own-found : (lim : Limits) (q : Bool) (t : List ℕ) → ownAttr a (dec l b) ≡ some (q, dec (lim .levels - 1) t) → (last : List ℕ) {k : ℕ} →
+        (part 0 k last ≡ t) × Held (below lim) k last → LookedUp lim (lookup fits s a (dec l b)) last (looks.Found q k)
+    own-found lim q t f last {k} h = (sym (other-lookup n) ∙ ap ok (f ∙ ap (λ (z : List ℕ). some (q, dec (lim .levels - 1) z)) (sym (h .0))), h .1)

@@ -9,7 +9,7 @@ use mathlib.Core.Path.{_≡_, refl, ap, sym, subst, _∙_}
 use lib.ListN.{length, length-append}
 use Rattle.cedar.specs.Types.{Ty, Schema, maybe, names}
 use Rattle.cedar.specs.Bytes.{u16, encNames}
-use Rattle.cedar.specs.Limits.{standard}
+use Rattle.cedar.specs.Limits.{Limits, mostBytes}
 use Rattle.cedar.specs.Result.{Result, ok, err, bind}
 use Rattle.cedar.specs.Outcome.{over}
 use Rattle.cedar.specs.Attribute.{entityOf, lookupNames, keepFound, entityNames, allNames}
@@ -94,20 +94,20 @@ kept-small (looks.Found q n) a = omega arith
 kept-small looks.Nothing a = omega arith
 kept-small looks.TooLong a = omega arith
 
-keeps : (look : ℕ → Result (Option (Bool × Ty))) (a : ℕ) (xs done last : List ℕ) (x : Looked) → LookedUp (look a) last x → isTooLong x ≡ false →
+keeps : (lim : Limits) (look : ℕ → Result (Option (Bool × Ty))) (a : ℕ) (xs done last : List ℕ) (x : Looked) → LookedUp lim (look a) last x → isTooLong x ≡ false →
     bind (keepFound look (a ∷ xs)) (λ ks. ok (done ++ ks)) ≡ bind (keepFound look xs) (λ ks. ok ((done ++ keptNames x a) ++ ks))
 unfolding keptNames
-keeps look a xs done last (looks.Found q n) h t = rw (h .0) (go (keepFound look xs))
+keeps lim look a xs done last (looks.Found q n) h t = rw (h .0) (go (keepFound look xs))
   where
     go : (r : Result (List ℕ)) → bind (bind r (λ ks. ok (a ∷ ks))) (λ ks. ok (done ++ ks)) ≡ bind r (λ ks. ok ((done ++ (a ∷ [])) ++ ks))
     go (ok ks) = ap ok (sym (append-assoc done (a ∷ []) ks))
     go (err e) = refl
-keeps look a xs done last looks.Nothing h t = rw (h, append-nil done) (go (keepFound look xs))
+keeps lim look a xs done last looks.Nothing h t = rw (h, append-nil done) (go (keepFound look xs))
   where
     go : (r : Result (List ℕ)) → bind (bind r (λ ks. ok ks)) (λ ks. ok (done ++ ks)) ≡ bind r (λ ks. ok (done ++ ks))
     go (ok ks) = refl
     go (err e) = refl
-keeps look a xs done last looks.TooLong h t = absurd (let z : _≡_ {A = ℕ} 0 1 = cc in omega arith)
+keeps lim look a xs done last looks.TooLong h t = absurd (let z : _≡_ {A = ℕ} 0 1 = cc in omega arith)
 
 module _ {look : ℕ → Result (Option (Bool × Ty))} {all : Result (List ℕ)} {left : ℕ} {e o : List ℕ} {pos : ℕ} {out : List ℕ}
     (i : Keeping look all left e o pos out) where
@@ -123,7 +123,7 @@ module _ {look : ℕ → Result (Option (Bool × Ty))} {all : Result (List ℕ)}
     ),
   )
 
-  module _ (p : 0 < left) (a : ℕ) (q : a ≡ rd e 0) (last : List ℕ) (x : Looked) (h : LookedUp (look a) last x) where
+  module _ (lim : Limits) (p : 0 < left) (a : ℕ) (q : a ≡ rd e 0) (last : List ℕ) (x : Looked) (h : LookedUp lim (look a) last x) where
     first-is : all ≡ bind (keepFound look (a ∷ namesBy 5 (left - 1) (rest 5 e))) (λ ks. ok (i .done ++ ks))
     first-is =
         let f : namesBy 5 left e ≡ a ∷ namesBy 5 (left - 1) (rest 5 e) = names-first 5 left e p ∙ rw q refl in
@@ -132,7 +132,7 @@ module _ {look : ℕ → Result (Option (Bool × Ty))} {all : Result (List ℕ)}
     pub keeping-too-long : (r : Bool) → r ≡ isTooLong x → r ≡ true → NamedBy all o out TooLong
     keeping-too-long r f g = go x h (sym f ∙ g)
       where
-        go : (y : Looked) → LookedUp (look a) last y → isTooLong y ≡ true → all ≡ err 9
+        go : (y : Looked) → LookedUp lim (look a) last y → isTooLong y ≡ true → all ≡ err 9
         go (looks.Found c n) u t = absurd (let z : _≡_ {A = ℕ} 0 1 = cc in omega arith)
         go looks.Nothing u t = absurd (let z : _≡_ {A = ℕ} 0 1 = cc in omega arith)
         go looks.TooLong u t = first-is ∙ rw u refl
@@ -145,7 +145,7 @@ module _ {look : ℕ → Result (Option (Bool × Ty))} {all : Result (List ℕ)}
         let s = kept-small x a in
         record {
           done = i .done ++ keptNames x a;
-          same = first-is ∙ keeps look a (namesBy 5 (left - 1) (rest 5 e)) (i .done) last x h (sym f ∙ g);
+          same = first-is ∙ keeps lim look a (namesBy 5 (left - 1) (rest 5 e)) (i .done) last x h (sym f ∙ g);
           sized = omega (arith, i .sized, length-rest 5 e);
           pos-is = sym (ap length b ∙ length-append (encNames (i .done)) (keptName x a) ∙ omega (arith, i .pos-is, w .many));
           out-is =
@@ -155,32 +155,32 @@ module _ {look : ℕ → Result (Option (Bool × Ty))} {all : Result (List ℕ)}
         }
 
 -- An entity: the names of its first type's entry.
-module _ (fits : Ty → Bool) (b : List ℕ) (n : ℕ) (ns o : List ℕ) where
+module _ (lim : Limits) (fits : Ty → Bool) (b : List ℕ) (n : ℕ) (ns o : List ℕ) where
   -- What an entity's types keep of some names.
   abbrev pub keptOf : List ℕ → Result (List ℕ)
-  keptOf l = keepFound (λ a. lookupNames fits (decS standard b) a (namesBy 2 n ns)) l
+  keptOf l = keepFound (λ a. lookupNames fits (decS lim b) a (namesBy 2 n ns)) l
 
-  pub no-types : n ≡ 0 → NamedBy (entityNames fits (decS standard b) (namesBy 2 n ns)) o o (Of 0)
-  no-types h = ([], (ap (entityNames fits (decS standard b)) (names-none 2 n ns (omega arith)), record { bytes = refl; many = refl }))
+  pub no-types : n ≡ 0 → NamedBy (entityNames fits (decS lim b) (namesBy 2 n ns)) o o (Of 0)
+  no-types h = ([], (ap (entityNames fits (decS lim b)) (names-none 2 n ns (omega arith)), record { bytes = refl; many = refl }))
 
   module _ (p : n ≡ 0 → ⊥) (k : ℕ) (e : k ≡ rd ns 0) where
     types-are : namesBy 2 n ns ≡ k ∷ namesBy 2 (n - 1) (rest 2 ns)
     types-are = names-first 2 n ns (omega arith) ∙ rw e refl
 
-    pub no-entry : entityOf (decS standard b) k ≡ none → NamedBy (entityNames fits (decS standard b) (namesBy 2 n ns)) o o (Of 0)
-    no-entry h = ([], (ap (entityNames fits (decS standard b)) types-are ∙ rw h refl, record { bytes = refl; many = refl }))
+    pub no-entry : entityOf (decS lim b) k ≡ none → NamedBy (entityNames fits (decS lim b) (namesBy 2 n ns)) o o (Of 0)
+    no-entry h = ([], (ap (entityNames fits (decS lim b)) types-are ∙ rw h refl, record { bytes = refl; many = refl }))
 
-    module _ (s m : ℕ) (v : EntriesIn b k (From s m)) where
-      pub entry-entered : length o ≡ 4096 → Entered m (part s (s + 5 * m) b) o
-      entry-entered l = record { sized = omega (arith, length-part s (s + 5 * m) b (v .0)); room = omega (arith, v .1); size = l }
+    module _ (s m : ℕ) (v : EntriesIn lim b k (From s m)) where
+      pub entry-entered : lim .bytes ≤ length o → length o ≤ mostBytes → Entered m (part s (s + 5 * m) b) o
+      entry-entered r l = record { sized = omega (arith, length-part s (s + 5 * m) b (v .0)); room = omega (arith, r, v .1); size = l }
 
-      pub entry-keeps : keptOf (namesBy 5 m (part s (s + 5 * m) b)) ≡ entityNames fits (decS standard b) (namesBy 2 n ns)
+      pub entry-keeps : keptOf (namesBy 5 m (part s (s + 5 * m) b)) ≡ entityNames fits (decS lim b) (namesBy 2 n ns)
       entry-keeps = ap (λ (l : List ℕ). keptOf l) (sym (v .2)) ∙ sym (go (namesBy 2 n ns) types-are)
         where
           go : (l : List ℕ) → l ≡ k ∷ namesBy 2 (n - 1) (rest 2 ns)
               →
-              entityNames fits (decS standard b) l ≡ keepFound (λ a. lookupNames fits (decS standard b) a l)
-              (maybe [] (λ e. names (e .attrs)) (entityOf (decS standard b) k))
+              entityNames fits (decS lim b) l ≡ keepFound (λ a. lookupNames fits (decS lim b) a l)
+              (maybe [] (λ e. names (e .attrs)) (entityOf (decS lim b) k))
           go l h = rw h refl
 
 -- Any type by its first byte.
@@ -201,18 +201,18 @@ module _ (fits : Ty → Bool) (s : Schema) (l : ℕ) (b : List ℕ) (w : whole l
       (rw (is-action l b w k .is, e, f) (ap ok (names-of-entries (dec (l - 1)) (rd b 3) (part 5 (5 + 5 * rd b 3) b) (rest (5 + 5 * rd b 3) b))), h),
     )
 
-  module _ (few : length b ≤ 4096) (room : length o ≡ 4096) (n : ℕ) (es : List ℕ) where
+  module _ (few : length b ≤ length o) (size : length o ≤ mostBytes) (n : ℕ) (es : List ℕ) where
     pub record-entered : kind b ≡ 8 → n ≡ rd b 2 → es ≡ part 4 (tableEnd attrRow 2 b) b → Entered n es o
     record-entered k e f =
         let v = is-record l b w k in
         let z = ap length f ∙ length-part 4 (4 + 5 * rd b 2) b (v .fit) in
-        record { sized = omega (arith, z, e); room = omega (arith, v .fit, e); size = room }
+        record { sized = omega (arith, z, e); room = omega (arith, v .fit, e); size = size }
 
     pub action-entered : kind b ≡ 11 → n ≡ rd b 3 → es ≡ part 5 (tableEnd attrRow 3 b) b → Entered n es o
     action-entered k e f =
         let v = is-action l b w k in
         let z = ap length f ∙ length-part 5 (5 + 5 * rd b 3) b (v .fit) in
-        record { sized = omega (arith, z, e); room = omega (arith, v .fit, e); size = room }
+        record { sized = omega (arith, z, e); room = omega (arith, v .fit, e); size = size }
 
   pub other-all : (((Unit {0} × (kind b ≡ 10 → ⊥)) × (kind b ≡ 8 → ⊥)) × (kind b ≡ 11 → ⊥)) → NamedBy (allNames fits s (dec l b)) o o (Of 0)
   other-all n = ([], (none-all, record { bytes = refl; many = refl }))

@@ -1,3 +1,4 @@
+use Rattle.forms.specs.Limits.{asLimits}
 use Rattle.schemas.specs.Laws.Finders.{entity-at, entity-not, action-at, action-not}
 use Rattle.attributes.specs.Laws.Literal.{literal-action, literal-no-action, literal-entity, literal-no-entity}
 use borrow.Author.Needs.{needs}
@@ -9,23 +10,18 @@ use Rattle.schemas.proofs.entries.find_action.Reads as find-action-reads
 use Rattle.schemas.proofs.entries.find_entity.Reads as find-entity-reads
 use Rattle.schemas.proofs.order.is_action.Reads as is-action-reads
 
--- src/euid_literal.rt:30:8
 is-action-requires : tie.Need-is-action-requires
 is-action-requires c κs = search needs
 
--- src/euid_literal.rt:31:45
 find-action-requires : tie.Need-find-action-requires
 find-action-requires c κs = search needs
 
--- src/euid_literal.rt:31:31
 enum-known-start : tie.Need-enum-known-start
 enum-known-start c = search needs
 
--- src/euid_literal.rt:32:13
 enum-told : tie.Need-enum-told
 enum-told c = search needs
 
--- src/euid_literal.rt:32:13
 returns : tie.Need-returns
 returns c =
     let find-action = c .before .before .find-action in
@@ -34,9 +30,8 @@ returns c =
     let start = c .before .before .before .before .before .before in
     let args = start .args in
     let by-action-not = action-not (start .pre) (args .entity) (args .id) (find-action .result) (find-action .ensures) (c .enum-told .given .1) in
-    literal-no-action (args .schema .now) (args .entity) (args .id) (is-action .result) (is-action .ensures) (if1 .taken) by-action-not
+    literal-no-action (asLimits (args .«at» .limits)) (start .pre .fair) (args .schema .now) (args .entity) (args .id) (is-action .result) (is-action .ensures) (if1 .taken) by-action-not
 
--- src/euid_literal.rt:34:9
 returns-2 : tie.Need-returns-2
 returns-2 c =
     let start-step = c .before .start in
@@ -47,21 +42,18 @@ returns-2 c =
     let args = start .args in
     let by-action-at = action-at (start .pre) (args .entity) (args .id) (find-action .result) (find-action .ensures) (start-step .given .0 .0)
     (start-step .given .0 .1 .0) (start-step .given .0 .1 .1 .0) (start-step .given .1) in
-    literal-action (args .schema .now) (args .entity) (args .id) (is-action .result) (is-action .ensures) (start-step .given .0 .1 .0)
+    literal-action (asLimits (args .«at» .limits)) (start .pre .fair) (args .schema .now) (args .entity) (args .id) (is-action .result) (is-action .ensures) (start-step .given .0 .1 .0)
     (start-step .given .0 .1 .1 .0) (if1 .taken) by-action-at
 
--- src/euid_literal.rt:36:35
 find-entity-requires : tie.Need-find-entity-requires
 find-entity-requires c κs = search needs
 
 enum-told-2 : tie.Need-enum-told-2
 enum-told-2 c = search needs
 
--- src/euid_literal.rt:37:9
 enum-told-3 : tie.Need-enum-told-3
 enum-told-3 c = search needs
 
--- src/euid_literal.rt:37:9
 returns-3 : tie.Need-returns-3
 returns-3 c =
     let find-entity = c .before .before .find-entity in
@@ -70,9 +62,8 @@ returns-3 c =
     let start = c .before .before .before .before .before .before in
     let args = start .args in
     let by-entity-not = entity-not (start .pre) (args .entity) (find-entity .result) (find-entity .ensures) (c .enum-told3 .given .1) in
-    literal-no-entity (args .schema .now) (args .entity) (args .id) (is-action .result) (is-action .ensures) (if1 .left) by-entity-not
+    literal-no-entity (asLimits (args .«at» .limits)) (start .pre .fair) (args .schema .now) (args .entity) (args .id) (is-action .result) (is-action .ensures) (if1 .left) by-entity-not
 
--- src/euid_literal.rt:26:1
 returns-4 : tie.Need-returns-4
 returns-4 c =
     let find-entity = c .before .before .find-entity in
@@ -82,7 +73,7 @@ returns-4 c =
     let args = start .args in
     let by-entity-at = entity-at (start .pre) (args .entity) (find-entity .result) (find-entity .ensures) (c .enum-told2 .given .0 .0)
     (c .enum-told2 .given .0 .1 .0) (c .enum-told2 .given .0 .1 .1 .0) (c .enum-told2 .given .1) in
-    literal-entity (args .schema .now) (args .entity) (args .id) (is-action .result) (is-action .ensures) (c .enum-told2 .given .0 .1 .0)
+    literal-entity (asLimits (args .«at» .limits)) (start .pre .fair) (args .schema .now) (args .entity) (args .id) (is-action .result) (is-action .ensures) (c .enum-told2 .given .0 .1 .0)
     (c .enum-told2 .given .0 .1 .1 .0) (if1 .left) by-entity-at
 
 pub find-literal-spec : {M : Type 1} → statement M

@@ -2,8 +2,7 @@ use native.Mathlib.Omega.{arith}
 use mathlib.Core.Path.{ap}
 use Rattle.forms.specs.Laws.Parts.{length-part}
 use Rattle.attributes.specs.Literal.{literalLength}
-use Rattle.forms.specs.Laws.Bytes.{Bytes-index}
-use Rattle.attributes.specs.Laws.Literal.{standing-body, action-room, copy-room, action-written, entity-written}
+use Rattle.attributes.specs.Laws.Literal.{laid-body, action-room, copy-room, action-written, entity-written}
 use borrow.Author.Needs.{needs}
 use Rattle.attributes.proofs.euid_literal.write_literal.Statement.{statement}
 use Rattle.attributes.proofs.euid_literal.write_literal.Tie as tie
@@ -13,33 +12,28 @@ use Rattle.writing.proofs.writers.copy.Reads as copy-reads
 use Rattle.writing.proofs.writers.put_entity.Reads as put-entity-reads
 use Rattle.writing.proofs.writers.put_kind.Reads as put-kind-reads
 
--- src/euid_literal.rt:65:25
 enum-known-found : tie.Need-enum-known-found
 enum-known-found c = search needs
 
--- src/euid_literal.rt:66:24
 sub-body : tie.Need-sub-body
 sub-body c =
     let found = c .before .found in
     let start = c .before .before .before .before .before in
     let args = start .args in
-    let by-standing-body = standing-body (args .schema .now) (args .found) (found .given .0 .0) (found .given .0 .1 .0) (found .given .1) (start .pre .0) in
-    omega (arith, by-standing-body .order, by-standing-body .inside)
+    let by-laid-body = laid-body (args .schema .now) (args .found) (found .given .0 .0) (found .given .0 .1 .0) (found .given .1) (start .pre .0) in
+    omega (arith, by-laid-body .0, by-laid-body .1)
 
--- src/euid_literal.rt:66:24
 part-body-start : tie.Need-part-body-start
 part-body-start c = sub-body c
 
--- src/euid_literal.rt:66:24
 part-body-end : tie.Need-part-body-end
 part-body-end c =
     let found = c .before .found in
     let start = c .before .before .before .before .before in
     let args = start .args in
-    let by-standing-body = standing-body (args .schema .now) (args .found) (found .given .0 .0) (found .given .0 .1 .0) (found .given .1) (start .pre .0) in
-    omega (arith, by-standing-body .order, by-standing-body .inside)
+    let by-laid-body = laid-body (args .schema .now) (args .found) (found .given .0 .0) (found .given .0 .1 .0) (found .given .1) (start .pre .0) in
+    omega (arith, by-laid-body .0, by-laid-body .1)
 
--- src/euid_literal.rt:67:13
 put-kind-requires : tie.Need-put-kind-requires
 put-kind-requires c κs =
     let found = c .before .before .before .found in
@@ -47,13 +41,11 @@ put-kind-requires c κs =
     let start = c .before .before .before .before .before .before .before in
     let pre = start .pre in
     let args = start .args in
-    let by-Bytes-index = Bytes-index (args .schema .now) (λ i. omega (arith, shared-slice-known .given i)) in
-    let by-standing-body = standing-body (args .schema .now) (args .found) (found .given .0 .0) (found .given .0 .1 .0) (found .given .1) (pre .0) in
-    let by-action-room = action-room (args .schema .now) (found .given .0 .0) (found .given .0 .1 .0) by-Bytes-index by-standing-body (args .found)
+    let by-laid-body = laid-body (args .schema .now) (args .found) (found .given .0 .0) (found .given .0 .1 .0) (found .given .1) (pre .0) in
+    let by-action-room = action-room (args .schema .now) (found .given .0 .0) (found .given .0 .1 .0) by-laid-body (args .found)
     (found .given .1) (args .out .now) (pre .1 .1) in
     (omega (arith, by-action-room .0, by-action-room .1), pre .1 .0)
 
--- src/euid_literal.rt:68:18
 sub-copy : tie.Need-sub-copy
 sub-copy c =
     let found = c .before .before .before .before .before .before .found in
@@ -61,21 +53,17 @@ sub-copy c =
     let start = c .before .before .before .before .before .before .before .before .before .before in
     let pre = start .pre in
     let args = start .args in
-    let by-Bytes-index = Bytes-index (args .schema .now) (λ i. omega (arith, shared-slice-known .given i)) in
-    let by-standing-body = standing-body (args .schema .now) (args .found) (found .given .0 .0) (found .given .0 .1 .0) (found .given .1) (pre .0) in
-    let by-action-room = action-room (args .schema .now) (found .given .0 .0) (found .given .0 .1 .0) by-Bytes-index by-standing-body (args .found)
+    let by-laid-body = laid-body (args .schema .now) (args .found) (found .given .0 .0) (found .given .0 .1 .0) (found .given .1) (pre .0) in
+    let by-action-room = action-room (args .schema .now) (found .given .0 .0) (found .given .0 .1 .0) by-laid-body (args .found)
     (found .given .1) (args .out .now) (pre .1 .1) in
     omega (arith, by-action-room .1, by-action-room .2)
 
--- src/euid_literal.rt:68:18
 part-copy-start : tie.Need-part-copy-start
 part-copy-start c = sub-copy c
 
--- src/euid_literal.rt:68:18
 part-copy-end : tie.Need-part-copy-end
 part-copy-end c = search needs
 
--- src/euid_literal.rt:68:30
 sub-copy-2 : tie.Need-sub-copy-2
 sub-copy-2 c =
     let put-kind = c .before .before .before .put-kind in
@@ -83,21 +71,17 @@ sub-copy-2 c =
     let shared-slice-known = c .before .before .before .before .before .before .before .before .before .before .shared-slice-known in
     let start = c .before .before .before .before .before .before .before .before .before .before .before in
     let args = start .args in
-    let by-Bytes-index = Bytes-index (args .schema .now) (λ i. omega (arith, shared-slice-known .given i)) in
-    let by-standing-body = standing-body (args .schema .now) (args .found) (found .given .0 .0) (found .given .0 .1 .0) (found .given .1) (start .pre .0) in
-    let by-copy-room = copy-room (args .schema .now) (found .given .0 .0) (found .given .0 .1 .0) by-Bytes-index by-standing-body (args .entity) (args .found)
+    let by-laid-body = laid-body (args .schema .now) (args .found) (found .given .0 .0) (found .given .0 .1 .0) (found .given .1) (start .pre .0) in
+    let by-copy-room = copy-room (args .schema .now) (found .given .0 .0) (found .given .0 .1 .0) by-laid-body (args .entity) (args .found)
     (found .given .1) (args .out .now) (put-kind .last .0) (start .pre .1 .1) (put-kind .ensures) in
     omega (arith, by-copy-room .0)
 
--- src/euid_literal.rt:68:30
 part-copy-start-2 : tie.Need-part-copy-start-2
 part-copy-start-2 c = sub-copy-2 c
 
--- src/euid_literal.rt:68:30
 part-copy-end-2 : tie.Need-part-copy-end-2
 part-copy-end-2 c = search needs
 
--- src/euid_literal.rt:68:13
 copy-requires : tie.Need-copy-requires
 copy-requires c κs =
     let put-kind = c .before .before .before .before .put-kind in
@@ -105,16 +89,13 @@ copy-requires c κs =
     let shared-slice-known = c .before .before .before .before .before .before .before .before .before .before .before .shared-slice-known in
     let start = c .before .before .before .before .before .before .before .before .before .before .before .before in
     let args = start .args in
-    let by-Bytes-index = Bytes-index (args .schema .now) (λ i. omega (arith, shared-slice-known .given i)) in
-    let by-standing-body = standing-body (args .schema .now) (args .found) (found .given .0 .0) (found .given .0 .1 .0) (found .given .1) (start .pre .0) in
-    copy-room (args .schema .now) (found .given .0 .0) (found .given .0 .1 .0) by-Bytes-index by-standing-body (args .entity) (args .found) (found .given .1)
+    let by-laid-body = laid-body (args .schema .now) (args .found) (found .given .0 .0) (found .given .0 .1 .0) (found .given .1) (start .pre .0) in
+    copy-room (args .schema .now) (found .given .0 .0) (found .given .0 .1 .0) by-laid-body (args .entity) (args .found) (found .given .1)
     (args .out .now) (put-kind .last .0) (start .pre .1 .1) (put-kind .ensures) .1
 
--- src/euid_literal.rt:70:39
 enum-told : tie.Need-enum-told
 enum-told c = search needs
 
--- src/euid_literal.rt:70:28
 put-entity-requires : tie.Need-put-entity-requires
 put-entity-requires c κs =
     let pre = c .before .before .before .before .before .pre in (
@@ -126,11 +107,9 @@ put-entity-requires c κs =
 enum-told-2 : tie.Need-enum-told-2
 enum-told-2 c = search needs
 
--- src/euid_literal.rt:58:1
 same-length : tie.Need-same-length
 same-length c = search needs
 
--- src/euid_literal.rt:58:1
 returns : tie.Need-returns
 returns c =
     let copy = c .before .before .copy in
@@ -140,16 +119,13 @@ returns c =
     let shared-slice-known = after-found .before .before .before .shared-slice-known in
     let start = after-found .before .before .before .before in
     let args = start .args in
-    let by-Bytes-index = Bytes-index (args .schema .now) (λ i. omega (arith, shared-slice-known .given i)) in
-    let by-standing-body = standing-body (args .schema .now) (args .found) (found .given .0 .0) (found .given .0 .1 .0) (found .given .1) (start .pre .0) in
-    action-written (args .schema .now) (found .given .0 .0) (found .given .0 .1 .0) by-Bytes-index by-standing-body (args .entity) (args .found)
+    let by-laid-body = laid-body (args .schema .now) (args .found) (found .given .0 .0) (found .given .0 .1 .0) (found .given .1) (start .pre .0) in
+    action-written (args .schema .now) (found .given .0 .0) (found .given .0 .1 .0) by-laid-body (args .entity) (args .found)
     (found .given .1) (args .out .now) (put-kind .last .0) (copy .last .1 .0) (put-kind .ensures) (copy .ensures) (start .pre .1 .1)
 
--- src/euid_literal.rt:58:1
 same-length-2 : tie.Need-same-length-2
 same-length-2 c = search needs
 
--- src/euid_literal.rt:58:1
 returns-2 : tie.Need-returns-2
 returns-2 c =
     let put-entity = c .before .before .put-entity in
@@ -157,7 +133,6 @@ returns-2 c =
     let args = c .before .before .before .before .before .before .before .before .args in
     entity-written (args .schema .now) (args .entity) (args .found) (enum-told-step .given .1) (args .out .now) (put-entity .last .0) (put-entity .ensures)
 
--- src/euid_literal.rt:58:1
 returns-3 : tie.Need-returns-3
 returns-3 c = search needs
 

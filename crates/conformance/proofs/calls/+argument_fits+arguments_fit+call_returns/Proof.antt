@@ -4,7 +4,7 @@ use Rattle.conformance.specs.Laws.Calls.{call-unknown, call-none, call-o
 use Rattle.conformance.proofs.OtherVerdicts.{no-yes}
 use Rattle.schemas.specs.SchemaBytes.{decS, argsOf}
 use Rattle.cedar.specs.Conformance.{shorter, ofArguments}
-use Rattle.cedar.specs.Limits.{standard}
+use Rattle.forms.specs.Limits.{asLimits}
 use Rattle.conformance.specs.Walks.{argumentsOf}
 use Rattle.forms.specs.ValueBytes.{memberRow, wholeV}
 use Rattle.conformance.specs.Laws.Arguments.{ArgumentsAhead, arguments-start, arguments-end, arguments-over, arguments-first, arguments-stop}
@@ -198,7 +198,7 @@ argument-fits-returns-5 t c =
 
 abbrev arguments-fit-Inv-loop : arguments-fit-lts.InvT-loop
 arguments-fit-Inv-loop schema sections asked v levels n end e₀ b₀ left₀ k₀ e b left k =
-    ArgumentsAhead levels (decS standard schema) (ofArguments shorter (decS standard schema) (argumentsOf levels v) (argsOf asked)) left e b k
+    ArgumentsAhead levels (decS (asLimits (sections .limits)) schema) (ofArguments shorter (decS (asLimits (sections .limits)) schema) (argumentsOf levels v) (argsOf asked)) left e b k
 
 abbrev arguments-fit-μ-loop : arguments-fit-lts.MeasureT-loop
 arguments-fit-μ-loop schema sections asked v levels n end e₀ b₀ left₀ k₀ e b left k = left
@@ -445,7 +445,7 @@ call-returns-returns t c =
     let s = c .before .before .before .before .before .before in
     let args = s .args in
     let by-function-not = function-not (s .pre .1 .0) (u16-at .result) (y .result) (y .ensures) (c .enum-told .given .1) in
-    call-unknown (decS standard (args .schema .now)) (u16-at .result) (rd (args .v .now) 1) (args .extension) (u16-at .ensures .0)
+    call-unknown (decS (asLimits (args .sections .limits)) (args .schema .now)) (u16-at .result) (rd (args .v .now) 1) (args .extension) (u16-at .ensures .0)
     (argumentsOf (args .levels) (args .v .now)) by-function-not
 
 -- src/calls.rt:37:9
@@ -458,7 +458,7 @@ call-returns-returns-2 t c =
     let f = f-step .given .0 .0 in
     let g = function-at (s .pre .1 .0) (u16-at .result) (y .result) (y .ensures) f (f-step .given .1) in
     let args = s .args in
-    call-none (decS standard (args .schema .now)) (u16-at .result) (rd (args .v .now) 1) (args .extension) (u16-at .ensures .0)
+    call-none (decS (asLimits (args .sections .limits)) (args .schema .now)) (u16-at .result) (rd (args .v .now) 1) (args .extension) (u16-at .ensures .0)
     (argumentsOf (args .levels) (args .v .now)) (f .returns) (f .extension) _ (g .is) (c .if1 .taken)
 
 -- src/calls.rt:40:9
@@ -472,7 +472,7 @@ call-returns-returns-3 t c =
     let f = f-step .given .0 .0 in
     let g = function-at (s .pre .1 .0) (u16-at .result) (y .result) (y .ensures) f (f-step .given .1) in
     let args = s .args in
-    call-other (decS standard (args .schema .now)) (u16-at .result) (rd (args .v .now) 1) (args .extension) (u16-at .ensures .0)
+    call-other (decS (asLimits (args .sections .limits)) (args .schema .now)) (u16-at .result) (rd (args .v .now) 1) (args .extension) (u16-at .ensures .0)
     (argumentsOf (args .levels) (args .v .now)) (f .returns) (f .extension) _ (g .is) (if1 .left) (c .if2 .taken)
 
 -- src/calls.rt:44:37
@@ -526,7 +526,7 @@ call-returns-returns-4 t c =
     let f = f-step .given .0 .0 in
     let g = function-at (s .pre .1 .0) (u16-at .result) (y .result) (y .ensures) f (f-step .given .1) in
     let args = s .args in
-    c .arguments-fit .ensures ∙ call-arguments (decS standard (args .schema .now)) (u16-at .result) (rd (args .v .now) 1) (args .extension) (u16-at .ensures .0)
+    c .arguments-fit .ensures ∙ call-arguments (decS (asLimits (args .sections .limits)) (args .schema .now)) (u16-at .result) (rd (args .v .now) 1) (args .extension) (u16-at .ensures .0)
     (argumentsOf (args .levels) (args .v .now)) (f .returns) (f .extension) _ (g .is) (if1 .left) (if2 .left)
 
 pub +argument-fits+arguments-fit+call-returns-spec : {M : Type 1} → statement M

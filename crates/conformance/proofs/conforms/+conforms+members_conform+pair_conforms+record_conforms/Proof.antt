@@ -3,7 +3,7 @@ use Rattle.conformance.specs.Laws.Records.{pair-inside, pair-whole, pair
 use Rattle.forms.specs.Laws.Attributes.{laid, past}
 use Rattle.conformance.specs.Laws.Required.{records-table}
 use Rattle.conformance.proofs.OtherVerdicts.{no-yes}
-use Rattle.cedar.specs.Limits.{standard}
+use Rattle.forms.specs.Limits.{asLimits}
 use Rattle.schemas.specs.SchemaBytes.{decS}
 use Rattle.forms.specs.TypeBytes.{attrRow, whole, dec}
 use Rattle.cedar.specs.Conformance.{shorter, eachValue, hasRequired, conforms as has, verdict}
@@ -443,8 +443,8 @@ conforms-returns-7 t c =
 
 abbrev members-conform-Inv-loop : members-conform-lts.InvT-loop
 members-conform-Inv-loop schema sections t v levels n end e₀ b₀ left₀ e b left =
-    MembersAhead levels (λ x. has shorter (decS standard schema) (dec levels t) x)
-    (eachValue (λ x. has shorter (decS standard schema) (dec levels t) x) (membersOf levels v)) left e b
+    MembersAhead levels (λ x. has shorter (decS (asLimits (sections .limits)) schema) (dec levels t) x)
+    (eachValue (λ x. has shorter (decS (asLimits (sections .limits)) schema) (dec levels t) x) (membersOf levels v)) left e b
 
 abbrev members-conform-μ-loop : members-conform-lts.MeasureT-loop
 members-conform-μ-loop schema sections t v levels n end e₀ b₀ left₀ e b left = left
@@ -804,7 +804,7 @@ pair-conforms-returns-2 t c =
 
 abbrev record-conforms-Inv-loop : record-conforms-lts.InvT-loop
 record-conforms-Inv-loop schema sections t v levels m n p q f₀ c₀ e₀ b₀ ahead₀ left₀ f c e b ahead left =
-    RecordAhead levels (decS standard schema) (isOpen t) (recordSaid (decS standard schema) (isOpen t) (attributesOf levels t) (pairsOf levels v))
+    RecordAhead levels (decS (asLimits (sections .limits)) schema) (isOpen t) (recordSaid (decS (asLimits (sections .limits)) schema) (isOpen t) (attributesOf levels t) (pairsOf levels v))
     (verdict (hasRequired (attributesOf levels t) (pairsOf levels v))) ahead f c left e b
 
 abbrev record-conforms-μ-loop : record-conforms-lts.MeasureT-loop

@@ -10,7 +10,7 @@ use Rattle.forms.specs.Parts.{part}
 use Rattle.cedar.specs.Calls.{stepFits}
 use Rattle.cedar.specs.Fold.{foldFrom}
 use Rattle.cedar.specs.Bound.{bound}
-use Rattle.cedar.specs.Limits.{standard}
+use Rattle.forms.specs.Limits.{asLimits}
 use lib.ListN.{length}
 use mathlib.Core.Path.{_≡_, refl, subst, _∙_}
 use Prim.Native.Nat.{ℕ}
@@ -19,20 +19,21 @@ use Rattle.folds.proofs.lists.fold_onto.Statement.{statement}
 use Rattle.folds.proofs.lists.fold_onto.Tie as tie
 
 abbrev Inv-loop : tie.InvT-loop
-Inv-loop mode last₀ len lengths bytes n work₀ to₀ second₀ e₀ b₀ left₀ last work to second e b left =
-    Folding (length work₀) (asMode mode) (foldFrom (stepFits standard (length work₀)) (asMode mode) (dec 16 (part 0 len last₀)) (decTs 16 n lengths bytes)) to
-    last left e b × (length work ≡ length work₀)
+Inv-loop mode last₀ len lengths bytes n limits work₀ to₀ second₀ e₀ b₀ left₀ last work to second e b left =
+    Folding (asLimits limits) (length work₀) (asMode mode)
+    (foldFrom (stepFits (asLimits limits) (length work₀)) (asMode mode) (dec (limits .levels) (part 0 len last₀)) (decTs (limits .levels) n lengths bytes)) to
+    last left e b × (length work ≡ length work₀) × (length last ≡ length last₀)
 
 abbrev μ-loop : tie.MeasureT-loop
-μ-loop mode last₀ len lengths bytes n work₀ to₀ second₀ e₀ b₀ left₀ last work to second e b left = left
+μ-loop mode last₀ len lengths bytes n limits work₀ to₀ second₀ e₀ b₀ left₀ last work to second e b left = left
 
 loop-holds : tie.Need-loop-holds Inv-loop μ-loop
 loop-holds c =
     let start = c .before .before .before .before in
     let args = start .args in
-    let by-folding-start = folding-start (length (args .work .now)) (asMode (args .mode)) (args .len) (args .last .now) (args .n) (args .lengths .now)
+    let by-folding-start = folding-start (asLimits (args .limits)) (length (args .work .now)) (asMode (args .mode)) (args .len) (args .last .now) (args .n) (args .lengths .now)
     (args .bytes .now) (start .pre .0) (start .pre .1) in
-    (by-folding-start, refl)
+    (by-folding-start, refl, refl)
 
 u16-at-requires : tie.Need-u16-at-requires Inv-loop μ-loop
 u16-at-requires c κs =
@@ -78,7 +79,7 @@ same-length c =
     let after-join-step = c .before .before .before .before .before .before .before in
     let at-loop = after-join-step .before .before .before .before .before .before in
     let start = at-loop .before .before .before .before .before in
-    after-join-step .join-step .kept .1 .0 ∙ omega (arith, at-loop .loop .inv .0 .held .room, start .pre .0 .room)
+    after-join-step .join-step .kept .1 .0 ∙ at-loop .loop .inv .2
 
 same-length-2 : tie.Need-same-length-2 Inv-loop μ-loop
 same-length-2 c =
@@ -95,9 +96,9 @@ returns c =
     let at-loop = in-loop .before in
     let start = at-loop .before .before .before .before .before in
     let join-step = after-join-step .join-step in
-    let subst-loop-inv = subst (λ (w : ℕ). Stepped 16
-    (bound (asMode (start .args .mode)) (dec 16 (part 0 (at-loop .loop .to) (at-loop .loop .last)))
-    (dec 16 (part 0 (after-u16-at .u16-at .result) (at-loop .loop .b .now)))) w (join-step .last .1 .0) (join-step .result)) (at-loop .loop .inv .1)
+    let subst-loop-inv = subst (λ (w : ℕ). Stepped (asLimits (start .args .limits))
+    (bound (asMode (start .args .mode)) (dec (start .args .limits .levels) (part 0 (at-loop .loop .to) (at-loop .loop .last)))
+    (dec (start .args .limits .levels) (part 0 (after-u16-at .u16-at .result) (at-loop .loop .b .now)))) w (join-step .last .1 .0) (join-step .result)) (at-loop .loop .inv .1)
     (join-step .ensures) in
     folding-not (at-loop .loop .inv .0) (in-loop .loop-test .taken) (after-u16-at .u16-at .result) (after-u16-at .u16-at .ensures .0) (join-step .last .1 .0)
     (join-step .result) subst-loop-inv (after-reason .reason .given .0 .0) (after-reason .reason .given .1)
@@ -110,7 +111,7 @@ same-length-3 c =
     let after-join-step = c .before .before .before .before .before .before in
     let at-loop = after-join-step .before .before .before .before .before .before in
     let start = at-loop .before .before .before .before .before in
-    after-join-step .join-step .kept .1 .0 ∙ omega (arith, at-loop .loop .inv .0 .held .room, start .pre .0 .room)
+    after-join-step .join-step .kept .1 .0 ∙ at-loop .loop .inv .2
 
 same-length-4 : tie.Need-same-length-4 Inv-loop μ-loop
 same-length-4 c =
@@ -126,9 +127,9 @@ returns-2 c =
     let at-loop = in-loop .before in
     let start = at-loop .before .before .before .before .before in
     let join-step = after-join-step .join-step in
-    let subst-loop-inv = subst (λ (w : ℕ). Stepped 16
-    (bound (asMode (start .args .mode)) (dec 16 (part 0 (at-loop .loop .to) (at-loop .loop .last)))
-    (dec 16 (part 0 (after-u16-at .u16-at .result) (at-loop .loop .b .now)))) w (join-step .last .1 .0) (join-step .result)) (at-loop .loop .inv .1)
+    let subst-loop-inv = subst (λ (w : ℕ). Stepped (asLimits (start .args .limits))
+    (bound (asMode (start .args .mode)) (dec (start .args .limits .levels) (part 0 (at-loop .loop .to) (at-loop .loop .last)))
+    (dec (start .args .limits .levels) (part 0 (after-u16-at .u16-at .result) (at-loop .loop .b .now)))) w (join-step .last .1 .0) (join-step .result)) (at-loop .loop .inv .1)
     (join-step .ensures) in
     folding-too-long (at-loop .loop .inv .0) (in-loop .loop-test .taken) (after-u16-at .u16-at .result) (after-u16-at .u16-at .ensures .0)
     (join-step .last .1 .0) (join-step .result) subst-loop-inv (c .enum-told .given .1)
@@ -184,18 +185,17 @@ loop-again c =
     let at-loop = in-loop .before in
     let start = at-loop .before .before .before .before .before in
     let join-step = after-join-step .join-step in
-    let subst-loop-inv = subst (λ (w : ℕ). Stepped 16
-    (bound (asMode (start .args .mode)) (dec 16 (part 0 (at-loop .loop .to) (at-loop .loop .last)))
-    (dec 16 (part 0 (after-u16-at .u16-at .result) (at-loop .loop .b .now)))) w (join-step .last .1 .0) (join-step .result)) (at-loop .loop .inv .1)
+    let subst-loop-inv = subst (λ (w : ℕ). Stepped (asLimits (start .args .limits))
+    (bound (asMode (start .args .mode)) (dec (start .args .limits .levels) (part 0 (at-loop .loop .to) (at-loop .loop .last)))
+    (dec (start .args .limits .levels) (part 0 (after-u16-at .u16-at .result) (at-loop .loop .b .now)))) w (join-step .last .1 .0) (join-step .result)) (at-loop .loop .inv .1)
     (join-step .ensures) in
     let by-folding-next = folding-next (at-loop .loop .inv .0) (in-loop .loop-test .taken) (after-u16-at .u16-at .result) (after-u16-at .u16-at .ensures .0)
     (join-step .last .1 .0) (join-step .result) subst-loop-inv (after-m .m .given .0 .0) (after-m .m .given .1) in
-    (by-folding-next, join-step .kept .1 .1 .1 .1 .1 .1 .0 ∙ at-loop .loop .inv .1)
+    (by-folding-next, join-step .kept .1 .1 .1 .1 .1 .1 .0 ∙ at-loop .loop .inv .1, join-step .kept .1 .0 ∙ at-loop .loop .inv .2)
 
 same-length-5 : tie.Need-same-length-5 Inv-loop μ-loop
 same-length-5 c =
-    let start = c .before .before .before .before .before .before in
-    omega (arith, c .before .loop .inv .0 .held .room, start .pre .0 .room)
+    c .before .loop .inv .2
 
 same-length-6 : tie.Need-same-length-6 Inv-loop μ-loop
 same-length-6 c =

@@ -69,7 +69,7 @@ same-length-3 c = search needs
 
 returns-3 : tie.Need-returns-3
 returns-3 c =
-    let after-n = c .before .before .before in
+    let after-n = c .before .before .before .before in
     let after-bound-length = after-n .before .before in
     let after-shared-slice-known = after-bound-length .before .before .before .before in
     let after-slice-known = after-shared-slice-known .before in
@@ -103,7 +103,7 @@ part-write-bound-end-2 c = search needs
 write-bound-requires : tie.Need-write-bound-requires
 write-bound-requires c κs =
     let else2 = c .before .before .before .before in
-    let else1 = else2 .before in
+    let else1 = else2 .before .before in
     let after-n = else1 .before .before in
     let after-bound-length = after-n .before .before in
     let after-shared-slice-known = after-bound-length .before .before .before .before in
@@ -148,7 +148,7 @@ returns-4 c =
     let after-copy = c .before .before in
     let after-write-bound = after-copy .before .before .before .before .before .before in
     let else2 = after-write-bound .before .before .before .before .before in
-    let else1 = else2 .before in
+    let else1 = else2 .before .before in
     let after-n = else1 .before .before in
     let after-bound-length = after-n .before .before in
     let after-shared-slice-known = after-bound-length .before .before .before .before in
@@ -179,13 +179,13 @@ slice-relend-prefix-write-bound c = search needs
 
 slice-aggregate-write-bound : tie.Need-slice-aggregate-write-bound
 slice-aggregate-write-bound c =
-    let start = c .before .before .before .before .before .before .before .before .before .before .before .before .before .before .before in
+    let start = c .before .before .before .before .before .before .before .before .before .before .before .before .before .before .before .before in
     sym (length-take (length (start .args .work .now) / 2) (start .args .work .now) ∙ omega arith)
 
 write-bound-requires-2 : tie.Need-write-bound-requires-2
 write-bound-requires-2 c κs =
     let else2 = c .before .before .before .before in
-    let else1 = else2 .before in
+    let else1 = else2 .before .before in
     let after-n = else1 .before .before in
     let after-bound-length = after-n .before .before in
     let after-shared-slice-known = after-bound-length .before .before .before .before in
@@ -227,7 +227,7 @@ returns-5 c =
     let after-copy = c .before .before in
     let after-write-bound = after-copy .before .before .before .before .before .before in
     let else2 = after-write-bound .before .before .before .before .before in
-    let else1 = else2 .before in
+    let else1 = else2 .before .before in
     let after-n = else1 .before .before in
     let after-bound-length = after-n .before .before in
     let after-shared-slice-known = after-bound-length .before .before .before .before in

@@ -3,7 +3,7 @@ use Prim.Native.Nat.{ℕ}
 use mathlib.Core.List.{List}
 use mathlib.Core.Path.{subst}
 use lib.ListN.{length}
-use Rattle.cedar.specs.Limits.{standard}
+use Rattle.forms.specs.Limits.{asLimits}
 use Rattle.cedar.specs.Result.{Result}
 use Rattle.cedar.specs.Calls.{stepFits}
 use Rattle.forms.specs.Laws.Views.{not-empty, is-entity, is-record, is-action}
@@ -18,12 +18,12 @@ use Rattle.lookups.proofs.all_attributes.all_names.Tie as tie
 shared-slice-read-k : tie.Need-shared-slice-read-k
 shared-slice-read-k c =
     let start = c .before .before .before .before .before .before in
-    not-empty 16 (start .args .t .now) (start .pre .1 .0 .good)
+    not-empty (start .args .«at» .limits .levels) (start .args .t .now) (start .pre .1 .0 .good)
 
 sub-entity-names : tie.Need-sub-entity-names
 sub-entity-names c =
     let start = c .before .before .before .before .before .before .before in
-    omega (arith, is-entity 16 (start .args .t .now) (start .pre .1 .0 .good) (c .match .keys1) .sized)
+    omega (arith, is-entity (start .args .«at» .limits .levels) (start .args .t .now) (start .pre .1 .0 .good) (c .match .keys1) .sized)
 
 part-entity-names-start : tie.Need-part-entity-names-start
 part-entity-names-start c = sub-entity-names c
@@ -34,7 +34,7 @@ part-entity-names-end c = search needs
 u16-at-requires : tie.Need-u16-at-requires
 u16-at-requires c κs =
     let start = c .before .before .before .before .before .before .before .before in
-    omega (arith, is-entity 16 (start .args .t .now) (start .pre .1 .0 .good) (c .before .match .keys1) .some)
+    omega (arith, is-entity (start .args .«at» .limits .levels) (start .args .t .now) (start .pre .1 .0 .good) (c .before .match .keys1) .some)
 
 entity-names-requires : tie.Need-entity-names-requires
 entity-names-requires c κs =
@@ -43,19 +43,19 @@ entity-names-requires c κs =
     let start = c .before .before .before .before .before .before .before .before .before .before .before .before in
     let pre = start .pre in
     let args = start .args in
-    let by-entity-named = entity-named (stepFits standard (length (args .work .now))) (decS standard (args .schema .now)) 0 16 (args .t .now) (pre .1 .0 .good)
+    let by-entity-named = entity-named (stepFits (asLimits (args .«at» .limits)) (length (args .work .now))) (decS (asLimits (args .«at» .limits)) (args .schema .now)) 0 (args .«at» .limits .levels) (args .t .now) (pre .1 .0 .good)
     (match-keys1 .keys1) (u16-at .result) (u16-at .ensures .0) in
     (pre .0, (by-entity-named, (pre .1 .0 .room, pre .1 .1)))
 
 entries-at-requires : tie.Need-entries-at-requires
 entries-at-requires c κs =
     let start = c .before .before .before .before .before .before .before in
-    (omega arith, is-record 16 (start .args .t .now) (start .pre .1 .0 .good) (c .match .keys2) .fit)
+    (omega arith, is-record (start .args .«at» .limits .levels) (start .args .t .now) (start .pre .1 .0 .good) (c .match .keys2) .fit)
 
 u16-at-requires-2 : tie.Need-u16-at-requires-2
 u16-at-requires-2 c κs =
     let start = c .before .before .before .before .before .before .before .before in
-    omega (arith, is-record 16 (start .args .t .now) (start .pre .1 .0 .good) (c .before .match .keys2) .some)
+    omega (arith, is-record (start .args .«at» .limits .levels) (start .args .t .now) (start .pre .1 .0 .good) (c .before .match .keys2) .some)
 
 write-names-requires : tie.Need-write-names-requires
 write-names-requires c κs =
@@ -65,18 +65,18 @@ write-names-requires c κs =
     let start = c .before .before .before .before .before .before .before .before .before .before in
     let pre = start .pre in
     let args = start .args in
-    record-entered (stepFits standard (length (args .work .now))) (decS standard (args .schema .now)) 16 (args .t .now) (pre .1 .0 .good) (args .kept .now)
-    (pre .1 .0 .few) (pre .1 .1) (u16-at2 .result) _ (match-keys2 .keys2) (u16-at2 .ensures .0) (entries-at .ensures)
+    record-entered (stepFits (asLimits (args .«at» .limits)) (length (args .work .now))) (decS (asLimits (args .«at» .limits)) (args .schema .now)) (args .«at» .limits .levels) (args .t .now) (pre .1 .0 .good) (args .kept .now)
+    (omega (arith, pre .1 .0 .few, pre .1 .1 .0)) (pre .1 .1 .1) (u16-at2 .result) _ (match-keys2 .keys2) (u16-at2 .ensures .0) (entries-at .ensures)
 
 entries-at-requires-2 : tie.Need-entries-at-requires-2
 entries-at-requires-2 c κs =
     let start = c .before .before .before .before .before .before .before in
-    (omega arith, is-action 16 (start .args .t .now) (start .pre .1 .0 .good) (c .match .keys3) .fit)
+    (omega arith, is-action (start .args .«at» .limits .levels) (start .args .t .now) (start .pre .1 .0 .good) (c .match .keys3) .fit)
 
 u16-at-requires-3 : tie.Need-u16-at-requires-3
 u16-at-requires-3 c κs =
     let start = c .before .before .before .before .before .before .before .before in
-    omega (arith, is-action 16 (start .args .t .now) (start .pre .1 .0 .good) (c .before .match .keys3) .some)
+    omega (arith, is-action (start .args .«at» .limits .levels) (start .args .t .now) (start .pre .1 .0 .good) (c .before .match .keys3) .some)
 
 write-names-requires-2 : tie.Need-write-names-requires-2
 write-names-requires-2 c κs =
@@ -86,8 +86,8 @@ write-names-requires-2 c κs =
     let start = c .before .before .before .before .before .before .before .before .before .before in
     let pre = start .pre in
     let args = start .args in
-    action-entered (stepFits standard (length (args .work .now))) (decS standard (args .schema .now)) 16 (args .t .now) (pre .1 .0 .good) (args .kept .now)
-    (pre .1 .0 .few) (pre .1 .1) (u16-at3 .result) _ (match-keys3 .keys3) (u16-at3 .ensures .0) (entries-at2 .ensures)
+    action-entered (stepFits (asLimits (args .«at» .limits)) (length (args .work .now))) (decS (asLimits (args .«at» .limits)) (args .schema .now)) (args .«at» .limits .levels) (args .t .now) (pre .1 .0 .good) (args .kept .now)
+    (omega (arith, pre .1 .0 .few, pre .1 .1 .0)) (pre .1 .1 .1) (u16-at3 .result) _ (match-keys3 .keys3) (u16-at3 .ensures .0) (entries-at2 .ensures)
 
 same-length : tie.Need-same-length
 same-length c = search needs
@@ -106,7 +106,7 @@ returns c =
     let match-keys1 = after-u16-at .before .before .match in
     let start = after-u16-at .before .before .before .before .before .before .before .before .before in
     let args = start .args in
-    let by-entity-all = entity-all (stepFits standard (length (args .work .now))) (decS standard (args .schema .now)) 16 (args .t .now) (start .pre .1 .0 .good)
+    let by-entity-all = entity-all (stepFits (asLimits (args .«at» .limits)) (length (args .work .now))) (decS (asLimits (args .«at» .limits)) (args .schema .now)) (args .«at» .limits .levels) (args .t .now) (start .pre .1 .0 .good)
     (args .kept .now) (match-keys1 .keys1) (u16-at .result) (u16-at .ensures .0) in
     subst (λ (r : Result (List ℕ)). NamedBy r (args .kept .now) (entity-names .last .1 .1 .1 .1 .1 .1 .0) (entity-names .result))
     by-entity-all (entity-names .ensures)
@@ -123,7 +123,7 @@ returns-2 c =
     let match-keys2 = at-match-keys2 .match in
     let start = at-match-keys2 .before .before .before .before .before .before .before in
     let args = start .args in
-    record-all (stepFits standard (length (args .work .now))) (decS standard (args .schema .now)) 16 (args .t .now) (start .pre .1 .0 .good) (args .kept .now)
+    record-all (stepFits (asLimits (args .«at» .limits)) (length (args .work .now))) (decS (asLimits (args .«at» .limits)) (args .schema .now)) (args .«at» .limits .levels) (args .t .now) (start .pre .1 .0 .good) (args .kept .now)
     (u16-at2 .result) _ (write-names .last .1 .1 .0) (write-names .result) (write-names .ensures) (match-keys2 .keys2) (u16-at2 .ensures .0)
     (entries-at .ensures)
 
@@ -139,7 +139,7 @@ returns-3 c =
     let match-keys3 = at-match-keys3 .match in
     let start = at-match-keys3 .before .before .before .before .before .before .before in
     let args = start .args in
-    action-all (stepFits standard (length (args .work .now))) (decS standard (args .schema .now)) 16 (args .t .now) (start .pre .1 .0 .good) (args .kept .now)
+    action-all (stepFits (asLimits (args .«at» .limits)) (length (args .work .now))) (decS (asLimits (args .«at» .limits)) (args .schema .now)) (args .«at» .limits .levels) (args .t .now) (start .pre .1 .0 .good) (args .kept .now)
     (u16-at3 .result) _ (write-names2 .last .1 .1 .0) (write-names2 .result) (write-names2 .ensures) (match-keys3 .keys3) (u16-at3 .ensures .0)
     (entries-at2 .ensures)
 
@@ -147,7 +147,7 @@ returns-4 : tie.Need-returns-4
 returns-4 c =
     let start = c .before .before .before .before .before .before .before in
     let args = start .args in
-    other-all (stepFits standard (length (args .work .now))) (decS standard (args .schema .now)) 16 (args .t .now) (start .pre .1 .0 .good) (args .kept .now)
+    other-all (stepFits (asLimits (args .«at» .limits)) (length (args .work .now))) (decS (asLimits (args .«at» .limits)) (args .schema .now)) (args .«at» .limits .levels) (args .t .now) (start .pre .1 .0 .good) (args .kept .now)
     (c .match .rest)
 
 pub all-names-spec : {M : Type 1} → statement M

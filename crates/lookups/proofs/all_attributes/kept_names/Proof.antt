@@ -1,9 +1,9 @@
 use borrow.Author.Needs.{needs}
 use native.Mathlib.Omega.{arith}
 use Prim.Native.Nat.{ℕ}
-use mathlib.Core.Path.{_≡_, refl, sym, subst, _∙_}
+use mathlib.Core.Path.{_≡_, refl, subst, _∙_}
 use lib.ListN.{length}
-use Rattle.cedar.specs.Limits.{standard}
+use Rattle.forms.specs.Limits.{asLimits}
 use Rattle.cedar.specs.Attribute.{lookupNames, keepFound}
 use Rattle.cedar.specs.Calls.{stepFits}
 use Rattle.forms.specs.TypeBytes.{namesBy}
@@ -15,21 +15,21 @@ use Rattle.lookups.proofs.all_attributes.kept_names.Statement.{statemen
 use Rattle.lookups.proofs.all_attributes.kept_names.Tie as tie
 
 abbrev Inv-loop : tie.InvT-loop
-Inv-loop schema at types n es m last₀ work₀ kept₀ e₀ left₀ pos₀ last work kept e left pos =
-    Keeping (λ (a : ℕ). lookupNames (stepFits standard (length work₀)) (decS standard schema) a (namesBy 2 n types))
-    (keepFound (λ (a : ℕ). lookupNames (stepFits standard (length work₀)) (decS standard schema) a (namesBy 2 n types)) (namesBy 5 m es)) left e kept₀ pos
-    kept × (length work ≡ length work₀) × (length last ≡ 4096)
+Inv-loop schema sections types n es m last₀ work₀ kept₀ e₀ left₀ pos₀ last work kept e left pos =
+    Keeping (λ (a : ℕ). lookupNames (stepFits (asLimits (sections .limits)) (length work₀)) (decS (asLimits (sections .limits)) schema) a (namesBy 2 n types))
+    (keepFound (λ (a : ℕ). lookupNames (stepFits (asLimits (sections .limits)) (length work₀)) (decS (asLimits (sections .limits)) schema) a (namesBy 2 n types)) (namesBy 5 m es)) left e kept₀ pos
+    kept × (length work ≡ length work₀) × (length last ≡ length last₀)
 
 abbrev μ-loop : tie.MeasureT-loop
-μ-loop schema at types n es m last₀ work₀ kept₀ e₀ left₀ pos₀ last work kept e left pos = left
+μ-loop schema sections types n es m last₀ work₀ kept₀ e₀ left₀ pos₀ last work kept e left pos = left
 
 loop-holds : tie.Need-loop-holds Inv-loop μ-loop
 loop-holds c =
     let start = c .before .before .before .before .before .before in
     let args = start .args in
-    let by-keeping-start = keeping-start (λ (a : ℕ). lookupNames (stepFits standard (length (args .work .now))) (decS standard (args .schema .now))
+    let by-keeping-start = keeping-start (λ (a : ℕ). lookupNames (stepFits (asLimits (args .«at» .limits)) (length (args .work .now))) (decS (asLimits (args .«at» .limits)) (args .schema .now))
     a (namesBy 2 (args .n) (args .types .now))) (args .m) (args .es .now) (args .kept .now) (start .pre .1 .1 .1) in
-    (by-keeping-start, refl, start .pre .1 .1 .0)
+    (by-keeping-start, refl, refl)
 
 u16-at-requires : tie.Need-u16-at-requires Inv-loop μ-loop
 u16-at-requires c κs = omega (arith, (c .before) .loop .inv .0 .sized)
@@ -38,7 +38,7 @@ look-up-types-requires : tie.Need-look-up-types-requires Inv-loop μ-loop
 look-up-types-requires c κs =
     let loop = c .before .before .before .before .loop in
     let pre = c .before .before .before .before .before .before .before .before .before .before .before .pre in
-    (pre .0, (pre .1 .0, loop .inv .2))
+    (pre .0, (pre .1 .0, omega (arith, loop .inv .2, pre .1 .1 .0)))
 
 too-long-requires : tie.Need-too-long-requires Inv-loop μ-loop
 too-long-requires c κs = search needs
@@ -48,8 +48,7 @@ same-length c =
     let look-up-types = c .before .before .before .before .before .before .look-up-types in
     let at-loop = c .before .before .before .before .before .before .before .before .before .before .before in
     let loop = at-loop .loop in
-    let pre = at-loop .before .before .before .before .before .before .before .pre in
-    look-up-types .kept .1 .1 .1 .1 .1 .0 ∙ loop .inv .2 ∙ sym (pre .1 .1 .0)
+    look-up-types .kept .1 .1 .1 .1 .1 .0 ∙ loop .inv .2
 
 same-length-2 : tie.Need-same-length-2 Inv-loop μ-loop
 same-length-2 c =
@@ -71,9 +70,9 @@ returns c =
     let loop-test = after-u16-at .before .loop-test in
     let loop = after-u16-at .before .before .loop in
     let args = after-u16-at .before .before .before .before .before .before .before .before .before .args in
-    keeping-too-long (loop .inv .0) (loop-test .taken) (u16-at .result) (u16-at .ensures .0) (look-up-types .last .1 .1 .1 .1 .1 .0) (look-up-types .result)
+    keeping-too-long (loop .inv .0) (asLimits (args .«at» .limits)) (loop-test .taken) (u16-at .result) (u16-at .ensures .0) (look-up-types .last .1 .1 .1 .1 .1 .0) (look-up-types .result)
     (subst (λ (w : ℕ).
-    LookedUp (lookupNames (stepFits standard w) (decS standard (args .schema .now)) (u16-at .result) (namesBy 2 (args .n) (args .types .now)))
+    LookedUp (asLimits (args .«at» .limits)) (lookupNames (stepFits (asLimits (args .«at» .limits)) w) (decS (asLimits (args .«at» .limits)) (args .schema .now)) (u16-at .result) (namesBy 2 (args .n) (args .types .now)))
     (look-up-types .last .1 .1 .1 .1 .1 .0) (look-up-types .result)) (loop .inv .1) (look-up-types .ensures)) (too-long .result) (too-long .ensures)
     (c .if1 .taken)
 
@@ -137,18 +136,17 @@ loop-again c =
     let loop-test = after-look-up-types .before .before .before .before .loop-test in
     let loop = after-look-up-types .before .before .before .before .before .loop in
     let args = after-look-up-types .before .before .before .before .before .before .before .before .before .before .before .before .args in
-    let by-keeping-next = keeping-next (loop .inv .0) (loop-test .taken) (u16-at .result) (u16-at .ensures .0) (look-up-types .last .1 .1 .1 .1 .1 .0)
+    let by-keeping-next = keeping-next (loop .inv .0) (asLimits (args .«at» .limits)) (loop-test .taken) (u16-at .result) (u16-at .ensures .0) (look-up-types .last .1 .1 .1 .1 .1 .0)
     (look-up-types .result)
     (subst (λ (w : ℕ).
-    LookedUp (lookupNames (stepFits standard w) (decS standard (args .schema .now)) (u16-at .result) (namesBy 2 (args .n) (args .types .now)))
+    LookedUp (asLimits (args .«at» .limits)) (lookupNames (stepFits (asLimits (args .«at» .limits)) w) (decS (asLimits (args .«at» .limits)) (args .schema .now)) (u16-at .result) (namesBy 2 (args .n) (args .types .now)))
     (look-up-types .last .1 .1 .1 .1 .1 .0) (look-up-types .result)) (loop .inv .1) (look-up-types .ensures)) (too-long .result)
     (too-long .ensures) (if1 .left) (keep-name .last .1 .1 .0) (keep-name .result) (keep-name .ensures) in
     (by-keeping-next, look-up-types .kept .1 .1 .1 .1 .1 .1 .0 ∙ loop .inv .1, look-up-types .kept .1 .1 .1 .1 .1 .0 ∙ loop .inv .2)
 
 same-length-4 : tie.Need-same-length-4 Inv-loop μ-loop
 same-length-4 c =
-    let pre = c .before .before .before .before .before .before .before .before .pre in
-    c .before .loop .inv .2 ∙ sym (pre .1 .1 .0)
+    c .before .loop .inv .2
 
 same-length-5 : tie.Need-same-length-5 Inv-loop μ-loop
 same-length-5 c = (c .before) .loop .inv .1

@@ -1,3 +1,4 @@
+use Rattle.cedar.specs.Laws.Limits.{allowed-bytes}
 use Rattle.forms.specs.Laws.Bytes.{Bytes-index, Bytes-part, enc-dec}
 use Prim.Native.Nat.{_-_, _≤_}
 use Rattle.forms.specs.Parts.{part}
@@ -8,7 +9,7 @@ use mathlib.Core.Option.{Option}
 use mathlib.Core.Path.{subst}
 use lib.ListN.{length}
 use Rattle.cedar.specs.Types.{Ty}
-use Rattle.cedar.specs.Limits.{standard}
+use Rattle.forms.specs.Limits.{asLimits}
 use Rattle.cedar.specs.Result.{Result}
 use Rattle.cedar.specs.Attribute.{ownAttr}
 use Rattle.cedar.specs.Calls.{stepFits}
@@ -26,12 +27,12 @@ use Rattle.lookups.proofs.lookup_attribute_type.look_up.Tie as tie
 shared-slice-read-if1 : tie.Need-shared-slice-read-if1
 shared-slice-read-if1 c =
     let start = c .before .before .before .before .before in
-    not-empty 16 (start .args .t .now) (start .pre .1 .good)
+    not-empty (start .args .«at» .limits .levels) (start .args .t .now) (start .pre .1 .good)
 
 sub-look-up-types : tie.Need-sub-look-up-types
 sub-look-up-types c =
     let start = c .before .before .before .before .before .before in
-    omega (arith, is-entity 16 (start .args .t .now) (start .pre .1 .good) (c .if1 .taken) .sized)
+    omega (arith, is-entity (start .args .«at» .limits .levels) (start .args .t .now) (start .pre .1 .good) (c .if1 .taken) .sized)
 
 part-look-up-types-start : tie.Need-part-look-up-types-start
 part-look-up-types-start c = sub-look-up-types c
@@ -42,7 +43,7 @@ part-look-up-types-end c = search needs
 u16-at-requires : tie.Need-u16-at-requires
 u16-at-requires c κs =
     let start = c .before .before .before .before .before .before .before in
-    omega (arith, is-entity 16 (start .args .t .now) (start .pre .1 .good) (c .before .if1 .taken) .some)
+    omega (arith, is-entity (start .args .«at» .limits .levels) (start .args .t .now) (start .pre .1 .good) (c .before .if1 .taken) .some)
 
 look-up-types-requires : tie.Need-look-up-types-requires
 look-up-types-requires c κs =
@@ -51,7 +52,7 @@ look-up-types-requires c κs =
     let start = c .before .before .before .before .before .before .before .before .before .before in
     let pre = start .pre in
     let args = start .args in
-    let by-entity-named = entity-named (stepFits standard (length (args .work .now))) (decS standard (args .schema .now)) (args .name) 16 (args .t .now)
+    let by-entity-named = entity-named (stepFits (asLimits (args .«at» .limits)) (length (args .work .now))) (decS (asLimits (args .«at» .limits)) (args .schema .now)) (args .name) (args .«at» .limits .levels) (args .t .now)
     (pre .1 .good) (if1 .taken) (u16-at .result) (u16-at .ensures .0) in
     (pre .0, (by-entity-named, pre .1 .room))
 
@@ -69,9 +70,9 @@ returns c =
     let if1 = then1 .if1 in
     let start = then1 .before .before .before .before .before .before in
     let args = start .args in
-    let by-entity-lookup = entity-lookup (stepFits standard (length (args .work .now))) (decS standard (args .schema .now)) (args .name) 16 (args .t .now)
+    let by-entity-lookup = entity-lookup (stepFits (asLimits (args .«at» .limits)) (length (args .work .now))) (decS (asLimits (args .«at» .limits)) (args .schema .now)) (args .name) (args .«at» .limits .levels) (args .t .now)
     (start .pre .1 .good) (if1 .taken) (u16-at .result) (u16-at .ensures .0) in
-    subst (λ (o : Result (Option (Bool × Ty))). LookedUp o (look-up-types .last .1 .1 .1 .1 .1 .0) (look-up-types .result))
+    subst (λ (o : Result (Option (Bool × Ty))). LookedUp (asLimits (args .«at» .limits)) o (look-up-types .last .1 .1 .1 .1 .1 .0) (look-up-types .result))
     by-entity-lookup (look-up-types .ensures)
 
 own-attribute-requires : tie.Need-own-attribute-requires
@@ -89,9 +90,9 @@ returns-2 c =
     let if1 = c .before .before .before .if1 in
     let start = c .before .before .before .before .before .before .before .before .before in
     let args = start .args in
-    let by-place-none = place-none 15 (args .t .now) (ownAttr (args .name) (dec 16 (args .t .now))) (own-attribute .result) (c .enum-told .given .1)
+    let by-place-none = place-none (args .«at» .limits .levels - 1) (args .t .now) (ownAttr (args .name) (dec (args .«at» .limits .levels) (args .t .now))) (own-attribute .result) (c .enum-told .given .1)
     (own-attribute .ensures .0) in
-    own-none (stepFits standard (length (args .work .now))) (decS standard (args .schema .now)) (args .name) 16 (args .t .now) (start .pre .1 .good) (if1 .left)
+    own-none (stepFits (asLimits (args .«at» .limits)) (length (args .work .now))) (decS (asLimits (args .«at» .limits)) (args .schema .now)) (args .name) (args .«at» .limits .levels) (args .t .now) (start .pre .1 .good) (if1 .left)
     by-place-none
 
 sub-copy : tie.Need-sub-copy
@@ -99,7 +100,7 @@ sub-copy c =
     let start-step = c .before .start in
     let own-attribute = c .before .before .before .own-attribute in
     let args = c .before .before .before .before .before .before .before .before .before .before .args in
-    let by-place-at = place-at 15 (args .t .now) (ownAttr (args .name) (dec 16 (args .t .now))) (own-attribute .result) (start-step .given .0 .0)
+    let by-place-at = place-at (args .«at» .limits .levels - 1) (args .t .now) (ownAttr (args .name) (dec (args .«at» .limits .levels) (args .t .now))) (own-attribute .result) (start-step .given .0 .0)
     (start-step .given .0 .1 .0) (start-step .given .0 .1 .1 .0) (start-step .given .1) (own-attribute .ensures .0) in
     omega (arith, by-place-at .0, by-place-at .1)
 
@@ -111,7 +112,7 @@ part-copy-end c =
     let start-step = c .before .start in
     let own-attribute = c .before .before .before .own-attribute in
     let args = c .before .before .before .before .before .before .before .before .before .before .args in
-    let by-place-at = place-at 15 (args .t .now) (ownAttr (args .name) (dec 16 (args .t .now))) (own-attribute .result) (start-step .given .0 .0)
+    let by-place-at = place-at (args .«at» .limits .levels - 1) (args .t .now) (ownAttr (args .name) (dec (args .«at» .limits .levels) (args .t .now))) (own-attribute .result) (start-step .given .0 .0)
     (start-step .given .0 .1 .0) (start-step .given .0 .1 .1 .0) (start-step .given .1) (own-attribute .ensures .0) in
     omega (arith, by-place-at .0, by-place-at .1)
 
@@ -121,7 +122,7 @@ copy-requires c κs =
     let own-attribute = c .before .before .before .before .before .own-attribute in
     let start = c .before .before .before .before .before .before .before .before .before .before .before .before in
     let args = start .args in
-    let by-place-at = place-at 15 (args .t .now) (ownAttr (args .name) (dec 16 (args .t .now))) (own-attribute .result) (start-step .given .0 .0)
+    let by-place-at = place-at (args .«at» .limits .levels - 1) (args .t .now) (ownAttr (args .name) (dec (args .«at» .limits .levels) (args .t .now))) (own-attribute .result) (start-step .given .0 .0)
     (start-step .given .0 .1 .0) (start-step .given .0 .1 .1 .0) (start-step .given .1) (own-attribute .ensures .0) in
     let by-length-part = length-part (start-step .given .0 .0) (start-step .given .0 .1 .0) (args .t .now) (by-place-at .1) in
     let l : length (part (start-step .given .0 .0) (start-step .given .0 .1 .0) (args .t .now)) ≤ length (args .last .now) = omega (
@@ -139,7 +140,7 @@ sub-t25 c =
     let after-own-attribute = c .before .before .before .before .before .before .before .before in
     let own-attribute = after-own-attribute .own-attribute in
     let args = after-own-attribute .before .before .before .before .before .before .before .args in
-    let by-place-at = place-at 15 (args .t .now) (ownAttr (args .name) (dec 16 (args .t .now))) (own-attribute .result) (start-step .given .0 .0)
+    let by-place-at = place-at (args .«at» .limits .levels - 1) (args .t .now) (ownAttr (args .name) (dec (args .«at» .limits .levels) (args .t .now))) (own-attribute .result) (start-step .given .0 .0)
     (start-step .given .0 .1 .0) (start-step .given .0 .1 .1 .0) (start-step .given .1) (own-attribute .ensures .0) in
     omega (arith, by-place-at .0)
 
@@ -157,15 +158,15 @@ returns-3 c =
     let start = else1 .before .before .before .before .before .before in
     let pre = start .pre in
     let args = start .args in
-    let by-place-at = place-at 15 (args .t .now) (ownAttr (args .name) (dec 16 (args .t .now))) (own-attribute .result) (start-step .given .0 .0)
+    let by-place-at = place-at (args .«at» .limits .levels - 1) (args .t .now) (ownAttr (args .name) (dec (args .«at» .limits .levels) (args .t .now))) (own-attribute .result) (start-step .given .0 .0)
     (start-step .given .0 .1 .0) (start-step .given .0 .1 .1 .0) (start-step .given .1) (own-attribute .ensures .0) in
     let by-Bytes-part = Bytes-part (start-step .given .0 .0) (start-step .given .0 .1 .0) (args .t .now)
     (Bytes-index (args .t .now) (λ i. omega (arith, shared-slice-known2 .given i))) in
-    let by-enc-dec = enc-dec 15 (part (start-step .given .0 .0) (start-step .given .0 .1 .0) (args .t .now)) by-Bytes-part (by-place-at .2) in
-    let by-held-copy = held-copy (args .t .now) (args .last .now) (copy .last .1 .0) (start-step .given .0 .0) (start-step .given .0 .1 .0) (by-place-at .0)
+    let by-enc-dec = enc-dec (args .«at» .limits .levels - 1) (part (start-step .given .0 .0) (start-step .given .0 .1 .0) (args .t .now)) by-Bytes-part (by-place-at .2) in
+    let by-held-copy = held-copy (asLimits (args .«at» .limits)) (allowed-bytes (asLimits (args .«at» .limits)) (start .pre .0 .fair) .1) (args .t .now) (args .last .now) (copy .last .1 .0) (start-step .given .0 .0) (start-step .given .0 .1 .0) (by-place-at .0)
     (by-place-at .1) (omega (arith, by-place-at .1, pre .1 .few)) (pre .1 .room) (copy .kept .1 .0) (by-place-at .2) by-enc-dec (copy .ensures) in
-    own-found (stepFits standard (length (args .work .now))) (decS standard (args .schema .now)) (args .name) 16 (args .t .now) (pre .1 .good) (if1 .left)
-    (start-step .given .0 .1 .1 .0) _ (by-place-at .3) (copy .last .1 .0) by-held-copy
+    own-found (stepFits (asLimits (args .«at» .limits)) (length (args .work .now))) (decS (asLimits (args .«at» .limits)) (args .schema .now)) (args .name) (args .«at» .limits .levels) (args .t .now) (pre .1 .good) (if1 .left)
+    (asLimits (args .«at» .limits)) (start-step .given .0 .1 .1 .0) _ (by-place-at .3) (copy .last .1 .0) by-held-copy
 
 pub look-up-spec : {M : Type 1} → statement M
 look-up-spec =

@@ -19,7 +19,7 @@ returns : tie.Need-returns
 returns c =
     let type-names = c .before .before .type-names in
     let start = c .before .before .before .before .before in
-    disjoint-first (dec 16 (start .args .t0 .now)) (dec 16 (start .args .t1 .now)) (found-nothing (type-names .ensures) (c .enum-told .given .1))
+    disjoint-first (dec (start .args .levels) (start .args .t0 .now)) (dec (start .args .levels) (start .args .t1 .now)) (found-nothing (type-names .ensures) (c .enum-told .given .1))
 
 type-names-requires-2 : tie.Need-type-names-requires-2
 type-names-requires-2 c κs = search needs
@@ -38,7 +38,7 @@ returns-2 c =
     let start = after-type-names .before .before .before in
     let a = after-a .a .given in
     let by-found-from = found-from (after-type-names .type-names .ensures) (a .0 .0) (a .0 .1 .0) (a .1) in
-    disjoint-second (dec 16 (start .args .t0 .now)) (dec 16 (start .args .t1 .now)) _ by-found-from
+    disjoint-second (dec (start .args .levels) (start .args .t0 .now)) (dec (start .args .levels) (start .args .t1 .now)) _ by-found-from
     (found-nothing (type-names2 .ensures) (c .enum-told2 .given .1))
 
 sub-names-share : tie.Need-sub-names-share
@@ -89,7 +89,7 @@ returns-3 c =
     let b = after-b .b .given in
     let by-found-from = found-from (after-type-names .type-names .ensures) (a .0 .0) (a .0 .1 .0) (a .1) in
     let by-found-from-2 = found-from (after-type-names2 .type-names2 .ensures) (b .0 .0) (b .0 .1 .0) (b .1) in
-    disjoint-both (dec 16 (start .args .t0 .now)) (dec 16 (start .args .t1 .now)) _ _ (c .names-share .result) by-found-from by-found-from-2
+    disjoint-both (dec (start .args .levels) (start .args .t0 .now)) (dec (start .args .levels) (start .args .t1 .now)) _ _ (c .names-share .result) by-found-from by-found-from-2
     (c .names-share .ensures)
 
 pub are-types-disjoint-spec : {M : Type 1} → statement M
