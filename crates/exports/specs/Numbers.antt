@@ -4,7 +4,7 @@ use mathlib.Core.List.{List}
 use mathlib.Core.Bool.{true, false}
 use mathlib.Core.Path.{_≡_}
 use lib.ListN.{length, replicate}
-use Rattle.cedar.specs.Limits.{standard}
+use Rattle.cedar.specs.Limits.{mostBytes}
 use Rattle.cedar.specs.Outcome.{Outcome, resultAfter}
 use Rattle.validator.specs.Answers.{answerOf}
 use Rattle.validator.specs.declared.answers.Answer.{Answer}
@@ -37,14 +37,14 @@ answerWith (suc (suc (suc (suc (suc (suc k)))))) v = Attribute true v
 abbrev pub readAnswer : ℕ → Answer
 readAnswer x = answerWith (x % kindStep) (x / kindStep)
 
--- An answer that tells no more bytes than a form has.
+-- An answer that tells no more bytes than a form has under any limits.
 abbrev pub Brief : Answer → Type 0
 Brief (Refused n) = Unit {0}
 Brief Yes = Unit {0}
 Brief No = Unit {0}
 Brief Nothing = Unit {0}
-Brief (Wrote n) = n ≤ standard .bytes
-Brief (Attribute q n) = n ≤ standard .bytes
+Brief (Wrote n) = n ≤ mostBytes
+Brief (Attribute q n) = n ≤ mostBytes
 
 -- A call that writes: its number, and the result buffer after it.
 pub record Numbered (o : Outcome) (before after : List ℕ) (r : ℕ) : Type 0 where
@@ -80,8 +80,8 @@ partWith (suc (suc (suc (suc (suc (suc (suc (suc k)))))))) v = parts.At (v % pac
 abbrev pub readPart : ℕ → OwnPart
 readPart x = partWith (x % kindStep) (x / kindStep)
 
--- A part within the length of a form.
+-- A part within the length of a form under any limits.
 abbrev pub Narrow : OwnPart → Type 0
 Narrow (parts.Refused n) = Unit {0}
 Narrow parts.Nothing = Unit {0}
-Narrow (parts.At s e q) = (s ≤ standard .bytes) × (e ≤ standard .bytes)
+Narrow (parts.At s e q) = (s ≤ mostBytes) × (e ≤ mostBytes)

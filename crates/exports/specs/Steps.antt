@@ -5,6 +5,10 @@ use Prim.Native.Nat.{ℕ}
 abbrev pub kindStep : ℕ
 kindStep = 256
 
--- The second of two offsets.
+-- The second of two offsets, and the limits above both.
 abbrev pub packedStep : ℕ
 packedStep = 65536
+
+-- The bytes above the levels.
+abbrev pub levelsStep : ℕ
+levelsStep = 64

@@ -1,7 +1,7 @@
-// The calls, each with the schema's bytes: it is checked in every call.
+// The calls, each with its limits and the schema's bytes: both are checked in every call.
 use crate::numbers::answer_number;
 use crate::numbers::part_number;
-use schemas::whole::check_schema;
+use forms::limits::Limits;
 use validator::all_attributes::all_attributes;
 use validator::are_types_disjoint::are_types_disjoint;
 use validator::convert::convert;
@@ -11,133 +11,189 @@ use validator::is_subtype::is_subtype;
 use validator::least_upper_bound::least_upper_bound;
 use validator::lookup_attribute_type::lookup_attribute_type;
 use validator::may_have_attr::may_have_attr;
-use validator::own_attribute_type::own_attribute_part_checked;
+use validator::own_attribute_type::own_attribute_part;
 use validator::reduce_to_least_upper_bound::reduce_to_least_upper_bound;
 use validator::typecheck_restricted_expr::typecheck_restricted_expr;
 ghost use mathlib.Core.Path.{_≡_};
 ghost use lib.ListN.{length};
-ghost use Rattle.cedar.specs.Limits.{standard};
 ghost use Rattle.cedar.specs.BodyPlace.{bodyIn};
 ghost use Rattle.cedar.specs.Calls.{subtypeCall, boundCall, foldCall, lookupCall, ownAttributeCall, mayHaveCall, namesCall, literalCall, conformsCall, disjointCall, consistentCall, convertCall};
 ghost use Rattle.validator.specs.Answers.{answerOf};
 ghost use Rattle.validator.specs.Handed.{partOf};
+ghost use Rattle.exports.specs.Checks.{within};
 ghost use Rattle.exports.specs.Numbers.{answerNumber, Numbered, NumberedIn, partNumber};
 
 // Whether both types name entity types, and none in common.
 #[no_mangle]
-pub extern "C" fn tirncheav_are_types_disjoint(t0: &[u8], t1: &[u8]) -> u64
-    ensures { λ r. ⌜ r ≡ answerNumber (answerOf (disjointCall standard (now (t0 .entry)) (now (t1 .entry)))) ⌝ }
+pub extern "C" fn tirncheav_are_types_disjoint(
+    levels: usize,
+    bytes: usize,
+    t0: &[u8],
+    t1: &[u8],
+) -> u64
+    ensures { λ r. ⌜ r ≡ answerNumber (answerOf (disjointCall (within levels bytes) (now (t0 .entry)) (now (t1 .entry)))) ⌝ }
 {
-    answer_number(are_types_disjoint(t0, t1))
+    answer_number(are_types_disjoint(Limits { levels, bytes }, t0, t1))
 }
 
 // Whether a type is a subtype of another.
 #[no_mangle]
-pub extern "C" fn tirncheav_is_subtype(mode: u8, schema: &[u8], t0: &[u8], t1: &[u8]) -> u64
-    ensures { λ r. ⌜ r ≡ answerNumber (answerOf (subtypeCall standard mode (now (schema .entry)) (now (t0 .entry)) (now (t1 .entry)))) ⌝ }
+pub extern "C" fn tirncheav_is_subtype(
+    levels: usize,
+    bytes: usize,
+    mode: u8,
+    schema: &[u8],
+    t0: &[u8],
+    t1: &[u8],
+) -> u64
+    ensures { λ r. ⌜ r ≡ answerNumber (answerOf (subtypeCall (within levels bytes) mode (now (schema .entry)) (now (t0 .entry)) (now (t1 .entry)))) ⌝ }
 {
-    answer_number(is_subtype(mode, schema, t0, t1))
+    answer_number(is_subtype(Limits { levels, bytes }, mode, schema, t0, t1))
 }
 
 // The least upper bound of two types.
 #[no_mangle]
 pub extern "C" fn tirncheav_least_upper_bound(
+    levels: usize,
+    bytes: usize,
     mode: u8,
     schema: &[u8],
     t0: &[u8],
     t1: &[u8],
     out: &mut [u8],
 ) -> u64
-    ensures { λ r. ⌜ Numbered (boundCall standard mode (now (schema .entry)) (now (t0 .entry)) (now (t1 .entry)) (length (now (out .entry)))) (now (out .entry)) (now (out .exit)) r ⌝ }
+    ensures { λ r. ⌜ Numbered (boundCall (within levels bytes) mode (now (schema .entry)) (now (t0 .entry)) (now (t1 .entry)) (length (now (out .entry)))) (now (out .entry)) (now (out .exit)) r ⌝ }
 {
-    answer_number(least_upper_bound(mode, schema, t0, t1, out))
+    answer_number(least_upper_bound(Limits { levels, bytes }, mode, schema, t0, t1, out))
 }
 
 // The least upper bound of a list of types.
 #[no_mangle]
 pub extern "C" fn tirncheav_reduce_to_least_upper_bound(
+    levels: usize,
+    bytes: usize,
     mode: u8,
     schema: &[u8],
     list: &[u8],
     out: &mut [u8],
     work: &mut [u8],
 ) -> u64
-    ensures { λ r. ⌜ NumberedIn (foldCall standard mode (now (schema .entry)) (now (list .entry)) (length (now (out .entry))) (length (now (work .entry)))) (now (out .entry)) (now (out .exit)) (now (work .entry)) (now (work .exit)) r ⌝ }
+    ensures { λ r. ⌜ NumberedIn (foldCall (within levels bytes) mode (now (schema .entry)) (now (list .entry)) (length (now (out .entry))) (length (now (work .entry)))) (now (out .entry)) (now (out .exit)) (now (work .entry)) (now (work .exit)) r ⌝ }
 {
-    answer_number(reduce_to_least_upper_bound(mode, schema, list, out, work))
+    answer_number(reduce_to_least_upper_bound(
+        Limits { levels, bytes },
+        mode,
+        schema,
+        list,
+        out,
+        work,
+    ))
 }
 
 // The attribute of a type, with its required flag.
 #[no_mangle]
 pub extern "C" fn tirncheav_lookup_attribute_type(
+    levels: usize,
+    bytes: usize,
     schema: &[u8],
     attr: u16,
     t: &[u8],
     out: &mut [u8],
     work: &mut [u8],
 ) -> u64
-    ensures { λ r. ⌜ NumberedIn (lookupCall standard (now (schema .entry)) attr (now (t .entry)) (length (now (out .entry))) (length (now (work .entry)))) (now (out .entry)) (now (out .exit)) (now (work .entry)) (now (work .exit)) r ⌝ }
+    ensures { λ r. ⌜ NumberedIn (lookupCall (within levels bytes) (now (schema .entry)) attr (now (t .entry)) (length (now (out .entry))) (length (now (work .entry)))) (now (out .entry)) (now (out .exit)) (now (work .entry)) (now (work .exit)) r ⌝ }
 {
-    answer_number(lookup_attribute_type(schema, attr, t, out, work))
+    answer_number(lookup_attribute_type(Limits { levels, bytes }, schema, attr, t, out, work))
 }
 
 // The attribute of a record or an action, as a part of t.
 #[no_mangle]
-pub extern "C" fn tirncheav_own_attribute_type(schema: &[u8], attr: u16, t: &[u8]) -> u64
-    ensures { λ r. ⌜ r ≡ partNumber (partOf (ownAttributeCall standard (now (schema .entry)) attr (now (t .entry))) (bodyIn standard attr (now (t .entry)))) ⌝ }
+pub extern "C" fn tirncheav_own_attribute_type(
+    levels: usize,
+    bytes: usize,
+    schema: &[u8],
+    attr: u16,
+    t: &[u8],
+) -> u64
+    ensures { λ r. ⌜ r ≡ partNumber (partOf (ownAttributeCall (within levels bytes) (now (schema .entry)) attr (now (t .entry))) (bodyIn (within levels bytes) attr (now (t .entry)))) ⌝ }
 {
-    part_number(own_attribute_part_checked(schema, check_schema(schema), attr, t))
+    part_number(own_attribute_part(Limits { levels, bytes }, schema, attr, t))
 }
 
 // Whether a value of a type might have an attribute.
 #[no_mangle]
-pub extern "C" fn tirncheav_may_have_attr(schema: &[u8], attr: u16, t: &[u8]) -> u64
-    ensures { λ r. ⌜ r ≡ answerNumber (answerOf (mayHaveCall standard (now (schema .entry)) attr (now (t .entry)))) ⌝ }
+pub extern "C" fn tirncheav_may_have_attr(
+    levels: usize,
+    bytes: usize,
+    schema: &[u8],
+    attr: u16,
+    t: &[u8],
+) -> u64
+    ensures { λ r. ⌜ r ≡ answerNumber (answerOf (mayHaveCall (within levels bytes) (now (schema .entry)) attr (now (t .entry)))) ⌝ }
 {
-    answer_number(may_have_attr(schema, attr, t))
+    answer_number(may_have_attr(Limits { levels, bytes }, schema, attr, t))
 }
 
 // The names of a type's attributes.
 #[no_mangle]
 pub extern "C" fn tirncheav_all_attributes(
+    levels: usize,
+    bytes: usize,
     schema: &[u8],
     t: &[u8],
     out: &mut [u8],
     work: &mut [u8],
 ) -> u64
-    ensures { λ r. ⌜ NumberedIn (namesCall standard (now (schema .entry)) (now (t .entry)) (length (now (out .entry))) (length (now (work .entry)))) (now (out .entry)) (now (out .exit)) (now (work .entry)) (now (work .exit)) r ⌝ }
+    ensures { λ r. ⌜ NumberedIn (namesCall (within levels bytes) (now (schema .entry)) (now (t .entry)) (length (now (out .entry))) (length (now (work .entry)))) (now (out .entry)) (now (out .exit)) (now (work .entry)) (now (work .exit)) r ⌝ }
 {
-    answer_number(all_attributes(schema, t, out, work))
+    answer_number(all_attributes(Limits { levels, bytes }, schema, t, out, work))
 }
 
 // Whether a type is consistent with a core type, by the Rust's test.
 #[no_mangle]
-pub extern "C" fn tirncheav_is_consistent_with(t0: &[u8], t1: &[u8]) -> u64
-    ensures { λ r. ⌜ r ≡ answerNumber (answerOf (consistentCall standard (now (t0 .entry)) (now (t1 .entry)))) ⌝ }
+pub extern "C" fn tirncheav_is_consistent_with(
+    levels: usize,
+    bytes: usize,
+    t0: &[u8],
+    t1: &[u8],
+) -> u64
+    ensures { λ r. ⌜ r ≡ answerNumber (answerOf (consistentCall (within levels bytes) (now (t0 .entry)) (now (t1 .entry)))) ⌝ }
 {
-    answer_number(is_consistent_with(t0, t1))
+    answer_number(is_consistent_with(Limits { levels, bytes }, t0, t1))
 }
 
 // The core type of a type.
 #[no_mangle]
-pub extern "C" fn tirncheav_convert(t: &[u8], out: &mut [u8]) -> u64
-    ensures { λ r. ⌜ Numbered (convertCall standard (now (t .entry)) (length (now (out .entry)))) (now (out .entry)) (now (out .exit)) r ⌝ }
+pub extern "C" fn tirncheav_convert(levels: usize, bytes: usize, t: &[u8], out: &mut [u8]) -> u64
+    ensures { λ r. ⌜ Numbered (convertCall (within levels bytes) (now (t .entry)) (length (now (out .entry)))) (now (out .entry)) (now (out .exit)) r ⌝ }
 {
-    answer_number(convert(t, out))
+    answer_number(convert(Limits { levels, bytes }, t, out))
 }
 
 // Has a value a type under a schema?
 #[no_mangle]
-pub extern "C" fn tirncheav_typecheck_restricted_expr(schema: &[u8], t: &[u8], v: &[u8]) -> u64
-    ensures { λ r. ⌜ r ≡ answerNumber (answerOf (conformsCall standard (now (schema .entry)) (now (t .entry)) (now (v .entry)))) ⌝ }
+pub extern "C" fn tirncheav_typecheck_restricted_expr(
+    levels: usize,
+    bytes: usize,
+    schema: &[u8],
+    t: &[u8],
+    v: &[u8],
+) -> u64
+    ensures { λ r. ⌜ r ≡ answerNumber (answerOf (conformsCall (within levels bytes) (now (schema .entry)) (now (t .entry)) (now (v .entry)))) ⌝ }
 {
-    answer_number(typecheck_restricted_expr(schema, t, v))
+    answer_number(typecheck_restricted_expr(Limits { levels, bytes }, schema, t, v))
 }
 
 // The type of a uid.
 #[no_mangle]
-pub extern "C" fn tirncheav_euid_literal(schema: &[u8], v: &[u8], out: &mut [u8]) -> u64
-    ensures { λ r. ⌜ Numbered (literalCall standard (now (schema .entry)) (now (v .entry)) (length (now (out .entry)))) (now (out .entry)) (now (out .exit)) r ⌝ }
+pub extern "C" fn tirncheav_euid_literal(
+    levels: usize,
+    bytes: usize,
+    schema: &[u8],
+    v: &[u8],
+    out: &mut [u8],
+) -> u64
+    ensures { λ r. ⌜ Numbered (literalCall (within levels bytes) (now (schema .entry)) (now (v .entry)) (length (now (out .entry)))) (now (out .entry)) (now (out .exit)) r ⌝ }
 {
-    answer_number(euid_literal(schema, v, out))
+    answer_number(euid_literal(Limits { levels, bytes }, schema, v, out))
 }

@@ -1,4 +1,5 @@
-// The calls on a schema that was checked before: `check` is the number that `tirncheav_check_schema` gave for the same bytes.
+// The calls on a schema that was checked before: `check` is the number that `tirncheav_check_schema` gave for the same bytes, and tells
+// the limits that it was checked under.
 use crate::checks::check_again;
 use crate::numbers::answer_number;
 use crate::numbers::part_number;
@@ -13,13 +14,13 @@ use validator::reduce_to_least_upper_bound::reduce_to_least_upper_bound_checked;
 use validator::typecheck_restricted_expr::typecheck_restricted_expr_checked;
 ghost use mathlib.Core.Path.{_≡_};
 ghost use lib.ListN.{length};
-ghost use Rattle.cedar.specs.Limits.{standard};
 ghost use Rattle.cedar.specs.BodyPlace.{bodyIn};
 ghost use Rattle.cedar.specs.Calls.{subtypeCall, boundCall, foldCall, lookupCall, ownAttributeCall, mayHaveCall, namesCall, literalCall, conformsCall};
+ghost use Rattle.forms.specs.Limits.{asLimits};
 ghost use Rattle.schemas.specs.SchemaBytes.{checked};
 ghost use Rattle.validator.specs.Answers.{answerOf};
 ghost use Rattle.validator.specs.Handed.{partOf};
-ghost use Rattle.exports.specs.Checks.{checkNumber};
+ghost use Rattle.exports.specs.Checks.{checkNumber, limitsIn};
 ghost use Rattle.exports.specs.Numbers.{answerNumber, Numbered, NumberedIn, partNumber};
 
 // Whether a type is a subtype of another.
@@ -31,8 +32,8 @@ pub extern "C" fn tirncheav_is_subtype_checked(
     t0: &[u8],
     t1: &[u8],
 ) -> u64
-    requires { ⌜ check ≡ checkNumber (checked (now schema)) ⌝ }
-    ensures { λ r. ⌜ r ≡ answerNumber (answerOf (subtypeCall standard mode (now (schema .entry)) (now (t0 .entry)) (now (t1 .entry)))) ⌝ }
+    requires { ⌜ check ≡ checkNumber (checked (limitsIn check) (now schema)) ⌝ }
+    ensures { λ r. ⌜ r ≡ answerNumber (answerOf (subtypeCall (asLimits (limitsIn check)) mode (now (schema .entry)) (now (t0 .entry)) (now (t1 .entry)))) ⌝ }
 {
     answer_number(is_subtype_checked(schema, check_again(schema, check), mode, t0, t1))
 }
@@ -47,8 +48,8 @@ pub extern "C" fn tirncheav_least_upper_bound_checked(
     t1: &[u8],
     out: &mut [u8],
 ) -> u64
-    requires { ⌜ check ≡ checkNumber (checked (now schema)) ⌝ }
-    ensures { λ r. ⌜ Numbered (boundCall standard mode (now (schema .entry)) (now (t0 .entry)) (now (t1 .entry)) (length (now (out .entry)))) (now (out .entry)) (now (out .exit)) r ⌝ }
+    requires { ⌜ check ≡ checkNumber (checked (limitsIn check) (now schema)) ⌝ }
+    ensures { λ r. ⌜ Numbered (boundCall (asLimits (limitsIn check)) mode (now (schema .entry)) (now (t0 .entry)) (now (t1 .entry)) (length (now (out .entry)))) (now (out .entry)) (now (out .exit)) r ⌝ }
 {
     answer_number(least_upper_bound_checked(schema, check_again(schema, check), mode, t0, t1, out))
 }
@@ -63,8 +64,8 @@ pub extern "C" fn tirncheav_reduce_to_least_upper_bound_checked(
     out: &mut [u8],
     work: &mut [u8],
 ) -> u64
-    requires { ⌜ check ≡ checkNumber (checked (now schema)) ⌝ }
-    ensures { λ r. ⌜ NumberedIn (foldCall standard mode (now (schema .entry)) (now (list .entry)) (length (now (out .entry))) (length (now (work .entry)))) (now (out .entry)) (now (out .exit)) (now (work .entry)) (now (work .exit)) r ⌝ }
+    requires { ⌜ check ≡ checkNumber (checked (limitsIn check) (now schema)) ⌝ }
+    ensures { λ r. ⌜ NumberedIn (foldCall (asLimits (limitsIn check)) mode (now (schema .entry)) (now (list .entry)) (length (now (out .entry))) (length (now (work .entry)))) (now (out .entry)) (now (out .exit)) (now (work .entry)) (now (work .exit)) r ⌝ }
 {
     answer_number(reduce_to_least_upper_bound_checked(
         schema,
@@ -86,8 +87,8 @@ pub extern "C" fn tirncheav_lookup_attribute_type_checked(
     out: &mut [u8],
     work: &mut [u8],
 ) -> u64
-    requires { ⌜ check ≡ checkNumber (checked (now schema)) ⌝ }
-    ensures { λ r. ⌜ NumberedIn (lookupCall standard (now (schema .entry)) attr (now (t .entry)) (length (now (out .entry))) (length (now (work .entry)))) (now (out .entry)) (now (out .exit)) (now (work .entry)) (now (work .exit)) r ⌝ }
+    requires { ⌜ check ≡ checkNumber (checked (limitsIn check) (now schema)) ⌝ }
+    ensures { λ r. ⌜ NumberedIn (lookupCall (asLimits (limitsIn check)) (now (schema .entry)) attr (now (t .entry)) (length (now (out .entry))) (length (now (work .entry)))) (now (out .entry)) (now (out .exit)) (now (work .entry)) (now (work .exit)) r ⌝ }
 {
     answer_number(lookup_attribute_type_checked(
         schema,
@@ -107,8 +108,8 @@ pub extern "C" fn tirncheav_own_attribute_type_checked(
     attr: u16,
     t: &[u8],
 ) -> u64
-    requires { ⌜ check ≡ checkNumber (checked (now schema)) ⌝ }
-    ensures { λ r. ⌜ r ≡ partNumber (partOf (ownAttributeCall standard (now (schema .entry)) attr (now (t .entry))) (bodyIn standard attr (now (t .entry)))) ⌝ }
+    requires { ⌜ check ≡ checkNumber (checked (limitsIn check) (now schema)) ⌝ }
+    ensures { λ r. ⌜ r ≡ partNumber (partOf (ownAttributeCall (asLimits (limitsIn check)) (now (schema .entry)) attr (now (t .entry))) (bodyIn (asLimits (limitsIn check)) attr (now (t .entry)))) ⌝ }
 {
     part_number(own_attribute_part_checked(schema, check_again(schema, check), attr, t))
 }
@@ -121,8 +122,8 @@ pub extern "C" fn tirncheav_may_have_attr_checked(
     attr: u16,
     t: &[u8],
 ) -> u64
-    requires { ⌜ check ≡ checkNumber (checked (now schema)) ⌝ }
-    ensures { λ r. ⌜ r ≡ answerNumber (answerOf (mayHaveCall standard (now (schema .entry)) attr (now (t .entry)))) ⌝ }
+    requires { ⌜ check ≡ checkNumber (checked (limitsIn check) (now schema)) ⌝ }
+    ensures { λ r. ⌜ r ≡ answerNumber (answerOf (mayHaveCall (asLimits (limitsIn check)) (now (schema .entry)) attr (now (t .entry)))) ⌝ }
 {
     answer_number(may_have_attr_checked(schema, check_again(schema, check), attr, t))
 }
@@ -136,8 +137,8 @@ pub extern "C" fn tirncheav_all_attributes_checked(
     out: &mut [u8],
     work: &mut [u8],
 ) -> u64
-    requires { ⌜ check ≡ checkNumber (checked (now schema)) ⌝ }
-    ensures { λ r. ⌜ NumberedIn (namesCall standard (now (schema .entry)) (now (t .entry)) (length (now (out .entry))) (length (now (work .entry)))) (now (out .entry)) (now (out .exit)) (now (work .entry)) (now (work .exit)) r ⌝ }
+    requires { ⌜ check ≡ checkNumber (checked (limitsIn check) (now schema)) ⌝ }
+    ensures { λ r. ⌜ NumberedIn (namesCall (asLimits (limitsIn check)) (now (schema .entry)) (now (t .entry)) (length (now (out .entry))) (length (now (work .entry)))) (now (out .entry)) (now (out .exit)) (now (work .entry)) (now (work .exit)) r ⌝ }
 {
     answer_number(all_attributes_checked(schema, check_again(schema, check), t, out, work))
 }
@@ -150,8 +151,8 @@ pub extern "C" fn tirncheav_typecheck_restricted_expr_checked(
     t: &[u8],
     v: &[u8],
 ) -> u64
-    requires { ⌜ check ≡ checkNumber (checked (now schema)) ⌝ }
-    ensures { λ r. ⌜ r ≡ answerNumber (answerOf (conformsCall standard (now (schema .entry)) (now (t .entry)) (now (v .entry)))) ⌝ }
+    requires { ⌜ check ≡ checkNumber (checked (limitsIn check) (now schema)) ⌝ }
+    ensures { λ r. ⌜ r ≡ answerNumber (answerOf (conformsCall (asLimits (limitsIn check)) (now (schema .entry)) (now (t .entry)) (now (v .entry)))) ⌝ }
 {
     answer_number(typecheck_restricted_expr_checked(schema, check_again(schema, check), t, v))
 }
@@ -164,8 +165,8 @@ pub extern "C" fn tirncheav_euid_literal_checked(
     v: &[u8],
     out: &mut [u8],
 ) -> u64
-    requires { ⌜ check ≡ checkNumber (checked (now schema)) ⌝ }
-    ensures { λ r. ⌜ Numbered (literalCall standard (now (schema .entry)) (now (v .entry)) (length (now (out .entry)))) (now (out .entry)) (now (out .exit)) r ⌝ }
+    requires { ⌜ check ≡ checkNumber (checked (limitsIn check) (now schema)) ⌝ }
+    ensures { λ r. ⌜ Numbered (literalCall (asLimits (limitsIn check)) (now (schema .entry)) (now (v .entry)) (length (now (out .entry)))) (now (out .entry)) (now (out .exit)) r ⌝ }
 {
     answer_number(euid_literal_checked(schema, check_again(schema, check), v, out))
 }

@@ -3,10 +3,10 @@ use Prim.Native.Nat.{ℕ}
 use mathlib.Core.List.{List}
 use mathlib.Core.Option.{Option}
 use Rattle.cedar.specs.Bytes.{_>>=_}
-use Rattle.cedar.specs.Limits.{standard}
+use Rattle.cedar.specs.Limits.{Limits}
 use Rattle.cedar.specs.Whole.{wholeValue}
 use Rattle.cedar.specs.Conformance.{asUid}
 
 -- The uid of a whole value form, if it is one.
-abbrev pub uidOf : List ℕ → Option (ℕ × ℕ)
-uidOf b = wholeValue standard b >>= asUid
+abbrev pub uidOf : Limits → List ℕ → Option (ℕ × ℕ)
+uidOf lim b = wholeValue lim b >>= asUid

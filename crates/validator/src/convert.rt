@@ -7,26 +7,40 @@ use forms::limits::Limits;
 use forms::refusals::Refusal;
 use forms::types::whole_type;
 use writing::form_lengths::FormLength;
+ghost use mathlib.Core.Path.{_≡_};
+ghost use mathlib.Core.Bool.{true};
 ghost use lib.ListN.{length};
-ghost use Rattle.cedar.specs.Limits.{standard};
+ghost use Rattle.cedar.specs.Limits.{allowed};
 ghost use Rattle.cedar.specs.Calls.{convertCall};
+ghost use Rattle.forms.specs.Limits.{asLimits};
 ghost use Rattle.validator.specs.Answers.{Answered};
 
-// The core type of a type.
-pub fn convert(t: &[u8], out: &mut [u8]) -> Answer
-    ensures { λ r. ⌜ Answered (convertCall standard (now (t .entry)) (length (now (out .entry)))) (now (out .entry)) (now (out .exit)) r ⌝ }
+// The answer under limits that are allowed.
+fn convert_under(limits: Limits, t: &[u8], out: &mut [u8]) -> Answer
+    requires { ⌜ allowed (asLimits limits) ≡ true ⌝ }
+    ensures { λ r. ⌜ Answered (convertCall (asLimits limits) (now (t .entry)) (length (now (out .entry)))) (now (out .entry)) (now (out .exit)) r ⌝ }
 {
-    if !whole_type(t) {
+    if !whole_type(t, limits) {
         return Answer::Refused(Refusal::FIRST);
     }
-    match core_length(t, Limits::LEVELS) {
+    match core_length(t, limits.levels) {
         FormLength::Of(n) => {
-            if !answer_fits(n, out.len()) {
+            if !answer_fits(limits, n, out.len()) {
                 return Answer::Refused(Refusal::RESULT);
             }
-            write_core(t, Limits::LEVELS, out);
+            write_core(t, limits.levels, out);
             Answer::Wrote(n)
         }
         FormLength::Not(e) => Answer::Refused(e),
     }
+}
+
+// The core type of a type.
+pub fn convert(limits: Limits, t: &[u8], out: &mut [u8]) -> Answer
+    ensures { λ r. ⌜ Answered (convertCall (asLimits limits) (now (t .entry)) (length (now (out .entry)))) (now (out .entry)) (now (out .exit)) r ⌝ }
+{
+    if !limits.are_allowed() {
+        return Answer::Refused(Refusal::LIMITS);
+    }
+    convert_under(limits, t, out)
 }

@@ -12,13 +12,53 @@ use schemas::whole::Checked;
 use schemas::whole::check_schema;
 use writing::form_lengths::FormLength;
 ghost use mathlib.Core.Path.{_≡_};
+ghost use mathlib.Core.Bool.{true};
 ghost use lib.ListN.{length};
-ghost use Rattle.cedar.specs.Limits.{standard};
+ghost use Rattle.cedar.specs.Limits.{allowed};
 ghost use Rattle.cedar.specs.Calls.{boundCall};
-ghost use Rattle.schemas.specs.SchemaBytes.{checked};
+ghost use Rattle.forms.specs.Limits.{asLimits};
+ghost use Rattle.schemas.specs.SchemaBytes.{limitsOf, checked};
 ghost use Rattle.validator.specs.Answers.{Answered};
 
-// The answer under a schema that was checked before.
+// The answer under limits that are allowed.
+fn least_upper_bound_under(
+    limits: Limits,
+    schema: &[u8],
+    check: Checked,
+    mode: u8,
+    t0: &[u8],
+    t1: &[u8],
+    out: &mut [u8],
+) -> Answer
+    requires { ⌜ allowed (asLimits limits) ≡ true ⌝ }
+    requires { ⌜ check ≡ checked limits (now schema) ⌝ }
+    ensures { λ r. ⌜ Answered (boundCall (asLimits limits) mode (now (schema .entry)) (now (t0 .entry)) (now (t1 .entry)) (length (now (out .entry)))) (now (out .entry)) (now (out .exit)) r ⌝ }
+{
+    let KnownMode::Of(m) = Mode::from_number(mode) else {
+        return Answer::Refused(Refusal::MODE);
+    };
+    let Checked::Whole(_) = check else {
+        return Answer::Refused(Refusal::SCHEMA);
+    };
+    if !whole_type(t0, limits) {
+        return Answer::Refused(Refusal::FIRST);
+    }
+    if !whole_type(t1, limits) {
+        return Answer::Refused(Refusal::SECOND);
+    }
+    match bound_length(m, t0, t1, limits.levels) {
+        FormLength::Of(n) => {
+            if !answer_fits(limits, n, out.len()) {
+                return Answer::Refused(Refusal::RESULT);
+            }
+            write_bound(m, t0, t1, limits.levels, n, out);
+            Answer::Wrote(n)
+        }
+        FormLength::Not(e) => Answer::Refused(e),
+    }
+}
+
+// The answer under a schema that was checked before, and the limits of its check.
 pub fn least_upper_bound_checked(
     schema: &[u8],
     check: Checked,
@@ -27,35 +67,25 @@ pub fn least_upper_bound_checked(
     t1: &[u8],
     out: &mut [u8],
 ) -> Answer
-    requires { ⌜ check ≡ checked (now schema) ⌝ }
-    ensures { λ r. ⌜ Answered (boundCall standard mode (now (schema .entry)) (now (t0 .entry)) (now (t1 .entry)) (length (now (out .entry)))) (now (out .entry)) (now (out .exit)) r ⌝ }
+    requires { ⌜ check ≡ checked (limitsOf check) (now schema) ⌝ }
+    ensures { λ r. ⌜ Answered (boundCall (asLimits (limitsOf check)) mode (now (schema .entry)) (now (t0 .entry)) (now (t1 .entry)) (length (now (out .entry)))) (now (out .entry)) (now (out .exit)) r ⌝ }
 {
-    let KnownMode::Of(m) = Mode::from_number(mode) else {
-        return Answer::Refused(Refusal::MODE);
-    };
-    let Checked::Whole(_) = check else {
-        return Answer::Refused(Refusal::SCHEMA);
-    };
-    if !whole_type(t0) {
-        return Answer::Refused(Refusal::FIRST);
+    let limits = check.limits();
+    if !limits.are_allowed() {
+        return Answer::Refused(Refusal::LIMITS);
     }
-    if !whole_type(t1) {
-        return Answer::Refused(Refusal::SECOND);
-    }
-    match bound_length(m, t0, t1, Limits::LEVELS) {
-        FormLength::Of(n) => {
-            if !answer_fits(n, out.len()) {
-                return Answer::Refused(Refusal::RESULT);
-            }
-            write_bound(m, t0, t1, Limits::LEVELS, n, out);
-            Answer::Wrote(n)
-        }
-        FormLength::Not(e) => Answer::Refused(e),
-    }
+    least_upper_bound_under(limits, schema, check, mode, t0, t1, out)
 }
 
-pub fn least_upper_bound(mode: u8, schema: &[u8], t0: &[u8], t1: &[u8], out: &mut [u8]) -> Answer
-    ensures { λ r. ⌜ Answered (boundCall standard mode (now (schema .entry)) (now (t0 .entry)) (now (t1 .entry)) (length (now (out .entry)))) (now (out .entry)) (now (out .exit)) r ⌝ }
+pub fn least_upper_bound(
+    limits: Limits,
+    mode: u8,
+    schema: &[u8],
+    t0: &[u8],
+    t1: &[u8],
+    out: &mut [u8],
+) -> Answer
+    ensures { λ r. ⌜ Answered (boundCall (asLimits limits) mode (now (schema .entry)) (now (t0 .entry)) (now (t1 .entry)) (length (now (out .entry)))) (now (out .entry)) (now (out .exit)) r ⌝ }
 {
-    least_upper_bound_checked(schema, check_schema(schema), mode, t0, t1, out)
+    least_upper_bound_checked(schema, check_schema(limits, schema), mode, t0, t1, out)
 }

@@ -3,13 +3,13 @@ use forms::limits::Limits;
 ghost use mathlib.Core.Path.{_≡_};
 ghost use Prim.Native.Nat.{min};
 ghost use lib.Dec.{leb};
-ghost use Rattle.cedar.specs.Limits.{standard};
+ghost use Rattle.forms.specs.Limits.{asLimits};
 
-// Whether an answer of so many bytes is within a result buffer and the largest form.
-pub fn answer_fits(n: usize, room: usize) -> bool
-    ensures { λ r. ⌜ r ≡ leb n (min room (standard .bytes)) ⌝ }
+// Whether an answer of so many bytes is within a result buffer and the limit on a form's length.
+pub fn answer_fits(limits: Limits, n: usize, room: usize) -> bool
+    ensures { λ r. ⌜ r ≡ leb n (min room (asLimits limits .bytes)) ⌝ }
 {
-    if Limits::BYTES < n {
+    if limits.bytes < n {
         return false;
     }
     n <= room

@@ -6,34 +6,29 @@ use forms::limits::Limits;
 use forms::refusals::Refusal;
 use forms::types::whole_type;
 use forms::values::whole_value;
+use schemas::sections::Sections;
 use schemas::whole::Checked;
 use schemas::whole::check_schema;
 ghost use mathlib.Core.Path.{_≡_};
-ghost use Rattle.cedar.specs.Limits.{standard};
 ghost use Rattle.cedar.specs.Calls.{conformsCall};
-ghost use Rattle.schemas.specs.SchemaBytes.{checked};
+ghost use Rattle.forms.specs.Limits.{asLimits};
+ghost use Rattle.schemas.specs.SchemaBytes.{limitsOf, checked};
+ghost use Rattle.schemas.specs.Entries.{Sectioned};
 ghost use Rattle.validator.specs.Answers.{answerOf};
 
-// The answer under a schema that was checked before.
-pub fn typecheck_restricted_expr_checked(
-    schema: &[u8],
-    check: Checked,
-    t: &[u8],
-    v: &[u8],
-) -> Answer
-    requires { ⌜ check ≡ checked (now schema) ⌝ }
-    ensures { λ r. ⌜ r ≡ answerOf (conformsCall standard (now (schema .entry)) (now (t .entry)) (now (v .entry))) ⌝ }
+// The answer for a whole schema.
+fn conforms_under(schema: &[u8], at: Sections, t: &[u8], v: &[u8]) -> Answer
+    requires { ⌜ Sectioned (now schema) «at» ⌝ }
+    ensures { λ r. ⌜ r ≡ answerOf (conformsCall (asLimits («at» .limits)) (now (schema .entry)) (now (t .entry)) (now (v .entry))) ⌝ }
 {
-    let Checked::Whole(sections) = check else {
-        return Answer::Refused(Refusal::SCHEMA);
-    };
-    if !whole_type(t) {
+    let limits = at.limits;
+    if !whole_type(t, limits) {
         return Answer::Refused(Refusal::FIRST);
     }
-    if !whole_value(v) {
+    if !whole_value(v, limits) {
         return Answer::Refused(Refusal::VALUE);
     }
-    let said = conforms(schema, sections, t, v, Limits::LEVELS);
+    let said = conforms(schema, at, t, v, limits.levels);
     match said {
         Verdict::Holds => Answer::Yes,
         Verdict::Fails => Answer::No,
@@ -42,9 +37,28 @@ pub fn typecheck_restricted_expr_checked(
     }
 }
 
-// Yes, no, or the number of the first question that has a no.
-pub fn typecheck_restricted_expr(schema: &[u8], t: &[u8], v: &[u8]) -> Answer
-    ensures { λ r. ⌜ r ≡ answerOf (conformsCall standard (now (schema .entry)) (now (t .entry)) (now (v .entry))) ⌝ }
+// The answer under a schema that was checked before, and the limits of its check.
+pub fn typecheck_restricted_expr_checked(
+    schema: &[u8],
+    check: Checked,
+    t: &[u8],
+    v: &[u8],
+) -> Answer
+    requires { ⌜ check ≡ checked (limitsOf check) (now schema) ⌝ }
+    ensures { λ r. ⌜ r ≡ answerOf (conformsCall (asLimits (limitsOf check)) (now (schema .entry)) (now (t .entry)) (now (v .entry))) ⌝ }
 {
-    typecheck_restricted_expr_checked(schema, check_schema(schema), t, v)
+    if !check.limits().are_allowed() {
+        return Answer::Refused(Refusal::LIMITS);
+    }
+    let Checked::Whole(at) = check else {
+        return Answer::Refused(Refusal::SCHEMA);
+    };
+    conforms_under(schema, at, t, v)
+}
+
+// Yes, no, or the number of the first question that has a no.
+pub fn typecheck_restricted_expr(limits: Limits, schema: &[u8], t: &[u8], v: &[u8]) -> Answer
+    ensures { λ r. ⌜ r ≡ answerOf (conformsCall (asLimits limits) (now (schema .entry)) (now (t .entry)) (now (v .entry))) ⌝ }
+{
+    typecheck_restricted_expr_checked(schema, check_schema(limits, schema), t, v)
 }

@@ -7,7 +7,7 @@ use mathlib.Core.Path.{_≡_, refl, ap, sym, subst, _∙_}
 use lib.ListN.{getD}
 use denote.Ref.{RefT, now}
 use Rattle.cedar.specs.Outcome.{Outcome}
-use Rattle.cedar.specs.Limits.{standard}
+use Rattle.cedar.specs.Limits.{Limits, mostBytes}
 use Rattle.cedar.specs.BodyPlace.{bodyIn}
 use Rattle.cedar.specs.Calls.{ownAttributeCall}
 use Rattle.validator.specs.declared.answers.Answer.{Answer}
@@ -45,10 +45,10 @@ pub one-answer : (a b : Answer) → answerNumber a ≡ answerNumber b → a ≡ 
 one-answer a b e = sym (reads a) ∙ ap readAnswer e ∙ reads b
 
 -- The lengths that an answer tells.
-pub wrote-brief : (a : Answer) (n : ℕ) → Brief a → a ≡ Wrote n → n ≤ 4096
+pub wrote-brief : (a : Answer) (n : ℕ) → Brief a → a ≡ Wrote n → n ≤ mostBytes
 wrote-brief a n h e = subst Brief e h
 
-pub attribute-brief : (a : Answer) (q : Bool) (n : ℕ) → Brief a → a ≡ Attribute q n → n ≤ 4096
+pub attribute-brief : (a : Answer) (q : Bool) (n : ℕ) → Brief a → a ≡ Attribute q n → n ≤ mostBytes
 attribute-brief a q n h e = subst Brief e h
 
 -- The number of an answer, case by case.
@@ -73,7 +73,7 @@ module _ {o : Outcome} {a : Answer} {before after : List ℕ} (r : ℕ) (e : r �
   numbered-in q = record { number = e ∙ ap answerNumber (q .answer); result = q .result; cleared = q .cleared }
 
 -- A part's number is read as the part that it was made of.
-located : (s e : ℕ) → s ≤ 4096 → ((s + packedStep * e) % packedStep ≡ s) × ((s + packedStep * e) / packedStep ≡ e)
+located : (s e : ℕ) → s ≤ mostBytes → ((s + packedStep * e) % packedStep ≡ s) × ((s + packedStep * e) / packedStep ≡ e)
 located s e l = (omega (arith, l), omega (arith, l))
 
 part-kind : (k n : ℕ) → k < kindStep → readPart (k + kindStep * n) ≡ partWith k n
@@ -90,16 +90,16 @@ pub one-part : (p q : OwnPart) → Narrow p → Narrow q → partNumber p ≡ pa
 one-part p q hp hq e = sym (reads-part p hp) ∙ ap readPart e ∙ reads-part q hq
 
 -- A place within a whole form.
-pub narrow : (schema : List ℕ) (a : ℕ) (t : RefT (List ℕ)) → ((i : ℕ) → getD (now t) i 0 < 256) → (p : OwnPart) →
-    p ≡ partOf (ownAttributeCall standard schema a (now t)) (bodyIn standard a (now t)) → Narrow p
-narrow schema a t known p e = go p refl
+pub narrow : (lim : Limits) (schema : List ℕ) (a : ℕ) (t : RefT (List ℕ)) → ((i : ℕ) → getD (now t) i 0 < 256) → (p : OwnPart) →
+    p ≡ partOf (ownAttributeCall lim schema a (now t)) (bodyIn lim a (now t)) → Narrow p
+narrow lim schema a t known p e = go p refl
   where
     go : (x : OwnPart) → p ≡ x → Narrow x
     go (places.Refused n) i = tt
     go places.Nothing i = tt
-    go (places.At s z q) i = let f = here-found schema a t known p e s z q i in (omega (arith, f .order, f .inside, f .few), omega (arith, f .inside, f .few))
+    go (places.At s z q) i = let f = here-found lim schema a t known p e s z q i in (omega (arith, f .order, f .inside, f .few), omega (arith, f .inside, f .few))
 
-pub at-narrow : (p : OwnPart) (s e : ℕ) (q : Bool) → Narrow p → p ≡ places.At s e q → (s ≤ 4096) × (e ≤ 4096)
+pub at-narrow : (p : OwnPart) (s e : ℕ) (q : Bool) → Narrow p → p ≡ places.At s e q → (s ≤ mostBytes) × (e ≤ mostBytes)
 at-narrow p s e q h at = subst Narrow at h
 
 -- The number of a part, case by case.

@@ -12,9 +12,10 @@ use lib.Seq.{take-append-seam}
 use denote.Ref.{RefT, now}
 use Rattle.cedar.specs.Types.{Ty, Schema, maybe}
 use Rattle.cedar.specs.TypeForm.{enc}
-use Rattle.cedar.specs.Limits.{Limits}
+use Rattle.cedar.specs.Bytes.{guard}
+use Rattle.cedar.specs.Limits.{Limits, allowed}
 use Rattle.cedar.specs.Whole.{wholeSchema, wholeType}
-use Rattle.cedar.specs.Result.{Result, ok, err, badSchema, badFirst}
+use Rattle.cedar.specs.Result.{Result, ok, err, badLimits, badSchema, badFirst}
 use Rattle.cedar.specs.Bound.{bound}
 use Rattle.cedar.specs.Attribute.{ownAttr}
 use Rattle.cedar.specs.Conformance.{shorter}
@@ -22,7 +23,7 @@ use Rattle.cedar.specs.Conforms.{Conforms}
 use Rattle.cedar.specs.Outcome.{Outcome, refused, said, nothing, typed, attribute, named, bytesOf, resultAfter}
 use Rattle.cedar.specs.Calls.{ask, modeOf, writeType, disjointCall, boundCall, lookupCall, ownAttributeCall, mayHaveCall, conformsCall}
 use Rattle.cedar.specs.Sequence.{written, LooksUp}
-use Rattle.cedar.specs.Laws.Calls.{ask-case, answer-case}
+use Rattle.cedar.specs.Laws.Calls.{ask-case, allowed-case, answer-case}
 use Rattle.validator.specs.Answers.{answerOf, Answered, AnsweredIn}
 use Rattle.validator.specs.Handed.{toldOf, Handed}
 use Rattle.validator.specs.declared.answers.Answer.{Answer}
@@ -47,7 +48,8 @@ type-unnamed lim room (err n) ns e = apart (cc)
 -- A bound call answers with no name list, the other outcome whose answer is `Wrote`.
 bound-unnamed : {C : Type 0} (lim : Limits) (mode : ℕ) (schema t₀ t₁ : List ℕ) (room : ℕ) (ns : List ℕ) → boundCall lim mode schema t₀ t₁ room ≡ named ns → C
 bound-unnamed lim mode schema t₀ t₁ room ns e =
-    ask-case _ (modeOf mode) _ (named ns) tt e λ m em e₁.
+    allowed-case lim _ (named ns) tt e λ _ e₀.
+    ask-case _ (modeOf mode) _ (named ns) tt e₀ λ m em e₁.
     ask-case _ (wholeSchema lim schema) _ (named ns) tt e₁ λ s es e₂.
     ask-case _ (wholeType lim t₀) _ (named ns) tt e₂ λ a ea e₃.
     ask-case _ (wholeType lim t₁) _ (named ns) tt e₃ λ b eb e₄.
@@ -108,7 +110,7 @@ abbrev letter : Bool → ℕ
 letter true = 114
 letter false = 111
 
-no-letter : {C : Type 0} (q : Bool) (n : ℕ) → letter q ≡ n → n < 4 → C
+no-letter : {C : Type 0} (q : Bool) (n : ℕ) → letter q ≡ n → n < 111 → C
 no-letter true n e l = absurd (omega arith)
 no-letter false n e l = absurd (omega arith)
 
@@ -119,15 +121,16 @@ letter-flag false true t e = absurd (omega arith)
 letter-flag false false t e = refl
 
 -- The second entry's outcome, by its questions' answers.
-abbrev owned : Option Schema → Option Ty → (Ty → Option (Bool × Ty)) → Outcome
-owned p o f = ask badSchema p (λ s. ask badFirst o (λ u. maybe nothing (λ y. attribute (y .0) (y .1)) (f u)))
+abbrev owned : Option (Unit {0}) → Option Schema → Option Ty → (Ty → Option (Bool × Ty)) → Outcome
+owned l p o f = ask badLimits l (λ _. ask badSchema p (λ s. ask badFirst o (λ u. maybe nothing (λ y. attribute (y .0) (y .1)) (f u))))
 
--- It refuses with 2 or 3 alone, so a letter is an attribute's.
-letter-seen : (p : Option Schema) (o : Option Ty) (f : Ty → Option (Bool × Ty)) (q : Bool) → letter q ≡ toldOf (owned p o f) →
-    (y : Ty) × (owned p o f ≡ attribute q y)
-letter-seen none o f q e = no-letter q 2 e (omega arith)
-letter-seen (some s) none f q e = no-letter q 3 e (omega arith)
-letter-seen (some s) (some u) f q e = go (f u) e
+-- It refuses with 20, 2 or 3 alone, so a letter is an attribute's.
+letter-seen : (l : Option (Unit {0})) (p : Option Schema) (o : Option Ty) (f : Ty → Option (Bool × Ty)) (q : Bool) → letter q ≡ toldOf (owned l p o f) →
+    (y : Ty) × (owned l p o f ≡ attribute q y)
+letter-seen none p o f q e = no-letter q 20 e (omega arith)
+letter-seen (some _) none o f q e = no-letter q 2 e (omega arith)
+letter-seen (some _) (some s) none f q e = no-letter q 3 e (omega arith)
+letter-seen (some _) (some s) (some u) f q e = go (f u) e
   where
     go : (x : Option (Bool × Ty)) → letter q ≡ toldOf (maybe nothing (λ y. attribute (y .0) (y .1)) x) →
         (y : Ty) × (maybe nothing (λ y. attribute (y .0) (y .1)) x ≡ attribute q y)
@@ -138,7 +141,7 @@ module _ (lim : Limits) (schema : List ℕ) (a : ℕ) (t : List ℕ) (place : Op
     (h : Handed (ownAttributeCall lim schema a t) place own part told) where
   part-finds : (q : Bool) → told ≡ letter q → (y : Ty) × LooksUp lim schema a t q y × (enc y ≡ now part)
   part-finds q e =
-      let (y, p) = letter-seen (wholeSchema lim schema) (wholeType lim t) (ownAttr a) q (sym e ∙ h .which) in
+      let (y, p) = letter-seen (guard (allowed lim)) (wholeSchema lim schema) (wholeType lim t) (ownAttr a) q (sym e ∙ h .which) in
       (y, inr p, sym (h .handed ∙ ap bytesOf p))
 
   -- Lookup's second entry: a part told as r (114) is the form of a type that is looked up as required,

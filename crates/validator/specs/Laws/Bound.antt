@@ -9,7 +9,7 @@ use lib.ListN.{length, getD}
 use Rattle.cedar.specs.Types.{Mode, Ty, Schema}
 use Rattle.cedar.specs.Laws.Shape.{Ordered}
 use Rattle.cedar.specs.Bytes.{Bytes}
-use Rattle.cedar.specs.Limits.{standard}
+use Rattle.cedar.specs.Limits.{Limits, allowed}
 use Rattle.cedar.specs.Whole.{wholeType, wholeSchema}
 use Rattle.cedar.specs.Result.{Result}
 use Rattle.cedar.specs.Outcome.{Outcome, refused}
@@ -23,30 +23,30 @@ use Rattle.forms.specs.Laws.Bytes.{Bytes-index}
 use Rattle.validator.specs.Laws.Questions.{there}
 
 -- A whole type is in order.
-ordered : (b : List ℕ) (a : Ty) → ((i : ℕ) → getD b i 0 < 256) → wholeType standard b ≡ some a → Ordered a
-ordered b a known e = (wholeType-reads standard) .into b a (Bytes-index b known) e .1 .0 .1
+ordered : (lim : Limits) (b : List ℕ) (a : Ty) → ((i : ℕ) → getD b i 0 < 256) → wholeType lim b ≡ some a → Ordered a
+ordered lim b a known e = (wholeType-reads lim) .into b a (Bytes-index b known) e .1 .0 .1
 
-module _ (mode : ℕ) (s t₀ t₁ : List ℕ) (room : ℕ) where
-  pub bound-mode : modeOf mode ≡ none → boundCall standard mode s t₀ t₁ room ≡ refused 1
-  bound-mode e = rw e refl
+module _ (lim : Limits) (fair : allowed lim ≡ true) (mode : ℕ) (s t₀ t₁ : List ℕ) (room : ℕ) where
+  pub bound-mode : modeOf mode ≡ none → boundCall lim mode s t₀ t₁ room ≡ refused 1
+  bound-mode e = rw (fair, e) refl
 
   module _ (m : Mode) (em : modeOf mode ≡ some m) where
-    pub bound-schema : wholeSchema standard s ≡ none → boundCall standard mode s t₀ t₁ room ≡ refused 2
-    bound-schema e = rw (em, e) refl
+    pub bound-schema : wholeSchema lim s ≡ none → boundCall lim mode s t₀ t₁ room ≡ refused 2
+    bound-schema e = rw (fair, em, e) refl
 
-    module _ (x : Schema) (es : wholeSchema standard s ≡ some x) where
-      pub bound-first : wholeType standard t₀ ≡ none → boundCall standard mode s t₀ t₁ room ≡ refused 3
-      bound-first e = rw (em, es, e) refl
+    module _ (x : Schema) (es : wholeSchema lim s ≡ some x) where
+      pub bound-first : wholeType lim t₀ ≡ none → boundCall lim mode s t₀ t₁ room ≡ refused 3
+      bound-first e = rw (fair, em, es, e) refl
 
-      module _ (ea : wholeType standard t₀ ≡ some (dec 16 t₀)) where
-        pub bound-second : wholeType standard t₁ ≡ none → boundCall standard mode s t₀ t₁ room ≡ refused 4
-        bound-second e = rw (em, es, ea, e) refl
+      module _ (ea : wholeType lim t₀ ≡ some (dec (lim .levels) t₀)) where
+        pub bound-second : wholeType lim t₁ ≡ none → boundCall lim mode s t₀ t₁ room ≡ refused 4
+        bound-second e = rw (fair, em, es, ea, e) refl
 
         -- The bound that the direct walk gives.
-        pub bound-direct : ((i : ℕ) → getD t₀ i 0 < 256) → ((i : ℕ) → getD t₁ i 0 < 256) → wholeType standard t₁ ≡ some (dec 16 t₁)
-            → boundCall standard mode s t₀ t₁ room ≡ writeType standard room (direct m (dec 16 t₀) (dec 16 t₁))
+        pub bound-direct : ((i : ℕ) → getD t₀ i 0 < 256) → ((i : ℕ) → getD t₁ i 0 < 256) → wholeType lim t₁ ≡ some (dec (lim .levels) t₁)
+            → boundCall lim mode s t₀ t₁ room ≡ writeType lim room (direct m (dec (lim .levels) t₀) (dec (lim .levels) t₁))
         bound-direct k₀ k₁ eb =
-            calls ∙ ap (writeType standard room) (sym (direct-bound (dec 16 t₀) m (dec 16 t₁) (ordered t₀ (dec 16 t₀) k₀ ea) (ordered t₁ (dec 16 t₁) k₁ eb)))
+            calls ∙ ap (writeType lim room) (sym (direct-bound (dec (lim .levels) t₀) m (dec (lim .levels) t₁) (ordered lim t₀ (dec (lim .levels) t₀) k₀ ea) (ordered lim t₁ (dec (lim .levels) t₁) k₁ eb)))
           where
-            calls : boundCall standard mode s t₀ t₁ room ≡ writeType standard room (bound m (dec 16 t₀) (dec 16 t₁))
-            calls = rw (em, es, ea, eb) refl
+            calls : boundCall lim mode s t₀ t₁ room ≡ writeType lim room (bound m (dec (lim .levels) t₀) (dec (lim .levels) t₁))
+            calls = rw (fair, em, es, ea, eb) refl

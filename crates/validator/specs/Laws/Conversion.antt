@@ -1,11 +1,12 @@
 -- The call of conversion, question by question. Assumes nothing.
 use mathlib.Core.Path.{_≡_, refl, ap, _∙_}
 use mathlib.Core.List.{List}
+use mathlib.Core.Bool.{true}
 use mathlib.Core.Option.{Option, none, some}
 use Prim.Native.Nat.{ℕ}
 use Rattle.cedar.specs.Types.{Ty}
 use Rattle.cedar.specs.Conversion.{convert}
-use Rattle.cedar.specs.Limits.{standard}
+use Rattle.cedar.specs.Limits.{Limits, allowed}
 use Rattle.cedar.specs.Whole.{wholeType}
 use Rattle.cedar.specs.Result.{ok}
 use Rattle.cedar.specs.Outcome.{refused}
@@ -14,13 +15,14 @@ use Rattle.forms.specs.TypeBytes.{dec}
 use Rattle.writing.specs.FormLengths.{orRefuse}
 use Rattle.conversions.specs.CoreTypes.{core}
 
-pub convert-not : (b : List ℕ) (room : ℕ) → wholeType standard b ≡ none → convertCall standard b room ≡ refused 3
-convert-not b room e = rw e refl
+module _ (lim : Limits) (fair : allowed lim ≡ true) (b : List ℕ) (room : ℕ) where
+  pub convert-not : wholeType lim b ≡ none → convertCall lim b room ≡ refused 3
+  convert-not e = rw (fair, e) refl
 
-pub convert-whole : (b : List ℕ) (room : ℕ) → wholeType standard b ≡ some (dec 16 b) → convertCall standard b room ≡ writeType standard room (core (dec 16 b))
-unfolding core
-convert-whole b room e = rw e (go (convert (dec 16 b)))
-  where
-    go : (o : Option Ty) → ask 8 o (λ c. writeType standard room (ok c)) ≡ writeType standard room (orRefuse 8 o)
-    go none = refl
-    go (some c) = refl
+  pub convert-whole : wholeType lim b ≡ some (dec (lim .levels) b) → convertCall lim b room ≡ writeType lim room (core (dec (lim .levels) b))
+  unfolding core
+  convert-whole e = rw (fair, e) (go (convert (dec (lim .levels) b)))
+    where
+      go : (o : Option Ty) → ask 8 o (λ c. writeType lim room (ok c)) ≡ writeType lim room (orRefuse 8 o)
+      go none = refl
+      go (some c) = refl

@@ -10,12 +10,13 @@ use denote.Ref.{RefT, ptr, now}
 use Rattle.cedar.specs.Types.{Ty, Schema}
 use Rattle.cedar.specs.Bytes.{Bytes}
 use Rattle.cedar.specs.TypeForm.{enc}
-use Rattle.cedar.specs.Limits.{standard}
+use Rattle.cedar.specs.Limits.{Limits, mostBytes, allowed}
 use Rattle.cedar.specs.Whole.{wholeType, wholeSchema}
 use Rattle.cedar.specs.Outcome.{Outcome, refused, nothing, attribute, bytesOf}
 use Rattle.cedar.specs.Attribute.{ownAttr}
 use Rattle.cedar.specs.BodyPlace.{bodyPlace, bodyIn}
 use Rattle.cedar.specs.Calls.{ownAttributeCall}
+use Rattle.cedar.specs.Laws.Limits.{allowed-bytes, own-attribute-refused}
 use Rattle.cedar.specs.Laws.Whole.{wholeType-reads}
 use Rattle.cedar.specs.Laws.BodyPlace.{Stands, body-in-stands}
 use Rattle.forms.specs.Parts.{part}
@@ -28,50 +29,55 @@ use Rattle.validator.specs.declared.own_attribute_type.OwnPart.{OwnPart}
 use Rattle.validator.specs.declared.own_attribute_type.OwnPart.the-variants.{Refused, Nothing, At}
 
 -- The part, question by question.
-module _ (schema : List ℕ) (a : ℕ) (b : List ℕ) where
-  abbrev pub partHere : OwnPart
-  partHere = partOf (ownAttributeCall standard schema a b) (bodyIn standard a b)
+module _ (lim : Limits) (fair : allowed lim ≡ true) (schema : List ℕ) (a : ℕ) (b : List ℕ) where
+  abbrev partHere : OwnPart
+  partHere = partOf (ownAttributeCall lim schema a b) (bodyIn lim a b)
 
   -- The schema is not whole: 2.
-  pub part-no-schema : wholeSchema standard schema ≡ none → Refused 2 ≡ partHere
-  part-no-schema e = rw e refl
+  pub part-no-schema : wholeSchema lim schema ≡ none → Refused 2 ≡ partHere
+  part-no-schema e = rw (fair, e) refl
 
-  module _ (w : Schema) (f : wholeSchema standard schema ≡ some w) where
+  module _ (w : Schema) (f : wholeSchema lim schema ≡ some w) where
     -- The type is not whole: 3.
-    pub part-no-type : wholeType standard b ≡ none → Refused 3 ≡ partHere
-    part-no-type e = rw (f, e) refl
+    pub part-no-type : wholeType lim b ≡ none → Refused 3 ≡ partHere
+    part-no-type e = rw (fair, f, e) refl
 
-    module _ (u : Ty) (e : wholeType standard b ≡ some u) where
+    module _ (u : Ty) (e : wholeType lim b ≡ some u) where
       -- There is no such attribute.
       pub part-nothing : ownAttr a u ≡ none → Nothing ≡ partHere
-      part-nothing o = rw (f, e, o) refl
+      part-nothing o = rw (fair, f, e, o) refl
 
       -- The attribute found from s to z, with its flag.
       pub part-at : (q : Bool) (y : Ty) → ownAttr a u ≡ some (q, y) → (r : Place) (s z : ℕ) → r ≡ places.At s z q → placeSpan r ≡ bodyPlace a u →
           At s z q ≡ partHere
-      part-at q y o r s z at p = let here : bodyPlace a u ≡ some (s, z) = sym p ∙ ap placeSpan at in rw (f, e, o, here) refl
+      part-at q y o r s z at p = let here : bodyPlace a u ≡ some (s, z) = sym p ∙ ap placeSpan at in rw (fair, f, e, o, here) refl
 
 -- What the call comes to on bytes: a refusal; none; an attribute, whose type's form stands at its place.
 pub data Comes (b : List ℕ) (o : Outcome) (place : Option (ℕ × ℕ)) : Type 0 where
   refuses : (n : ℕ) → o ≡ refused n → Comes b o place
   lacks : o ≡ nothing → Comes b o place
-  has : (q : Bool) (y : Ty) → o ≡ attribute q y → Stands b place (enc y) → length b ≤ 4096 → Comes b o place
+  has : (q : Bool) (y : Ty) → o ≡ attribute q y → Stands b place (enc y) → length b ≤ mostBytes → Comes b o place
 
-pub comes : (schema : List ℕ) (a : ℕ) (b : List ℕ) → Bytes b → Comes b (ownAttributeCall standard schema a b) (bodyIn standard a b)
-comes schema a b h = go (wholeSchema standard schema) refl (wholeType standard b) refl
+pub comes : (lim : Limits) (schema : List ℕ) (a : ℕ) (b : List ℕ) → Bytes b → Comes b (ownAttributeCall lim schema a b) (bodyIn lim a b)
+comes lim schema a b h = limits (allowed lim) refl
   where
-    own : (w : Schema) → wholeSchema standard schema ≡ some w → (u : Ty) → wholeType standard b ≡ some u → (y : Option (Bool × Ty)) → ownAttr a u ≡ y
-        → Comes b (ownAttributeCall standard schema a b) (bodyIn standard a b)
-    own w e u f none g = lacks (rw (e, f, g) refl)
-    own w e u f (some y) g =
-        let r = (wholeType-reads standard) .into b u h f in
-        has (y .0) (y .1) (rw (e, f, g) refl) (body-in-stands standard a b u f h y g) (subst (λ (l : List ℕ). length l ≤ 4096) (r .0) (r .1 .1))
+    own : allowed lim ≡ true → (w : Schema) → wholeSchema lim schema ≡ some w → (u : Ty) → wholeType lim b ≡ some u → (y : Option (Bool × Ty)) →
+        ownAttr a u ≡ y → Comes b (ownAttributeCall lim schema a b) (bodyIn lim a b)
+    own fair w e u f none g = lacks (rw (fair, e, f, g) refl)
+    own fair w e u f (some y) g =
+        let r = (wholeType-reads lim) .into b u h f in
+        let few : length b ≤ lim .bytes = subst (λ (l : List ℕ). length l ≤ lim .bytes) (r .0) (r .1 .1) in
+        has (y .0) (y .1) (rw (fair, e, f, g) refl) (body-in-stands lim a b u f h y g) (omega (arith, few, allowed-bytes lim fair .1))
 
-    go : (x : Option Schema) → wholeSchema standard schema ≡ x → (t : Option Ty) → wholeType standard b ≡ t →
-        Comes b (ownAttributeCall standard schema a b) (bodyIn standard a b)
-    go none e t f = refuses 2 (rw e refl)
-    go (some w) e none f = refuses 3 (rw (e, f) refl)
-    go (some w) e (some u) f = own w e u f (ownAttr a u) refl
+    go : allowed lim ≡ true → (x : Option Schema) → wholeSchema lim schema ≡ x → (t : Option Ty) → wholeType lim b ≡ t →
+        Comes b (ownAttributeCall lim schema a b) (bodyIn lim a b)
+    go fair none e t f = refuses 2 (rw (fair, e) refl)
+    go fair (some w) e none f = refuses 3 (rw (fair, e, f) refl)
+    go fair (some w) e (some u) f = own fair w e u f (ownAttr a u) refl
+
+    limits : (y : Bool) → allowed lim ≡ y → Comes b (ownAttributeCall lim schema a b) (bodyIn lim a b)
+    limits false bad = refuses 20 (own-attribute-refused lim bad schema a b)
+    limits true fair = go fair (wholeSchema lim schema) refl (wholeType lim b) refl
 
 -- An attribute with its flag, and the form b from s to z.
 pub record Found (b : List ℕ) (o : Outcome) (s z : ℕ) (q : Bool) : Type 0 where
@@ -79,7 +85,7 @@ pub record Found (b : List ℕ) (o : Outcome) (s z : ℕ) (q : Bool) : Type 0 wh
   pub is : o ≡ attribute q type
   pub order : s ≤ z
   pub inside : z ≤ length b
-  pub few : length b ≤ 4096
+  pub few : length b ≤ mostBytes
   pub bytes : part s z b ≡ enc type
 
 -- What is handed back, by the part.
@@ -155,12 +161,13 @@ module _ (t : RefT (List ℕ)) (o : Outcome) (place : Option (ℕ × ℕ)) (c : 
       handed-optional y = told 111 (ap (λ (x : Bool). toldOf (attribute x (found .type))) (sym y))
 
 -- The same of the call.
-module _ (schema : List ℕ) (a : ℕ) (t : RefT (List ℕ)) (known : (i : ℕ) → getD (now t) i 0 < 256) (p : OwnPart) (e : p ≡ partHere schema a (now t)) where
-  comes-here : Comes (now t) (ownAttributeCall standard schema a (now t)) (bodyIn standard a (now t))
-  comes-here = comes schema a (now t) (Bytes-index (now t) known)
+module _ (lim : Limits) (schema : List ℕ) (a : ℕ) (t : RefT (List ℕ)) (known : (i : ℕ) → getD (now t) i 0 < 256) (p : OwnPart)
+    (e : p ≡ partOf (ownAttributeCall lim schema a (now t)) (bodyIn lim a (now t))) where
+  comes-here : Comes (now t) (ownAttributeCall lim schema a (now t)) (bodyIn lim a (now t))
+  comes-here = comes lim schema a (now t) (Bytes-index (now t) known)
 
   abbrev HandedHere : RefT (List ℕ) → ℕ → Type 0
-  HandedHere r n = Handed (ownAttributeCall standard schema a (now t)) (bodyIn standard a (now t)) t r n
+  HandedHere r n = Handed (ownAttributeCall lim schema a (now t)) (bodyIn lim a (now t)) t r n
 
   pub here-refused : (n : ℕ) → p ≡ Refused n → (r : RefT (List ℕ)) → ptr r ≡ ptr t → now r ≡ [] → HandedHere r n
   here-refused = handed-refused t _ _ comes-here p e
@@ -169,7 +176,7 @@ module _ (schema : List ℕ) (a : ℕ) (t : RefT (List ℕ)) (known : (i : ℕ) 
   here-nothing = handed-nothing t _ _ comes-here p e
 
   module _ (s z : ℕ) (q : Bool) (at : p ≡ At s z q) where
-    pub here-found : Found (now t) (ownAttributeCall standard schema a (now t)) s z q
+    pub here-found : Found (now t) (ownAttributeCall lim schema a (now t)) s z q
     here-found = found t _ _ comes-here p e s z q at
 
     module _ (r : RefT (List ℕ)) (block : ptr r .0 ≡ ptr t .0) (offset : ptr r .1 ≡ ptr t .1 + s) (bytes : now r ≡ part s z (now t)) where

@@ -1,5 +1,5 @@
 -- The outcome of `lookup_attribute_type`, question by question. Assumes nothing.
-use Prim.Native.Nat.{ℕ, _≤_, min}
+use Prim.Native.Nat.{ℕ, _-_, _≤_, min}
 use native.Mathlib.Omega.{arith}
 use mathlib.Core.List.{List}
 use mathlib.Core.Bool.{Bool, true, false, not}
@@ -10,7 +10,7 @@ use lib.ListN.{length}
 use borrow.Author.Tests.{leb-true, not-true, not-false}
 use Rattle.cedar.specs.Types.{Ty, Schema}
 use Rattle.cedar.specs.TypeForm.{enc}
-use Rattle.cedar.specs.Limits.{standard}
+use Rattle.cedar.specs.Limits.{Limits, allowed}
 use Rattle.cedar.specs.Result.{Result, ok, err}
 use Rattle.cedar.specs.Whole.{wholeType, wholeSchema}
 use Rattle.cedar.specs.Outcome.{Outcome, nothing, refused, attribute, over}
@@ -27,26 +27,26 @@ use Rattle.validator.specs.declared.answers.Answer.the-variants.{Refused
 use Rattle.validator.specs.Answers.{Answered}
 use Rattle.validator.specs.Laws.Writing.{refuses}
 
-module _ (schema : List ℕ) (a : ℕ) (t o : List ℕ) (work : ℕ) where
+module _ (lim : Limits) (fair : allowed lim ≡ true) (schema : List ℕ) (a : ℕ) (t o : List ℕ) (work : ℕ) where
   abbrev outcome : Outcome
-  outcome = lookupCall standard schema a t (length o) work
+  outcome = lookupCall lim schema a t (length o) work
 
-  pub lookup-no-schema : wholeSchema standard schema ≡ none → Answered outcome o o (Refused 2)
-  lookup-no-schema e = refuses 2 (rw e refl)
+  pub lookup-no-schema : wholeSchema lim schema ≡ none → Answered outcome o o (Refused 2)
+  lookup-no-schema e = refuses 2 (rw (fair, e) refl)
 
-  module _ (s : Schema) (f : wholeSchema standard schema ≡ some s) where
-    pub lookup-no-type : wholeType standard t ≡ none → Answered outcome o o (Refused 3)
-    lookup-no-type e = refuses 3 (rw (f, e) refl)
+  module _ (s : Schema) (f : wholeSchema lim schema ≡ some s) where
+    pub lookup-no-type : wholeType lim t ≡ none → Answered outcome o o (Refused 3)
+    lookup-no-type e = refuses 3 (rw (fair, f, e) refl)
 
-    module _ (u : Ty) (g : wholeType standard t ≡ some u) (last : List ℕ) (r : Looked) (h : LookedUp (lookup (stepFits standard work) s a u) last r) where
-      goes-on : outcome ≡ writeAttribute standard (length o) (lookup (stepFits standard work) s a u)
-      goes-on = rw (f, g) refl
+    module _ (u : Ty) (g : wholeType lim t ≡ some u) (last : List ℕ) (r : Looked) (h : LookedUp lim (lookup (stepFits lim work) s a u) last r) where
+      goes-on : outcome ≡ writeAttribute lim (length o) (lookup (stepFits lim work) s a u)
+      goes-on = rw (fair, f, g) refl
 
-      ends : (x : Looked) → r ≡ x → LookedUp (lookup (stepFits standard work) s a u) last x
-      ends x e = subst (λ (y : Looked). LookedUp (lookup (stepFits standard work) s a u) last y) e h
+      ends : (x : Looked) → r ≡ x → LookedUp lim (lookup (stepFits lim work) s a u) last x
+      ends x e = subst (λ (y : Looked). LookedUp lim (lookup (stepFits lim work) s a u) last y) e h
 
-      comes-to : (y : Result (Option (Bool × Ty))) → lookup (stepFits standard work) s a u ≡ y → outcome ≡ writeAttribute standard (length o) y
-      comes-to y e = goes-on ∙ ap (writeAttribute standard (length o)) e
+      comes-to : (y : Result (Option (Bool × Ty))) → lookup (stepFits lim work) s a u ≡ y → outcome ≡ writeAttribute lim (length o) y
+      comes-to y e = goes-on ∙ ap (writeAttribute lim (length o)) e
 
       pub lookup-nothing : r ≡ looks.Nothing → Answered outcome o o Nothing
       lookup-nothing e =
@@ -55,30 +55,30 @@ module _ (schema : List ℕ) (a : ℕ) (t o : List ℕ) (work : ℕ) where
       pub lookup-too-long : r ≡ looks.TooLong → Answered outcome o o (Refused 9)
       lookup-too-long e = refuses 9 (comes-to (err 9) (ends looks.TooLong e))
 
-      module _ (q : Bool) (n : ℕ) (e : r ≡ looks.Found q n) (full : length last ≡ 4096) where
-        pub small : n ≤ 4096
+      module _ (q : Bool) (n : ℕ) (e : r ≡ looks.Found q n) (full : lim .bytes ≤ length last) where
+        pub small : n ≤ lim .bytes
         small = ends (looks.Found q n) e .1 .fits
 
-        exact : enc (dec 15 (part 0 n last)) ≡ part 0 n last
+        exact : enc (dec (lim .levels - 1) (part 0 n last)) ≡ part 0 n last
         exact = ends (looks.Found q n) e .1 .exact
 
         sized : length (part 0 n last) ≡ n
         sized = length-part 0 n last (omega (arith, small)) ∙ omega arith
 
-        fits-as : (y : Bool) → y ≡ leb n (min (length o) 4096) → leb (length (enc (dec 15 (part 0 n last)))) (min (length o) 4096) ≡ y
-        fits-as y f = ap (λ (k : ℕ). leb k (min (length o) 4096)) (ap length exact ∙ sized) ∙ sym f
+        fits-as : (y : Bool) → y ≡ leb n (min (length o) (lim .bytes)) → leb (length (enc (dec (lim .levels - 1) (part 0 n last)))) (min (length o) (lim .bytes)) ≡ y
+        fits-as y f = ap (λ (k : ℕ). leb k (min (length o) (lim .bytes))) (ap length exact ∙ sized) ∙ sym f
 
-        module _ (y : Bool) (fits : y ≡ leb n (min (length o) 4096)) where
+        module _ (y : Bool) (fits : y ≡ leb n (min (length o) (lim .bytes))) where
           pub lookup-over : not y ≡ true → Answered outcome o o (Refused 10)
-          lookup-over k = refuses 10 (comes-to (ok (some (q, dec 15 (part 0 n last)))) (ends (looks.Found q n) e .0) ∙ rw (fits-as y fits, not-true y k) refl)
+          lookup-over k = refuses 10 (comes-to (ok (some (q, dec (lim .levels - 1) (part 0 n last)))) (ends (looks.Found q n) e .0) ∙ rw (fits-as y fits, not-true y k) refl)
 
           module _ (k : not y ≡ false) where
             pub lookup-room : length (part 0 n last) ≤ length o
-            lookup-room = omega (arith, sized, leb-true n (min (length o) 4096) (sym fits ∙ not-false y k))
+            lookup-room = omega (arith, sized, leb-true n (min (length o) (lim .bytes)) (sym fits ∙ not-false y k))
 
             pub lookup-writes : (xs : List ℕ) → xs ≡ over (part 0 n last) o → Answered outcome o xs (Attribute q n)
             lookup-writes xs w =
-                let c : outcome ≡ attribute q (dec 15 (part 0 n last)) = comes-to (ok (some (q, dec 15 (part 0 n last)))) (ends (looks.Found q n) e .0) ∙
+                let c : outcome ≡ attribute q (dec (lim .levels - 1) (part 0 n last)) = comes-to (ok (some (q, dec (lim .levels - 1) (part 0 n last)))) (ends (looks.Found q n) e .0) ∙
                 rw (fits-as y fits, not-false y k) refl in
                 subst (λ (z : Outcome). Answered z o xs (Attribute q n)) (sym c)
                 record { answer = ap (Attribute q) (sym (ap length exact ∙ sized)); result = w ∙ ap (λ (z : List ℕ). over z o) (sym exact) }

@@ -10,7 +10,7 @@ use lib.ListN.{length}
 use borrow.Author.Tests.{leb-true, not-true, not-false}
 use Rattle.cedar.specs.Types.{Ty, Schema}
 use Rattle.cedar.specs.Bytes.{encNames}
-use Rattle.cedar.specs.Limits.{standard}
+use Rattle.cedar.specs.Limits.{Limits, allowed}
 use Rattle.cedar.specs.Result.{Result, ok, err}
 use Rattle.cedar.specs.Whole.{wholeType, wholeSchema}
 use Rattle.cedar.specs.Outcome.{Outcome, named, over}
@@ -26,24 +26,24 @@ use Rattle.validator.specs.declared.answers.Answer.the-variants.{Refused
 use Rattle.validator.specs.Answers.{Answered}
 use Rattle.validator.specs.Laws.Writing.{refuses}
 
-module _ (schema t o : List ℕ) (work : ℕ) where
+module _ (lim : Limits) (fair : allowed lim ≡ true) (schema t o : List ℕ) (work : ℕ) where
   abbrev outcome : Outcome
-  outcome = namesCall standard schema t (length o) work
+  outcome = namesCall lim schema t (length o) work
 
-  pub names-no-schema : wholeSchema standard schema ≡ none → Answered outcome o o (Refused 2)
-  names-no-schema e = refuses 2 (rw e refl)
+  pub names-no-schema : wholeSchema lim schema ≡ none → Answered outcome o o (Refused 2)
+  names-no-schema e = refuses 2 (rw (fair, e) refl)
 
-  module _ (s : Schema) (f : wholeSchema standard schema ≡ some s) where
-    pub names-no-type : wholeType standard t ≡ none → Answered outcome o o (Refused 3)
-    names-no-type e = refuses 3 (rw (f, e) refl)
+  module _ (s : Schema) (f : wholeSchema lim schema ≡ some s) where
+    pub names-no-type : wholeType lim t ≡ none → Answered outcome o o (Refused 3)
+    names-no-type e = refuses 3 (rw (fair, f, e) refl)
 
-    module _ (u : Ty) (g : wholeType standard t ≡ some u) (before kept : List ℕ) (r : Names) (h : NamedBy (allNames (stepFits standard work) s u) before kept r)
+    module _ (u : Ty) (g : wholeType lim t ≡ some u) (before kept : List ℕ) (r : Names) (h : NamedBy (allNames (stepFits lim work) s u) before kept r)
       where
-        ends : (x : Names) → r ≡ x → NamedBy (allNames (stepFits standard work) s u) before kept x
-        ends x e = subst (λ (y : Names). NamedBy (allNames (stepFits standard work) s u) before kept y) e h
+        ends : (x : Names) → r ≡ x → NamedBy (allNames (stepFits lim work) s u) before kept x
+        ends x e = subst (λ (y : Names). NamedBy (allNames (stepFits lim work) s u) before kept y) e h
 
-        comes-to : (y : Result (List ℕ)) → allNames (stepFits standard work) s u ≡ y → outcome ≡ writeNames standard (length o) y
-        comes-to y e = rw (f, g) (ap (writeNames standard (length o)) e)
+        comes-to : (y : Result (List ℕ)) → allNames (stepFits lim work) s u ≡ y → outcome ≡ writeNames lim (length o) y
+        comes-to y e = rw (fair, f, g) (ap (writeNames lim (length o)) e)
 
         pub names-too-long : r ≡ TooLong → Answered outcome o o (Refused 9)
         names-too-long e = refuses 9 (comes-to (err 9) (ends TooLong e))
@@ -52,23 +52,23 @@ module _ (schema t o : List ℕ) (work : ℕ) where
           all : List ℕ
           all = ends (Of n) e .0
 
-          told : (allNames (stepFits standard work) s u ≡ ok all) × Written (encNames all) before kept n
+          told : (allNames (stepFits lim work) s u ≡ ok all) × Written (encNames all) before kept n
           unfolding all
           told = ends (Of n) e .1
 
           names-form : part 0 n kept ≡ encNames all
           names-form = over-front (encNames all) before kept n (told .1 .bytes) (told .1 .many)
 
-          fits-as : (y : Bool) → y ≡ leb n (min (length o) 4096) → leb (length (encNames all)) (min (length o) 4096) ≡ y
-          fits-as y f = ap (λ (k : ℕ). leb k (min (length o) 4096)) (sym (told .1 .many)) ∙ sym f
+          fits-as : (y : Bool) → y ≡ leb n (min (length o) (lim .bytes)) → leb (length (encNames all)) (min (length o) (lim .bytes)) ≡ y
+          fits-as y f = ap (λ (k : ℕ). leb k (min (length o) (lim .bytes))) (sym (told .1 .many)) ∙ sym f
 
-          module _ (y : Bool) (fits : y ≡ leb n (min (length o) 4096)) where
+          module _ (y : Bool) (fits : y ≡ leb n (min (length o) (lim .bytes))) where
             pub names-over : not y ≡ true → Answered outcome o o (Refused 10)
             names-over k = refuses 10 (comes-to (ok all) (told .0) ∙ rw (fits-as y fits, not-true y k) refl)
 
             module _ (k : not y ≡ false) where
-              pub names-small : n ≤ min (length o) 4096
-              names-small = leb-true n (min (length o) 4096) (sym fits ∙ not-false y k)
+              pub names-small : n ≤ min (length o) (lim .bytes)
+              names-small = leb-true n (min (length o) (lim .bytes)) (sym fits ∙ not-false y k)
 
               pub names-fit : length (part 0 n kept) ≤ length o
               names-fit = omega (arith, names-small, ap length names-form, told .1 .many)

@@ -10,7 +10,8 @@ use lib.ListN.{length}
 use borrow.Author.Tests.{leb-true, not-true, not-false}
 use Rattle.cedar.specs.Types.{present}
 use Rattle.cedar.specs.Bytes.{guard}
-use Rattle.cedar.specs.Limits.{standard}
+use Rattle.cedar.specs.Limits.{Limits, allowed}
+use Rattle.cedar.specs.Result.{badLimits}
 use Rattle.cedar.specs.Whole.{wholeType}
 use Rattle.cedar.specs.Outcome.{Outcome}
 use Rattle.cedar.specs.Calls.{ask}
@@ -50,20 +51,24 @@ guard-no b r q h = ap guard (sym q ∙ not-true r h)
 pub guard-yes : (b r : Bool) → r ≡ b → not r ≡ false → guard b ≡ some tt
 guard-yes b r q h = ap guard (sym q ∙ not-false r h)
 
+-- Under limits that are allowed a call goes on.
+pub within-limits : (lim : Limits) → allowed lim ≡ true → (o : Outcome) {r : Answer} → r ≡ answerOf o → r ≡ answerOf (ask badLimits (guard (allowed lim)) (λ _. o))
+within-limits lim fair o q = ask-on badLimits {o = guard (allowed lim)} (λ (_ : Unit {0}). o) (ap guard fair) q
+
 -- The answer of `whole_type`.
-module _ (b : List ℕ) (r : Bool) (q : r ≡ present (wholeType standard b)) where
-  pub type-missing : not r ≡ true → wholeType standard b ≡ none
-  type-missing h = missing (wholeType standard b) r q h
+module _ (lim : Limits) (b : List ℕ) (r : Bool) (q : r ≡ present (wholeType lim b)) where
+  pub type-missing : not r ≡ true → wholeType lim b ≡ none
+  type-missing h = missing (wholeType lim b) r q h
 
   module _ (h : not r ≡ false) where
-    both : leb (length b) (standard .bytes) && whole (standard .levels) b ≡ true
-    both = sym (sure-present (whole-type-twin standard b)) ∙ sym q ∙ not-false r h
+    both : leb (length b) (lim .bytes) && whole (lim .levels) b ≡ true
+    both = sym (sure-present (whole-type-twin lim b)) ∙ sym q ∙ not-false r h
 
-    pub type-there : wholeType standard b ≡ some (dec (standard .levels) b)
-    type-there = sure-yes (whole-type-twin standard b) both
+    pub type-there : wholeType lim b ≡ some (dec (lim .levels) b)
+    type-there = sure-yes (whole-type-twin lim b) both
 
-    pub type-whole : whole (standard .levels) b ≡ true
-    type-whole = and-r (leb (length b) (standard .bytes)) _ both
+    pub type-whole : whole (lim .levels) b ≡ true
+    type-whole = and-r (leb (length b) (lim .bytes)) _ both
 
-    pub type-few : length b ≤ standard .bytes
-    type-few = leb-true (length b) (standard .bytes) (and-l (leb (length b) (standard .bytes)) (whole (standard .levels) b) both)
+    pub type-few : length b ≤ lim .bytes
+    type-few = leb-true (length b) (lim .bytes) (and-l (leb (length b) (lim .bytes)) (whole (lim .levels) b) both)

@@ -10,7 +10,7 @@ use lib.ListN.{length}
 use borrow.Author.Tests.{not-true, not-false, eqb-true, ltb-true, eq-eqb, ne-eqb}
 use Rattle.cedar.specs.Types.{Value, uid, present}
 use Rattle.cedar.specs.Bytes.{_>>=_}
-use Rattle.cedar.specs.Limits.{standard}
+use Rattle.cedar.specs.Limits.{Limits}
 use Rattle.cedar.specs.ValueForm.{valueKind}
 use Rattle.cedar.specs.Whole.{wholeValue}
 use Rattle.cedar.specs.Conformance.{asUid}
@@ -34,45 +34,56 @@ not-uid d b (suc (suc (suc (suc (suc (suc zero)))))) p = refl
 not-uid d b (suc (suc (suc (suc (suc (suc (suc zero))))))) p = refl
 not-uid d b (suc (suc (suc (suc (suc (suc (suc (suc k)))))))) p = refl
 
-module _ (b : List ℕ) (both : leb (length b) 4096 && wholeV 16 b ≡ true) where
-  there : wholeValue standard b ≡ some (decV 16 b)
-  there = sure-yes (whole-value-twin standard b) both
+-- A whole value, by its levels: it has a first byte, and a uid is of kind 4 and five bytes long.
+level-bytes : (l : ℕ) (b : List ℕ) → wholeV l b ≡ true → 0 < length b
+unfolding wholeV
+level-bytes zero b h = absurd (let z : _≡_ {A = ℕ} 0 1 = cc in omega arith)
+level-bytes (suc l) b h = ltb-true 0 (length b) (and-l (ltb 0 (length b)) (wholeVAs (wholeV l) (valueKind (kind b)) b) h)
 
-  good : wholeV 16 b ≡ true
-  good = and-r (leb (length b) 4096) (wholeV 16 b) both
+level-when : (l : ℕ) (b : List ℕ) → wholeV l b ≡ true → (y : Bool) → y ≡ eqb (kind b) 4 → y ≡ present (asUid (decV l b))
+unfolding wholeV decV
+level-when zero b h y e = absurd (let z : _≡_ {A = ℕ} 0 1 = cc in omega arith)
+level-when (suc l) b h true e = rw (eqb-true (kind b) 4 (sym e)) refl
+level-when (suc l) b h false e =
+    rw (not-uid (decV l) b (kind b)
+    (λ z. absurd (let f : _≡_ {A = Bool} false true = e ∙ eq-eqb (kind b) 4 z in let g : _≡_ {A = ℕ} 0 1 = cc in omega arith))) refl
+
+level-uid : (l : ℕ) (b : List ℕ) → wholeV l b ≡ true → kind b ≡ 4 → (length b ≡ 5) × (asUid (decV l b) ≡ some (rd b 1, rd b 3))
+unfolding wholeV decV
+level-uid zero b h k = absurd (let z : _≡_ {A = ℕ} 0 1 = cc in omega arith)
+level-uid (suc l) b h k =
+    (eqb-true (length b) 5 (rw k at (and-r (ltb 0 (length b)) (wholeVAs (wholeV l) (valueKind (kind b)) b) h)), rw k refl)
+
+module _ (lim : Limits) (b : List ℕ) (both : leb (length b) (lim .bytes) && wholeV (lim .levels) b ≡ true) where
+  there : wholeValue lim b ≡ some (decV (lim .levels) b)
+  there = sure-yes (whole-value-twin lim b) both
+
+  good : wholeV (lim .levels) b ≡ true
+  good = and-r (leb (length b) (lim .bytes)) (wholeV (lim .levels) b) both
 
   some-bytes : 0 < length b
-  unfolding wholeV
-  some-bytes = ltb-true 0 (length b) (and-l (ltb 0 (length b)) (wholeVAs (wholeV 15) (valueKind (kind b)) b) good)
+  some-bytes = level-bytes (lim .levels) b good
 
-  uid-when : (y : Bool) → y ≡ eqb (kind b) 4 → y ≡ present (asUid (decV 16 b))
-  unfolding decV
-  uid-when true e = rw (eqb-true (kind b) 4 (sym e)) refl
-  uid-when false e =
-      rw (not-uid (decV 15) b (kind b)
-      (λ z. absurd (let f : _≡_ {A = Bool} false true = e ∙ eq-eqb (kind b) 4 z in let g : _≡_ {A = ℕ} 0 1 = cc in omega arith))) refl
+  by-kind : eqb (kind b) 4 ≡ present (uidOf lim b)
+  by-kind = level-when (lim .levels) b good (eqb (kind b) 4) refl ∙ rw there refl
 
-  by-kind : eqb (kind b) 4 ≡ present (uidOf b)
-  by-kind = uid-when (eqb (kind b) 4) refl ∙ rw there refl
-
-  is-uid : kind b ≡ 4 → (length b ≡ 5) × (uidOf b ≡ some (rd b 1, rd b 3))
-  unfolding wholeV decV
-  is-uid k = (eqb-true (length b) 5 (rw k at (and-r (ltb 0 (length b)) (wholeVAs (wholeV 15) (valueKind (kind b)) b) good)), rw (there, k) refl)
+  is-uid : kind b ≡ 4 → (length b ≡ 5) × (uidOf lim b ≡ some (rd b 1, rd b 3))
+  is-uid k = let u = level-uid (lim .levels) b good k in (u .0, ap (λ (o : Option Value). o >>= asUid) there ∙ u .1)
 
 -- The answer of `whole_value`.
-module _ (b : List ℕ) (r : Bool) (q : r ≡ present (wholeValue standard b)) where
-  pub uid-not-whole : not r ≡ true → false ≡ present (uidOf b)
-  uid-not-whole h = rw (none-of (wholeValue standard b) (sym q ∙ not-true r h)) refl
+module _ (lim : Limits) (b : List ℕ) (r : Bool) (q : r ≡ present (wholeValue lim b)) where
+  pub uid-not-whole : not r ≡ true → false ≡ present (uidOf lim b)
+  uid-not-whole h = rw (none-of (wholeValue lim b) (sym q ∙ not-true r h)) refl
 
   module _ (h : not r ≡ false) where
-    both-tests : leb (length b) 4096 && wholeV 16 b ≡ true
-    both-tests = sym (sure-present (whole-value-twin standard b)) ∙ sym q ∙ not-false r h
+    both-tests : leb (length b) (lim .bytes) && wholeV (lim .levels) b ≡ true
+    both-tests = sym (sure-present (whole-value-twin lim b)) ∙ sym q ∙ not-false r h
 
     pub value-some : 0 < length b
-    value-some = some-bytes b both-tests
+    value-some = some-bytes lim b both-tests
 
-    pub uid-by-kind : eqb (kind b) 4 ≡ present (uidOf b)
-    uid-by-kind = by-kind b both-tests
+    pub uid-by-kind : eqb (kind b) 4 ≡ present (uidOf lim b)
+    uid-by-kind = by-kind lim b both-tests
 
 -- What is there after a step was there before it.
 step-present : {A B : Type 0} (o : Option A) (f : A → Option B) → present (o >>= f) ≡ true → present o ≡ true
@@ -80,15 +91,15 @@ step-present none f h = h
 step-present (some a) f h = refl
 
 -- The answer of `whole_uid`.
-module _ (b : List ℕ) (r : Bool) (q : r ≡ present (uidOf b)) where
-  pub uid-missing : not r ≡ true → uidOf b ≡ none
-  uid-missing h = none-of (uidOf b) (sym q ∙ not-true r h)
+module _ (lim : Limits) (b : List ℕ) (r : Bool) (q : r ≡ present (uidOf lim b)) where
+  pub uid-missing : not r ≡ true → uidOf lim b ≡ none
+  uid-missing h = none-of (uidOf lim b) (sym q ∙ not-true r h)
 
-  pub uid-there : not r ≡ false → (length b ≡ 5) × (uidOf b ≡ some (rd b 1, rd b 3))
+  pub uid-there : not r ≡ false → (length b ≡ 5) × (uidOf lim b ≡ some (rd b 1, rd b 3))
   uid-there h =
-      let p : present (uidOf b) ≡ true = sym q ∙ not-false r h in
-      let both = sym (sure-present (whole-value-twin standard b)) ∙ step-present (wholeValue standard b) asUid p in
-      is-uid b both (eqb-true (kind b) 4 (by-kind b both ∙ p))
+      let p : present (uidOf lim b) ≡ true = sym q ∙ not-false r h in
+      let both = sym (sure-present (whole-value-twin lim b)) ∙ step-present (wholeValue lim b) asUid p in
+      is-uid lim b both (eqb-true (kind b) 4 (by-kind lim b both ∙ p))
 
-  pub uid-read : not r ≡ false → (k i : ℕ) → k ≡ rd b 1 → i ≡ rd b 3 → uidOf b ≡ some (k, i)
+  pub uid-read : not r ≡ false → (k i : ℕ) → k ≡ rd b 1 → i ≡ rd b 3 → uidOf lim b ≡ some (k, i)
   uid-read h k i p s = uid-there h .1 ∙ rw (p, s) refl

@@ -8,7 +8,7 @@ use lib.Dec.{leb}
 use lib.ListN.{length}
 use borrow.Author.Tests.{not-true, not-false}
 use Rattle.cedar.specs.Types.{present}
-use Rattle.cedar.specs.Limits.{standard}
+use Rattle.cedar.specs.Limits.{Limits}
 use Rattle.cedar.specs.Whole.{wholeValue}
 use Rattle.cedar.specs.Laws.Tests.{none-of}
 use Rattle.forms.specs.ValueBytes.{wholeV, decV}
@@ -17,16 +17,16 @@ use Rattle.forms.specs.Laws.Sure.{sure-present, sure-yes}
 use Rattle.forms.specs.Laws.ValueTwin.{whole-value-twin}
 
 -- The answer of `whole_value`.
-module _ (b : List ℕ) (r : Bool) (q : r ≡ present (wholeValue standard b)) where
-  pub value-missing : not r ≡ true → wholeValue standard b ≡ none
-  value-missing h = none-of (wholeValue standard b) (sym q ∙ not-true r h)
+module _ (lim : Limits) (b : List ℕ) (r : Bool) (q : r ≡ present (wholeValue lim b)) where
+  pub value-missing : not r ≡ true → wholeValue lim b ≡ none
+  value-missing h = none-of (wholeValue lim b) (sym q ∙ not-true r h)
 
   module _ (h : not r ≡ false) where
-    both : leb (length b) (standard .bytes) && wholeV (standard .levels) b ≡ true
-    both = sym (sure-present (whole-value-twin standard b)) ∙ sym q ∙ not-false r h
+    both : leb (length b) (lim .bytes) && wholeV (lim .levels) b ≡ true
+    both = sym (sure-present (whole-value-twin lim b)) ∙ sym q ∙ not-false r h
 
-    pub value-there : wholeValue standard b ≡ some (decV (standard .levels) b)
-    value-there = sure-yes (whole-value-twin standard b) both
+    pub value-there : wholeValue lim b ≡ some (decV (lim .levels) b)
+    value-there = sure-yes (whole-value-twin lim b) both
 
-    pub value-whole : wholeV (standard .levels) b ≡ true
-    value-whole = and-r (leb (length b) (standard .bytes)) _ both
+    pub value-whole : wholeV (lim .levels) b ≡ true
+    value-whole = and-r (leb (length b) (lim .bytes)) _ both

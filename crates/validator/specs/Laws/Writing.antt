@@ -11,7 +11,7 @@ use borrow.Author.Tests.{leb-true, leb-false, le-leb, lt-leb, not-true, not-fals
 use Rattle.cedar.specs.Types.{Ty, present}
 use Rattle.cedar.specs.TypeForm.{enc}
 use Rattle.cedar.specs.Result.{Result, ok, err}
-use Rattle.cedar.specs.Limits.{standard}
+use Rattle.cedar.specs.Limits.{Limits, mostBytes}
 use Rattle.cedar.specs.Whole.{wholeType}
 use Rattle.cedar.specs.Outcome.{Outcome, refused, typed, over}
 use Rattle.cedar.specs.Calls.{writeType}
@@ -29,15 +29,15 @@ use Rattle.validator.specs.declared.answers.Answer.the-variants.{Refused
 use Rattle.validator.specs.Answers.{Answered}
 
 -- Whether a type is whole, as the code asks it.
-module _ (b : List ℕ) (r : Bool) (told : r ≡ present (wholeType standard b)) where
-  pub type-is : not r ≡ false → (wholeType standard b ≡ some (dec 16 b)) × (whole 16 b ≡ true)
+module _ (lim : Limits) (b : List ℕ) (r : Bool) (told : r ≡ present (wholeType lim b)) where
+  pub type-is : not r ≡ false → (wholeType lim b ≡ some (dec (lim .levels) b)) × (whole (lim .levels) b ≡ true)
   type-is h =
-      let t = whole-type-twin standard b in
+      let t = whole-type-twin lim b in
       let y = sym (sure-present t) ∙ sym told ∙ not-false r h in
-      (sure-yes t y, and-r (leb (length b) 4096) (whole 16 b) y)
+      (sure-yes t y, and-r (leb (length b) (lim .bytes)) (whole (lim .levels) b) y)
 
-  pub type-not : not r ≡ true → wholeType standard b ≡ none
-  type-not h = go (wholeType standard b) (sym told ∙ not-true r h)
+  pub type-not : not r ≡ true → wholeType lim b ≡ none
+  type-not h = go (wholeType lim b) (sym told ∙ not-true r h)
     where
       go : (o : Option Ty) → present o ≡ false → o ≡ none
       go none e = refl
@@ -51,33 +51,33 @@ refuses n e = rw e record { answer = refl; result = refl }
 fills : {c : Outcome} {o xs : List ℕ} (t : Ty) (n : ℕ) → c ≡ typed t → length (enc t) ≡ n → xs ≡ over (enc t) o → Answered c o xs (Wrote n)
 fills t n e l q = rw e record { answer = ap Wrote (sym l); result = q }
 
-module _ (r : Result Ty) (o : List ℕ) (c : Outcome) (e : c ≡ writeType standard (length o) r) (x : FormLength) (told : x ≡ formLengthOf enc r) where
+module _ (lim : Limits) (most : lim .bytes ≤ mostBytes) (r : Result Ty) (o : List ℕ) (c : Outcome) (e : c ≡ writeType lim (length o) r) (x : FormLength) (told : x ≡ formLengthOf enc r) where
   pub writes-not : (d : ℕ) → x ≡ Not d → Answered c o o (Refused d)
   writes-not d q = refuses d (e ∙ rw (not-err enc r x d told q) refl)
 
-  module _ (n : ℕ) (q : x ≡ Of n) (f : Bool) (fits : f ≡ leb n (min (length o) 4096)) where
+  module _ (n : ℕ) (q : x ≡ Of n) (f : Bool) (fits : f ≡ leb n (min (length o) (lim .bytes))) where
     of-type : (t : Ty) × ((r ≡ ok t) × (n ≡ cap (length (enc t))))
     of-type = of-ok enc r x n told q
 
     pub writes-over : not f ≡ true → Answered c o o (Refused 10)
     writes-over h =
-        let s = leb-false n (min (length o) 4096) (sym fits ∙ not-true f h) in
-        refuses 10 (e ∙ rw (of-type .1 .0, lt-leb (length (enc (of-type .0))) (min (length o) 4096) (omega (arith, of-type .1 .1))) refl)
+        let s = leb-false n (min (length o) (lim .bytes)) (sym fits ∙ not-true f h) in
+        refuses 10 (e ∙ rw (of-type .1 .0, lt-leb (length (enc (of-type .0))) (min (length o) (lim .bytes)) (omega (arith, of-type .1 .1, most))) refl)
 
     module _ (h : not f ≡ false) where
-      small : n ≤ min (length o) 4096
-      small = leb-true n (min (length o) 4096) (sym fits ∙ not-false f h)
+      small : n ≤ min (length o) (lim .bytes)
+      small = leb-true n (min (length o) (lim .bytes)) (sym fits ∙ not-false f h)
 
       pub writes-ready : Ready enc r o
-      writes-ready = ready enc r x n o told q (omega (arith, small)) (omega (arith, small))
+      writes-ready = ready enc r x n o told q (omega (arith, small, most)) (omega (arith, small))
 
       pub writes-length : n ≡ length (formOf enc r)
-      writes-length = exact enc r x n told q (omega (arith, small))
+      writes-length = exact enc r x n told q (omega (arith, small, most))
 
       pub writes : (xs : List ℕ) (k : ℕ) → Written (formOf enc r) o xs k → Answered c o xs (Wrote n)
       writes xs k w =
           let t = of-type .0 in
-          let l : length (enc t) ≡ n = omega (arith, of-type .1 .1, small) in
-          let y : c ≡ typed t = e ∙ ap (writeType standard (length o)) (of-type .1 .0) ∙
-          rw (le-leb (length (enc t)) (min (length o) 4096) (omega (arith, small))) refl in
+          let l : length (enc t) ≡ n = omega (arith, of-type .1 .1, small, most) in
+          let y : c ≡ typed t = e ∙ ap (writeType lim (length o)) (of-type .1 .0) ∙
+          rw (le-leb (length (enc t)) (min (length o) (lim .bytes)) (omega (arith, small))) refl in
           fills t n y l (w .bytes ∙ ap (λ (z : Result Ty). over (formOf enc z) o) (of-type .1 .0))

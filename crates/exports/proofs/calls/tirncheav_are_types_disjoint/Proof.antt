@@ -1,4 +1,5 @@
 -- `exports::calls::tirncheav_are_types_disjoint` meets its contract. Assumes nothing.
+use Rattle.exports.specs.Checks.{within}
 use mathlib.Core.Path.{ap, _∙_}
 use Rattle.exports.specs.Numbers.{answerNumber}
 use Rattle.exports.specs.Laws.Brief.{brief, disjoint-short}
@@ -12,7 +13,7 @@ are-types-disjoint-requires c κs = search needs
 answer-number-requires : tie.Need-answer-number-requires
 answer-number-requires c κs =
     let start = c .before .before .before in
-    brief (c .are-types-disjoint .result) (disjoint-short (start .args .t0 .now) (start .args .t1 .now)) (c .are-types-disjoint .ensures)
+    brief (c .are-types-disjoint .result) (disjoint-short (within (start .args .levels) (start .args .bytes)) (start .args .t0 .now) (start .args .t1 .now)) (c .are-types-disjoint .ensures)
 
 returns : tie.Need-returns
 returns c =

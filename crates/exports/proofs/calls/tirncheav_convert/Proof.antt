@@ -1,4 +1,5 @@
 -- `exports::calls::tirncheav_convert` meets its contract. Assumes nothing.
+use Rattle.exports.specs.Checks.{within}
 use lib.ListN.{length}
 use Rattle.exports.specs.Laws.Numbers.{numbered}
 use Rattle.exports.specs.Laws.Brief.{brief, convert-short}
@@ -13,7 +14,7 @@ answer-number-requires : tie.Need-answer-number-requires
 answer-number-requires c κs =
     let start = c .before .before .before .before .before .before in
     let at-convert = c .before .before in
-    brief (at-convert .convert .result) (convert-short (start .args .t .now) (length (start .args .out .now))) ((at-convert .convert .ensures) .answer)
+    brief (at-convert .convert .result) (convert-short (within (start .args .levels) (start .args .bytes)) (start .args .t .now) (length (start .args .out .now))) ((at-convert .convert .ensures) .answer)
 
 same-length : tie.Need-same-length
 same-length c = search needs

@@ -1,4 +1,5 @@
 -- `exports::calls::tirncheav_euid_literal` meets its contract. Assumes nothing.
+use Rattle.exports.specs.Checks.{within}
 use lib.ListN.{length}
 use Rattle.exports.specs.Laws.Numbers.{numbered}
 use Rattle.exports.specs.Laws.Brief.{brief, literal-short}
@@ -14,7 +15,7 @@ answer-number-requires c κs =
     let euid-literal = c .before .before in
     let start = euid-literal .before .before .before .before .before in
     let args = start .args in
-    brief (euid-literal .euid-literal .result) (literal-short (args .schema .now) (args .v .now) (length (args .out .now)))
+    brief (euid-literal .euid-literal .result) (literal-short (within (args .levels) (args .bytes)) (args .schema .now) (args .v .now) (length (args .out .now)))
     (euid-literal .euid-literal .ensures .answer)
 
 same-length : tie.Need-same-length

@@ -1,4 +1,5 @@
 -- `exports::calls::tirncheav_is_consistent_with` meets its contract. Assumes nothing.
+use Rattle.exports.specs.Checks.{within}
 use mathlib.Core.Path.{ap, _∙_}
 use Rattle.exports.specs.Numbers.{answerNumber}
 use Rattle.exports.specs.Laws.Brief.{brief, consistent-short}
@@ -12,7 +13,7 @@ is-consistent-with-requires c κs = search needs
 answer-number-requires : tie.Need-answer-number-requires
 answer-number-requires c κs =
     let start = c .before .before .before in
-    brief (c .is-consistent-with .result) (consistent-short (start .args .t0 .now) (start .args .t1 .now)) (c .is-consistent-with .ensures)
+    brief (c .is-consistent-with .result) (consistent-short (within (start .args .levels) (start .args .bytes)) (start .args .t0 .now) (start .args .t1 .now)) (c .is-consistent-with .ensures)
 
 returns : tie.Need-returns
 returns c =

@@ -1,4 +1,5 @@
 -- `exports::calls::tirncheav_is_subtype` meets its contract. Assumes nothing.
+use Rattle.exports.specs.Checks.{within}
 use mathlib.Core.Path.{ap, _∙_}
 use Rattle.exports.specs.Numbers.{answerNumber}
 use Rattle.exports.specs.Laws.Brief.{brief, subtype-short}
@@ -13,7 +14,7 @@ answer-number-requires : tie.Need-answer-number-requires
 answer-number-requires c κs =
     let start = c .before .before .before .before in
     let args = start .args in
-    brief (c .is-subtype .result) (subtype-short (args .schema .now) (args .mode) (args .t0 .now) (args .t1 .now)) (c .is-subtype .ensures)
+    brief (c .is-subtype .result) (subtype-short (within (args .levels) (args .bytes)) (args .schema .now) (args .mode) (args .t0 .now) (args .t1 .now)) (c .is-subtype .ensures)
 
 returns : tie.Need-returns
 returns c =

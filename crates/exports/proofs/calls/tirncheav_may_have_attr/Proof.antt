@@ -1,4 +1,5 @@
 -- `exports::calls::tirncheav_may_have_attr` meets its contract. Assumes nothing.
+use Rattle.exports.specs.Checks.{within}
 use mathlib.Core.Path.{ap, _∙_}
 use Rattle.exports.specs.Numbers.{answerNumber}
 use Rattle.exports.specs.Laws.Brief.{brief, may-have-short}
@@ -12,7 +13,7 @@ may-have-attr-requires c κs = search needs
 answer-number-requires : tie.Need-answer-number-requires
 answer-number-requires c κs =
     let start = c .before .before .before in
-    brief (c .may-have-attr .result) (may-have-short (start .args .schema .now) (start .args .attr) (start .args .t .now)) (c .may-have-attr .ensures)
+    brief (c .may-have-attr .result) (may-have-short (within (start .args .levels) (start .args .bytes)) (start .args .schema .now) (start .args .attr) (start .args .t .now)) (c .may-have-attr .ensures)
 
 returns : tie.Need-returns
 returns c =

@@ -4,8 +4,8 @@ use borrow.Author.Needs.{needs}
 use Rattle.validator.proofs.all_attributes.all_attributes_checked.Statement.{statement}
 use Rattle.validator.proofs.all_attributes.all_attributes_checked.Tie as tie
 
-named-requires : tie.Need-named-requires
-named-requires c κs = search needs
+named-under-requires : tie.Need-named-under-requires
+named-under-requires c κs = search needs
 
 clear-requires : tie.Need-clear-requires
 clear-requires c κs = search needs
@@ -21,9 +21,9 @@ returns c =
     let clear = c .before .before in
     let named = clear .before .before .before .before .before .before in
     let start = named .before .before .before .before .before .before .before in
-    cleared-after (start .args .work .now) (named .named .last .1 .1 .1 .1 .0) (clear .clear .last .0) (named .named .ensures)
-    (named .named .kept .1 .1 .1 .1 .0) (clear .clear .ensures)
+    cleared-after (start .args .work .now) (named .named-under .last .1 .1 .1 .1 .0) (clear .clear .last .0) (named .named-under .ensures)
+    (named .named-under .kept .1 .1 .1 .1 .0) (clear .clear .ensures)
 
 pub all-attributes-checked-spec : {M : Type 1} → statement M
 all-attributes-checked-spec =
-    tie.close (tie.spec named-requires clear-requires same-length same-length-2 returns)
+    tie.close (tie.spec named-under-requires clear-requires same-length same-length-2 returns)

@@ -1,123 +1,37 @@
-use mathlib.Core.Path.{_∙_}
+-- `validator::convert::convert` meets its contract. Assumes nothing.
+use mathlib.Core.Path.{sym, _∙_}
+use borrow.Author.Tests.{not-true, not-false}
+use Rattle.cedar.specs.Laws.Limits.{convert-refused}
+use Rattle.forms.specs.Limits.{asLimits}
 use lib.ListN.{length}
-use Rattle.forms.specs.TypeBytes.{dec}
-use Rattle.conversions.specs.CoreTypes.{core}
-use Rattle.validator.specs.Laws.Writing.{type-is, type-not, refuses, writes-not, writes-over, writes-ready, writes}
-use Rattle.validator.specs.Laws.Conversion.{convert-not, convert-whole}
+use Rattle.validator.specs.Laws.Writing.{refuses}
 use borrow.Author.Needs.{needs}
 use Rattle.validator.proofs.convert.convert.Statement.{statement}
 use Rattle.validator.proofs.convert.convert.Tie as tie
-use Rattle.validator.proofs.convert.convert.Reads as reads
-use Rattle.validator.proofs.convert.convert.Lts as lts
-use Rattle.conversions.proofs.core_types.core_length.Reads as core-length-reads
-use Rattle.conversions.proofs.core_types.write_core.Reads as write-core-reads
-use Rattle.forms.proofs.types.whole_type.Reads as whole-type-reads
-use Rattle.validator.proofs.rooms.answer_fits.Reads as answer-fits-reads
 
--- src/convert.rt:19:9
-whole-type-requires : tie.Need-whole-type-requires
-whole-type-requires c κs = search needs
+are-allowed-requires : tie.Need-are-allowed-requires
+are-allowed-requires c κs = search needs
 
--- src/convert.rt:20:9
 returns : tie.Need-returns
 returns c =
-    let whole-type = c .before .whole-type in
-    let args = c .before .before .before .before .args in
-    refuses 3 (convert-not (args .t .now) _ (type-not (args .t .now) (whole-type .result) (whole-type .ensures) (c .if1 .taken)))
+    let allowed = c .before in
+    let start = allowed .before .before .before in
+    let args = start .args in
+    let bad = sym (allowed .are-allowed .ensures) ∙ not-true (allowed .are-allowed .result) (c .if1 .taken) in
+    refuses 20 (convert-refused (asLimits (args .limits)) bad (args .t .now) (length (args .out .now)))
 
--- src/convert.rt:22:11
-core-length-requires : tie.Need-core-length-requires
-core-length-requires c κs =
-    let whole-type = c .before .whole-type in
-    let args = c .before .before .before .before .args in
-    type-is (args .t .now) (whole-type .result) (whole-type .ensures) (c .if1 .left) .1
+convert-under-requires : tie.Need-convert-under-requires
+convert-under-requires c κs =
+    let else1 = c .before in
+    let allowed = else1 .before in
+    sym (allowed .are-allowed .ensures) ∙ not-false (allowed .are-allowed .result) (else1 .if1 .left)
 
--- src/convert.rt:23:20
-enum-known-n : tie.Need-enum-known-n
-enum-known-n c = search needs
-
--- src/convert.rt:24:17
-answer-fits-requires : tie.Need-answer-fits-requires
-answer-fits-requires c κs = search needs
-
--- src/convert.rt:25:17
-returns-2 : tie.Need-returns-2
-returns-2 c =
-    let answer-fits = c .before .answer-fits in
-    let n = c .before .before .before .n in
-    let core-length = c .before .before .before .before .before .core-length in
-    let if1 = c .before .before .before .before .before .before .if1 in
-    let whole-type = c .before .before .before .before .before .before .before .whole-type in
-    let args = c .before .before .before .before .before .before .before .before .before .before .args in
-    let by-convert-whole = convert-whole (args .t .now) (length (args .out .now))
-    (type-is (args .t .now) (whole-type .result) (whole-type .ensures) (if1 .left) .0) in
-    writes-over (core (dec 16 (args .t .now))) (args .out .now) _ by-convert-whole (core-length .result) (core-length .ensures) (n .given .0 .0) (n .given .1)
-    (answer-fits .result) (answer-fits .ensures) (c .if2 .taken)
-
--- src/convert.rt:27:13
-write-core-requires : tie.Need-write-core-requires
-write-core-requires c κs =
-    let answer-fits = c .before .before .answer-fits in
-    let n = c .before .before .before .before .n in
-    let core-length = c .before .before .before .before .before .before .core-length in
-    let if1 = c .before .before .before .before .before .before .before .if1 in
-    let whole-type = c .before .before .before .before .before .before .before .before .whole-type in
-    let args = c .before .before .before .before .before .before .before .before .before .before .before .args in
-    let by-type-is = type-is (args .t .now) (whole-type .result) (whole-type .ensures) (if1 .left) in (
-      by-type-is .1,
-      writes-ready (core (dec 16 (args .t .now))) (args .out .now) _ (convert-whole (args .t .now) (length (args .out .now)) (by-type-is .0))
-          (core-length .result) (core-length .ensures) (n .given .0 .0) (n .given .1) (answer-fits .result) (answer-fits .ensures) (c .before .if2 .left),
-    )
-
--- src/convert.rt:30:21
-enum-known-e : tie.Need-enum-known-e
-enum-known-e c = search needs
-
--- src/convert.rt:16:1
 same-length : tie.Need-same-length
 same-length c = search needs
 
--- src/convert.rt:16:1
-returns-3 : tie.Need-returns-3
-returns-3 c =
-    let write-core = c .before .before .write-core in
-    let if2 = c .before .before .before .before .if2 in
-    let answer-fits = c .before .before .before .before .before .answer-fits in
-    let n = c .before .before .before .before .before .before .before .n in
-    let after-core-length = c .before .before .before .before .before .before .before .before .before in
-    let core-length = after-core-length .core-length in
-    let if1 = after-core-length .before .if1 in
-    let whole-type = after-core-length .before .before .whole-type in
-    let args = after-core-length .before .before .before .before .before .args in
-    let by-convert-whole = convert-whole (args .t .now) (length (args .out .now))
-    (type-is (args .t .now) (whole-type .result) (whole-type .ensures) (if1 .left) .0) in
-    writes (core (dec 16 (args .t .now))) (args .out .now) _ by-convert-whole (core-length .result) (core-length .ensures) (n .given .0 .0) (n .given .1)
-    (answer-fits .result) (answer-fits .ensures) (if2 .left) (write-core .last .1 .1 .0) (write-core .result) (write-core .ensures)
-
--- src/convert.rt:16:1
-returns-4 : tie.Need-returns-4
-returns-4 c =
-    let e = c .before .e in
-    let core-length = c .before .before .before .core-length in
-    let if1 = c .before .before .before .before .if1 in
-    let whole-type = c .before .before .before .before .before .whole-type in
-    let args = c .before .before .before .before .before .before .before .before .args in
-    let by-convert-whole = convert-whole (args .t .now) (length (args .out .now))
-    (type-is (args .t .now) (whole-type .result) (whole-type .ensures) (if1 .left) .0) in
-    writes-not (core (dec 16 (args .t .now))) (args .out .now) _ by-convert-whole (core-length .result) (core-length .ensures) (e .given .0 .0) (e .given .1)
+returns-2 : tie.Need-returns-2
+returns-2 c = search needs
 
 pub convert-spec : {M : Type 1} → statement M
 convert-spec =
-    tie.close
-    (tie.spec
-    whole-type-requires
-    returns
-    core-length-requires
-    enum-known-n
-    answer-fits-requires
-    returns-2
-    write-core-requires
-    enum-known-e
-    same-length
-    returns-3
-    returns-4)
+    tie.close (tie.spec are-allowed-requires returns convert-under-requires same-length returns-2)

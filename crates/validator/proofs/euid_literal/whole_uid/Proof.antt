@@ -1,3 +1,4 @@
+use Rattle.forms.specs.Limits.{asLimits}
 use Rattle.validator.specs.Laws.Uids.{uid-not-whole, value-some, uid-by-kind}
 use borrow.Author.Needs.{needs}
 use Rattle.validator.proofs.euid_literal.whole_uid.Statement.{statement}
@@ -6,30 +7,26 @@ use Rattle.validator.proofs.euid_literal.whole_uid.Reads as reads
 use Rattle.validator.proofs.euid_literal.whole_uid.Lts as lts
 use Rattle.forms.proofs.values.whole_value.Reads as whole-value-reads
 
--- src/euid_literal.rt:25:9
 whole-value-requires : tie.Need-whole-value-requires
 whole-value-requires c κs = search needs
 
--- src/euid_literal.rt:26:9
 returns : tie.Need-returns
 returns c =
     let whole-value = c .before .whole-value in
     let args = c .before .before .before .args in
-    uid-not-whole (args .v .now) (whole-value .result) (whole-value .ensures) (c .if1 .taken)
+    uid-not-whole (asLimits (args .limits)) (args .v .now) (whole-value .result) (whole-value .ensures) (c .if1 .taken)
 
--- src/euid_literal.rt:28:5
 shared-slice-read-result : tie.Need-shared-slice-read-result
 shared-slice-read-result c =
     let whole-value = c .before .before .whole-value in
     let args = c .before .before .before .before .args in
-    value-some (args .v .now) (whole-value .result) (whole-value .ensures) (c .before .if1 .left)
+    value-some (asLimits (args .limits)) (args .v .now) (whole-value .result) (whole-value .ensures) (c .before .if1 .left)
 
--- src/euid_literal.rt:22:1
 returns-2 : tie.Need-returns-2
 returns-2 c =
     let whole-value = c .before .before .whole-value in
     let args = c .before .before .before .before .args in
-    uid-by-kind (args .v .now) (whole-value .result) (whole-value .ensures) (c .before .if1 .left)
+    uid-by-kind (asLimits (args .limits)) (args .v .now) (whole-value .result) (whole-value .ensures) (c .before .if1 .left)
 
 pub whole-uid-spec : {M : Type 1} → statement M
 whole-uid-spec =

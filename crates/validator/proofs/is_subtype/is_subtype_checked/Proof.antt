@@ -1,129 +1,59 @@
 -- `validator::is_subtype::is_subtype_checked` meets its contract. Assumes nothing.
-use Rattle.forms.specs.Laws.Modes.{mode-known, mode-none}
-use Rattle.validator.specs.Laws.Questions.{type-missing, type-there, type-whole}
-use Rattle.validator.specs.Laws.Schemas.{checked-missing, checked-there}
-use Rattle.validator.specs.Laws.Subtype.{subtype-mode, subtype-schema, subtype-first, subtype-second, subtype-said}
+use mathlib.Core.Path.{_≡_, sym, ap, subst, _∙_}
+use borrow.Author.Tests.{not-false}
+use Rattle.cedar.specs.Calls.{subtypeCall}
+use Rattle.cedar.specs.Laws.Limits.{subtype-refused}
+use Rattle.forms.specs.Limits.{asLimits}
+use Rattle.forms.specs.declared.limits.Limits.{Limits as LimitsStruct}
+use Rattle.schemas.specs.SchemaBytes.{limitsOf}
+use Rattle.validator.specs.Laws.Schemas.{kept-refused, kept-check}
+use Rattle.validator.specs.Answers.{answerOf}
 use borrow.Author.Needs.{needs}
 use Rattle.validator.proofs.is_subtype.is_subtype_checked.Statement.{statement}
 use Rattle.validator.proofs.is_subtype.is_subtype_checked.Tie as tie
 
-from-number-requires : tie.Need-from-number-requires
-from-number-requires c κs = search needs
+limits-requires : tie.Need-limits-requires
+limits-requires c κs = search needs
 
-enum-known-m : tie.Need-enum-known-m
-enum-known-m c = search needs
-
-enum-told : tie.Need-enum-told
-enum-told c = search needs
+are-allowed-requires : tie.Need-are-allowed-requires
+are-allowed-requires c κs = search needs
 
 returns : tie.Need-returns
 returns c =
-    let from = c .before .before in
-    let start = from .before .before .before .before in
+    let allowed = c .before in
+    let limits = allowed .before in
+    let start = limits .before .before .before .before in
     let args = start .args in
-    let by-mode-none = mode-none (args .mode) (from .from-number .result) (from .from-number .ensures) (c .enum-told .given .1) in
-    subtype-mode (args .mode) (args .schema .now) (args .t0 .now) (args .t1 .now) by-mode-none
+    let bad = kept-refused (args .schema .now) (args .check) (start .pre) (limits .limits .result) (limits .limits .ensures) (allowed .are-allowed .result)
+    (allowed .are-allowed .ensures) (c .if1 .taken) in
+    sym (ap answerOf (subtype-refused (asLimits (limitsOf (args .check))) bad (args .mode) (args .schema .now) (args .t0 .now) (args .t1 .now)))
 
-enum-told-2 : tie.Need-enum-told-2
-enum-told-2 c = search needs
-
-enum-told-3 : tie.Need-enum-told-3
-enum-told-3 c = search needs
+is-subtype-under-requires : tie.Need-is-subtype-under-requires
+is-subtype-under-requires c κs =
+    let allowed = c .before in
+    let limits = allowed .before in
+    let start = limits .before .before .before .before in
+    let args = start .args in
+    let fair = sym (allowed .are-allowed .ensures) ∙ not-false (allowed .are-allowed .result) (c .if1 .left) in (
+      fair,
+      kept-check (args .schema .now) (args .check) (start .pre) (limits .limits .result) (limits .limits .ensures) (allowed .are-allowed .result)
+          (allowed .are-allowed .ensures),
+    )
 
 returns-2 : tie.Need-returns-2
 returns-2 c =
-    let known = c .before .before .before in
-    let from = known .before .before in
-    let start = from .before .before .before .before in
+    let limits = c .before .before .before in
+    let start = limits .before .before .before .before in
     let args = start .args in
-    let by-mode-known = mode-known (args .mode) (from .from-number .result) (from .from-number .ensures) (known .m .given .0 .0) (known .m .given .1) in
-    let by-checked-missing = checked-missing (args .schema .now) (args .check) (start .pre) (c .enum-told3 .given .1) in
-    subtype-schema (args .mode) (args .schema .now) (args .t0 .now) (args .t1 .now) _ by-mode-known by-checked-missing
-
-whole-type-requires : tie.Need-whole-type-requires
-whole-type-requires c κs = search needs
-
-returns-3 : tie.Need-returns-3
-returns-3 c =
-    let whole-type = c .before in
-    let at-enum-told = whole-type .before in
-    let known = at-enum-told .before .before .before in
-    let from = known .before .before in
-    let start = from .before .before .before .before in
-    let args = start .args in
-    let by-mode-known = mode-known (args .mode) (from .from-number .result) (from .from-number .ensures) (known .m .given .0 .0) (known .m .given .1) in
-    let by-checked-there = checked-there (args .schema .now) (args .check) (start .pre) (at-enum-told .enum-told2 .given .0 .0)
-    (at-enum-told .enum-told2 .given .1) in
-    let by-type-missing = type-missing (args .t0 .now) (whole-type .whole-type .result) (whole-type .whole-type .ensures) (c .if1 .taken) in
-    subtype-first (args .mode) (args .schema .now) (args .t0 .now) (args .t1 .now) _ by-mode-known _ by-checked-there by-type-missing
-
-whole-type-requires-2 : tie.Need-whole-type-requires-2
-whole-type-requires-2 c κs = search needs
-
-returns-4 : tie.Need-returns-4
-returns-4 c =
-    let whole-type2 = c .before in
-    let else2 = whole-type2 .before in
-    let whole-type = else2 .before in
-    let at-enum-told = whole-type .before in
-    let known = at-enum-told .before .before .before in
-    let from = known .before .before in
-    let start = from .before .before .before .before in
-    let args = start .args in
-    let by-mode-known = mode-known (args .mode) (from .from-number .result) (from .from-number .ensures) (known .m .given .0 .0) (known .m .given .1) in
-    let by-checked-there = checked-there (args .schema .now) (args .check) (start .pre) (at-enum-told .enum-told2 .given .0 .0)
-    (at-enum-told .enum-told2 .given .1) in
-    let by-type-there = type-there (args .t0 .now) (whole-type .whole-type .result) (whole-type .whole-type .ensures) (else2 .if1 .left) in
-    let by-type-missing = type-missing (args .t1 .now) (whole-type2 .whole-type2 .result) (whole-type2 .whole-type2 .ensures) (c .if2 .taken) in
-    subtype-second (args .mode) (args .schema .now) (args .t0 .now) (args .t1 .now) _ by-mode-known _ by-checked-there _ by-type-there by-type-missing
-
-is-subtype-requires : tie.Need-is-subtype-requires
-is-subtype-requires c κs =
-    let whole-type2 = c .before in
-    let else2 = whole-type2 .before in
-    let whole-type = else2 .before in
-    let start = whole-type .before .before .before .before .before .before .before .before .before .before in
-    let by-type-whole = type-whole (start .args .t0 .now) (whole-type .whole-type .result) (whole-type .whole-type .ensures) (else2 .if1 .left) in
-    (by-type-whole, type-whole (start .args .t1 .now) (whole-type2 .whole-type2 .result) (whole-type2 .whole-type2 .ensures) (c .if2 .left))
-
-yes-or-no-requires : tie.Need-yes-or-no-requires
-yes-or-no-requires c κs = search needs
-
-returns-5 : tie.Need-returns-5
-returns-5 c =
-    let is-subtype = c .before in
-    let else3 = is-subtype .before in
-    let whole-type2 = else3 .before in
-    let else2 = whole-type2 .before in
-    let whole-type = else2 .before in
-    let at-enum-told = whole-type .before in
-    let known = at-enum-told .before .before .before in
-    let from = known .before .before in
-    let start = from .before .before .before .before in
-    let args = start .args in
-    let by-mode-known = mode-known (args .mode) (from .from-number .result) (from .from-number .ensures) (known .m .given .0 .0) (known .m .given .1) in
-    let by-checked-there = checked-there (args .schema .now) (args .check) (start .pre) (at-enum-told .enum-told2 .given .0 .0)
-    (at-enum-told .enum-told2 .given .1) in
-    let by-type-there = type-there (args .t0 .now) (whole-type .whole-type .result) (whole-type .whole-type .ensures) (else2 .if1 .left) in
-    let by-type-there-2 = type-there (args .t1 .now) (whole-type2 .whole-type2 .result) (whole-type2 .whole-type2 .ensures) (else3 .if2 .left) in
-    subtype-said (args .mode) (args .schema .now) (args .t0 .now) (args .t1 .now) _ by-mode-known _ by-checked-there _ by-type-there _ by-type-there-2
-    (c .yes-or-no .result) (is-subtype .is-subtype .result) (c .yes-or-no .ensures) (is-subtype .is-subtype .ensures)
+    subst (λ (l : LimitsStruct). c .is-subtype-under .result ≡ answerOf (subtypeCall (asLimits l) (args .mode) (args .schema .now) (args .t0 .now) (args .t1 .now)))
+    (limits .limits .ensures) (c .is-subtype-under .ensures)
 
 pub is-subtype-checked-spec : {M : Type 1} → statement M
 is-subtype-checked-spec =
     tie.close
     (tie.spec
-    from-number-requires
-    enum-known-m
-    enum-told
+    limits-requires
+    are-allowed-requires
     returns
-    enum-told-2
-    enum-told-3
-    returns-2
-    whole-type-requires
-    returns-3
-    whole-type-requires-2
-    returns-4
-    is-subtype-requires
-    yes-or-no-requires
-    returns-5)
+    is-subtype-under-requires
+    returns-2)

@@ -1,248 +1,67 @@
--- `validator::least_upper_bound::least_upper_bound` meets its contract. Assumes nothing.
-use mathlib.Core.Path.{refl}
+-- `validator::least_upper_bound::least_upper_bound_checked` meets its contract. Assumes nothing.
+use mathlib.Core.Path.{_≡_, sym, subst, _∙_}
 use lib.ListN.{length}
-use Rattle.cedar.specs.Laws.DirectBound.{direct}
-use Rattle.forms.specs.TypeBytes.{dec}
-use Rattle.forms.specs.Modes.{asMode}
-use Rattle.forms.specs.Laws.Modes.{mode-known, mode-none}
-use Rattle.validator.specs.Laws.Questions.{type-missing, type-there, type-whole}
-use Rattle.validator.specs.Laws.Schemas.{checked-missing, checked-there}
-use Rattle.validator.specs.Laws.Writing.{refuses, writes-not, writes-over, writes-ready, writes-length, writes}
-use Rattle.validator.specs.Laws.Bound.{bound-mode, bound-schema, bound-first, bound-second, bound-direct}
+use borrow.Author.Tests.{not-false}
+use Rattle.cedar.specs.Calls.{boundCall}
+use Rattle.cedar.specs.Laws.Limits.{bound-refused}
+use Rattle.forms.specs.Limits.{asLimits}
+use Rattle.forms.specs.declared.limits.Limits.{Limits as LimitsStruct}
+use Rattle.schemas.specs.SchemaBytes.{limitsOf}
+use Rattle.validator.specs.Laws.Schemas.{kept-refused, kept-check}
+use Rattle.validator.specs.Answers.{Answered}
+use Rattle.validator.specs.Laws.Writing.{refuses}
 use borrow.Author.Needs.{needs}
-use Rattle.validator.proofs.least_upper_bound.least_upper_bound_checked.Statement.{
-  statement,
-}
+use Rattle.validator.proofs.least_upper_bound.least_upper_bound_checked.Statement.{statement}
 use Rattle.validator.proofs.least_upper_bound.least_upper_bound_checked.Tie as tie
 
-from-number-requires : tie.Need-from-number-requires
-from-number-requires c κs = search needs
+limits-requires : tie.Need-limits-requires
+limits-requires c κs = search needs
 
-enum-known-m : tie.Need-enum-known-m
-enum-known-m c = search needs
-
-enum-told : tie.Need-enum-told
-enum-told c = search needs
+are-allowed-requires : tie.Need-are-allowed-requires
+are-allowed-requires c κs = search needs
 
 returns : tie.Need-returns
 returns c =
-    let from = c .before .before in
-    let start = from .before .before .before .before .before in
+    let allowed = c .before in
+    let limits = allowed .before in
+    let start = limits .before .before .before .before .before in
     let args = start .args in
-    let by-mode-none = mode-none (args .mode) (from .from-number .result) (from .from-number .ensures) (c .enum-told .given .1) in
-    let by-bound-mode = bound-mode (args .mode) (args .schema .now) (args .t0 .now) (args .t1 .now) (length (args .out .now)) by-mode-none in
-    refuses 1 by-bound-mode
+    let bad = kept-refused (args .schema .now) (args .check) (start .pre) (limits .limits .result) (limits .limits .ensures) (allowed .are-allowed .result)
+    (allowed .are-allowed .ensures) (c .if1 .taken) in
+    refuses 20 (bound-refused (asLimits (limitsOf (args .check))) bad (args .mode) (args .schema .now) (args .t0 .now) (args .t1 .now) (length (args .out .now)))
 
-enum-told-2 : tie.Need-enum-told-2
-enum-told-2 c = search needs
-
-enum-told-3 : tie.Need-enum-told-3
-enum-told-3 c = search needs
-
-returns-2 : tie.Need-returns-2
-returns-2 c =
-    let known = c .before .before .before in
-    let from = known .before .before in
-    let start = from .before .before .before .before .before in
+least-upper-bound-under-requires : tie.Need-least-upper-bound-under-requires
+least-upper-bound-under-requires c κs =
+    let else1 = c .before in
+    let allowed = else1 .before in
+    let limits = allowed .before in
+    let start = limits .before .before .before .before .before in
     let args = start .args in
-    let by-mode-known = mode-known (args .mode) (from .from-number .result) (from .from-number .ensures) (known .m .given .0 .0) (known .m .given .1) in
-    let by-checked-missing = checked-missing (args .schema .now) (args .check) (start .pre) (c .enum-told3 .given .1) in
-    refuses 2 (bound-schema (args .mode) (args .schema .now) (args .t0 .now) (args .t1 .now) (length (args .out .now)) _ by-mode-known by-checked-missing)
-
-whole-type-requires : tie.Need-whole-type-requires
-whole-type-requires c κs = search needs
-
-returns-3 : tie.Need-returns-3
-returns-3 c =
-    let whole-type = c .before in
-    let at-enum-told = whole-type .before in
-    let known = at-enum-told .before .before .before in
-    let from = known .before .before in
-    let start = from .before .before .before .before .before in
-    let args = start .args in
-    let by-mode-known = mode-known (args .mode) (from .from-number .result) (from .from-number .ensures) (known .m .given .0 .0) (known .m .given .1) in
-    let by-checked-there = checked-there (args .schema .now) (args .check) (start .pre) (at-enum-told .enum-told2 .given .0 .0)
-    (at-enum-told .enum-told2 .given .1) in
-    let by-type-missing = type-missing (args .t0 .now) (whole-type .whole-type .result) (whole-type .whole-type .ensures) (c .if1 .taken) in
-    refuses 3 (bound-first (args .mode) (args .schema .now) (args .t0 .now) (args .t1 .now) (length (args .out .now)) _ by-mode-known _ by-checked-there
-    by-type-missing)
-
-whole-type-requires-2 : tie.Need-whole-type-requires-2
-whole-type-requires-2 c κs = search needs
-
-returns-4 : tie.Need-returns-4
-returns-4 c =
-    let whole-type2 = c .before in
-    let else2 = whole-type2 .before in
-    let whole-type = else2 .before in
-    let at-enum-told = whole-type .before in
-    let known = at-enum-told .before .before .before in
-    let from = known .before .before in
-    let start = from .before .before .before .before .before in
-    let args = start .args in
-    let by-mode-known = mode-known (args .mode) (from .from-number .result) (from .from-number .ensures) (known .m .given .0 .0) (known .m .given .1) in
-    let by-checked-there = checked-there (args .schema .now) (args .check) (start .pre) (at-enum-told .enum-told2 .given .0 .0)
-    (at-enum-told .enum-told2 .given .1) in
-    let by-type-there = type-there (args .t0 .now) (whole-type .whole-type .result) (whole-type .whole-type .ensures) (else2 .if1 .left) in
-    let by-type-missing = type-missing (args .t1 .now) (whole-type2 .whole-type2 .result) (whole-type2 .whole-type2 .ensures) (c .if2 .taken) in
-    refuses 4 (bound-second (args .mode) (args .schema .now) (args .t0 .now) (args .t1 .now) (length (args .out .now)) _ by-mode-known _ by-checked-there
-    by-type-there by-type-missing)
-
-bound-length-requires : tie.Need-bound-length-requires
-bound-length-requires c κs =
-    let whole-type2 = c .before in
-    let else2 = whole-type2 .before in
-    let whole-type = else2 .before in
-    let start = whole-type .before .before .before .before .before .before .before .before .before .before .before in
-    let by-type-whole = type-whole (start .args .t0 .now) (whole-type .whole-type .result) (whole-type .whole-type .ensures) (else2 .if1 .left) in
-    (by-type-whole, type-whole (start .args .t1 .now) (whole-type2 .whole-type2 .result) (whole-type2 .whole-type2 .ensures) (c .if2 .left))
-
-enum-known-n : tie.Need-enum-known-n
-enum-known-n c = search needs
-
-answer-fits-requires : tie.Need-answer-fits-requires
-answer-fits-requires c κs = search needs
-
-returns-5 : tie.Need-returns-5
-returns-5 c =
-    let answer-fits = c .before in
-    let n = answer-fits .before .before in
-    let bound-length = n .before .before in
-    let else3 = bound-length .before in
-    let whole-type2 = else3 .before in
-    let else2 = whole-type2 .before in
-    let whole-type = else2 .before in
-    let at-enum-told = whole-type .before in
-    let known = at-enum-told .before .before .before in
-    let from = known .before .before in
-    let shared-slice-known3 = from .before .before in
-    let shared-slice-known2 = shared-slice-known3 .before in
-    let start = shared-slice-known2 .before .before in
-    let args = start .args in
-    let by-direct = direct (asMode (known .m .given .0 .0)) (dec 16 (args .t0 .now)) (dec 16 (args .t1 .now)) in
-    let by-mode-known = mode-known (args .mode) (from .from-number .result) (from .from-number .ensures) (known .m .given .0 .0) (known .m .given .1) in
-    let by-checked-there = checked-there (args .schema .now) (args .check) (start .pre) (at-enum-told .enum-told2 .given .0 .0)
-    (at-enum-told .enum-told2 .given .1) in
-    let by-type-there = type-there (args .t0 .now) (whole-type .whole-type .result) (whole-type .whole-type .ensures) (else2 .if1 .left) in
-    let by-type-there-2 = type-there (args .t1 .now) (whole-type2 .whole-type2 .result) (whole-type2 .whole-type2 .ensures) (else3 .if2 .left) in
-    writes-over by-direct (args .out .now)
-    _ (bound-direct (args .mode) (args .schema .now) (args .t0 .now) (args .t1 .now) (length (args .out .now)) _ by-mode-known _ by-checked-there
-    by-type-there (λ i. shared-slice-known2 .shared-slice-known2 .given i .fits) (λ i. shared-slice-known3 .shared-slice-known3 .given i .fits)
-    by-type-there-2) (bound-length .bound-length .result) (bound-length .bound-length .ensures) (n .n .given .0 .0) (n .n .given .1)
-    (answer-fits .answer-fits .result) (answer-fits .answer-fits .ensures) (c .if3 .taken)
-
-write-bound-requires : tie.Need-write-bound-requires
-write-bound-requires c κs =
-    let else4 = c .before in
-    let answer-fits = else4 .before in
-    let n = answer-fits .before .before in
-    let bound-length = n .before .before in
-    let else3 = bound-length .before in
-    let whole-type2 = else3 .before in
-    let else2 = whole-type2 .before in
-    let whole-type = else2 .before in
-    let known = whole-type .before .before .before .before in
-    let start = known .before .before .before .before .before .before .before in
-    let args = start .args in
-    let by-type-whole = type-whole (args .t0 .now) (whole-type .whole-type .result) (whole-type .whole-type .ensures) (else2 .if1 .left) in
-    let by-type-whole-2 = type-whole (args .t1 .now) (whole-type2 .whole-type2 .result) (whole-type2 .whole-type2 .ensures) (else3 .if2 .left) in
-    let by-direct = direct (asMode (known .m .given .0 .0)) (dec 16 (args .t0 .now)) (dec 16 (args .t1 .now)) in (
-      by-type-whole,
-      (
-        by-type-whole-2,
-        (
-          writes-ready by-direct (args .out .now) _ refl (bound-length .bound-length .result) (bound-length .bound-length .ensures)
-              (n .n .given .0 .0) (n .n .given .1) (answer-fits .answer-fits .result) (answer-fits .answer-fits .ensures) (else4 .if3 .left),
-          λ p. writes-length by-direct (args .out .now) _ refl (bound-length .bound-length .result) (bound-length .bound-length .ensures)
-              (n .n .given .0 .0) (n .n .given .1) (answer-fits .answer-fits .result) (answer-fits .answer-fits .ensures) (else4 .if3 .left),
-        ),
-      ),
+    let fair = sym (allowed .are-allowed .ensures) ∙ not-false (allowed .are-allowed .result) (else1 .if1 .left) in (
+      fair,
+      kept-check (args .schema .now) (args .check) (start .pre) (limits .limits .result) (limits .limits .ensures) (allowed .are-allowed .result)
+          (allowed .are-allowed .ensures),
     )
-
-enum-known-e : tie.Need-enum-known-e
-enum-known-e c = search needs
 
 same-length : tie.Need-same-length
 same-length c = search needs
 
-returns-6 : tie.Need-returns-6
-returns-6 c =
-    let write-bound = c .before .before in
-    let else4 = write-bound .before .before in
-    let answer-fits = else4 .before in
-    let n = answer-fits .before .before in
-    let bound-length = n .before .before in
-    let else3 = bound-length .before in
-    let whole-type2 = else3 .before in
-    let else2 = whole-type2 .before in
-    let whole-type = else2 .before in
-    let at-enum-told = whole-type .before in
-    let known = at-enum-told .before .before .before in
-    let from = known .before .before in
-    let shared-slice-known3 = from .before .before in
-    let shared-slice-known2 = shared-slice-known3 .before in
-    let start = shared-slice-known2 .before .before in
+returns-2 : tie.Need-returns-2
+returns-2 c =
+    let under = c .before .before in
+    let limits = under .before .before .before .before in
+    let start = limits .before .before .before .before .before in
     let args = start .args in
-    let by-direct = direct (asMode (known .m .given .0 .0)) (dec 16 (args .t0 .now)) (dec 16 (args .t1 .now)) in
-    let by-mode-known = mode-known (args .mode) (from .from-number .result) (from .from-number .ensures) (known .m .given .0 .0) (known .m .given .1) in
-    let by-checked-there = checked-there (args .schema .now) (args .check) (start .pre) (at-enum-told .enum-told2 .given .0 .0)
-    (at-enum-told .enum-told2 .given .1) in
-    let by-type-there = type-there (args .t0 .now) (whole-type .whole-type .result) (whole-type .whole-type .ensures) (else2 .if1 .left) in
-    let by-type-there-2 = type-there (args .t1 .now) (whole-type2 .whole-type2 .result) (whole-type2 .whole-type2 .ensures) (else3 .if2 .left) in
-    writes by-direct (args .out .now) _ (bound-direct (args .mode) (args .schema .now) (args .t0 .now) (args .t1 .now) (length (args .out .now)) _ by-mode-known
-    _ by-checked-there by-type-there (λ i. shared-slice-known2 .shared-slice-known2 .given i .fits)
-    (λ i. shared-slice-known3 .shared-slice-known3 .given i .fits) by-type-there-2) (bound-length .bound-length .result)
-    (bound-length .bound-length .ensures) (n .n .given .0 .0) (n .n .given .1) (answer-fits .answer-fits .result)
-    (answer-fits .answer-fits .ensures) (else4 .if3 .left) (write-bound .write-bound .last .1 .1 .1 .1 .1 .0) (write-bound .write-bound .result)
-    (write-bound .write-bound .ensures)
-
-returns-7 : tie.Need-returns-7
-returns-7 c =
-    let e = c .before in
-    let bound-length = e .before .before in
-    let else3 = bound-length .before in
-    let whole-type2 = else3 .before in
-    let else2 = whole-type2 .before in
-    let whole-type = else2 .before in
-    let at-enum-told = whole-type .before in
-    let known = at-enum-told .before .before .before in
-    let from = known .before .before in
-    let shared-slice-known3 = from .before .before in
-    let shared-slice-known2 = shared-slice-known3 .before in
-    let start = shared-slice-known2 .before .before in
-    let args = start .args in
-    let by-direct = direct (asMode (known .m .given .0 .0)) (dec 16 (args .t0 .now)) (dec 16 (args .t1 .now)) in
-    let by-mode-known = mode-known (args .mode) (from .from-number .result) (from .from-number .ensures) (known .m .given .0 .0) (known .m .given .1) in
-    let by-checked-there = checked-there (args .schema .now) (args .check) (start .pre) (at-enum-told .enum-told2 .given .0 .0)
-    (at-enum-told .enum-told2 .given .1) in
-    let by-type-there = type-there (args .t0 .now) (whole-type .whole-type .result) (whole-type .whole-type .ensures) (else2 .if1 .left) in
-    let by-type-there-2 = type-there (args .t1 .now) (whole-type2 .whole-type2 .result) (whole-type2 .whole-type2 .ensures) (else3 .if2 .left) in
-    writes-not by-direct (args .out .now)
-    _ (bound-direct (args .mode) (args .schema .now) (args .t0 .now) (args .t1 .now) (length (args .out .now)) _ by-mode-known _ by-checked-there
-    by-type-there (λ i. shared-slice-known2 .shared-slice-known2 .given i .fits) (λ i. shared-slice-known3 .shared-slice-known3 .given i .fits)
-    by-type-there-2) (bound-length .bound-length .result) (bound-length .bound-length .ensures) (e .e .given .0 .0) (e .e .given .1)
+    subst (λ (l : LimitsStruct). Answered (boundCall (asLimits l) (args .mode) (args .schema .now) (args .t0 .now) (args .t1 .now) (length (args .out .now))) (args .out .now) (under .least-upper-bound-under .last .1 .1 .1 .1 .1 .1 .0) (under .least-upper-bound-under .result))
+    (limits .limits .ensures) (under .least-upper-bound-under .ensures)
 
 pub least-upper-bound-checked-spec : {M : Type 1} → statement M
 least-upper-bound-checked-spec =
     tie.close
     (tie.spec
-    from-number-requires
-    enum-known-m
-    enum-told
+    limits-requires
+    are-allowed-requires
     returns
-    enum-told-2
-    enum-told-3
-    returns-2
-    whole-type-requires
-    returns-3
-    whole-type-requires-2
-    returns-4
-    bound-length-requires
-    enum-known-n
-    answer-fits-requires
-    returns-5
-    write-bound-requires
-    enum-known-e
+    least-upper-bound-under-requires
     same-length
-    returns-6
-    returns-7)
+    returns-2)

@@ -1,57 +1,38 @@
 -- `validator::lookup_attribute_type::looked_up` meets its contract. Assumes nothing.
+use Rattle.forms.specs.Limits.{asLimits}
 use mathlib.Core.Path.{refl}
-use Rattle.validator.specs.Laws.Lookup.{small, lookup-no-schema, lookup-no-type, lookup-nothing, lookup-too-long, lookup-over, lookup-room, lookup-writes}
+use Rattle.validator.specs.Laws.Lookup.{small, lookup-no-type, lookup-nothing, lookup-too-long, lookup-over, lookup-room, lookup-writes}
 use native.Mathlib.Omega.{arith}
 use lib.ListN.{length}
-use Rattle.schemas.specs.Laws.Finders.{kept}
 use Rattle.validator.specs.Laws.Questions.{type-missing, type-there, type-whole, type-few}
-use Rattle.validator.specs.Laws.Schemas.{checked-missing, checked-there}
+use Rattle.validator.specs.Laws.Schemas.{sectioned-there}
 use borrow.Author.Needs.{needs}
 use Rattle.validator.proofs.lookup_attribute_type.looked_up.Statement.{statement}
 use Rattle.validator.proofs.lookup_attribute_type.looked_up.Tie as tie
 
-enum-known-check : tie.Need-enum-known-check
-enum-known-check c = search needs
-
-enum-told : tie.Need-enum-told
-enum-told c = search needs
-
-returns : tie.Need-returns
-returns c =
-    let start = c .before .before .before .before .before .before in
-    let args = start .args in
-    let by-checked-missing = checked-missing (args .schema .now) (args .check) (start .pre) (c .enum-told .given .1) in
-    lookup-no-schema (args .schema .now) (args .attr) (args .t .now) (args .out .now) (length (args .work .now)) by-checked-missing
-
 whole-type-requires : tie.Need-whole-type-requires
 whole-type-requires c κs = search needs
 
-returns-2 : tie.Need-returns-2
-returns-2 c =
+returns : tie.Need-returns
+returns c =
     let at-whole-type = c .before in
-    let check = at-whole-type .before .before in
-    let start = check .before .before .before .before .before .before in
+    let start = at-whole-type .before .before .before .before .before .before .before in
     let args = start .args in
-    let by-checked-there = checked-there (args .schema .now) (args .check) (start .pre) (check .check .given .0 .0) (check .check .given .1) in
-    let by-type-missing = type-missing (args .t .now) (at-whole-type .whole-type .result) (at-whole-type .whole-type .ensures) (c .if1 .taken) in
-    lookup-no-type (args .schema .now) (args .attr) (args .t .now) (args .out .now) (length (args .work .now)) _ by-checked-there by-type-missing
-
-slice-aggregate-look-up : tie.Need-slice-aggregate-look-up
-slice-aggregate-look-up c = search needs
+    let by-checked-there = sectioned-there (args .schema .now) (args .«at») (start .pre .0) in
+    let by-type-missing = type-missing (asLimits (args .«at» .limits)) (args .t .now) (at-whole-type .whole-type .result) (at-whole-type .whole-type .ensures) (c .if1 .taken) in
+    lookup-no-type (asLimits (args .«at» .limits)) (start .pre .0 .fair) (args .schema .now) (args .attr) (args .t .now) (args .out .now) (length (args .work .now)) _ by-checked-there by-type-missing
 
 look-up-requires : tie.Need-look-up-requires
 look-up-requires c κs =
     let else1 = c .before .before in
     let at-whole-type = else1 .before in
-    let check = at-whole-type .before .before in
-    let start = check .before .before .before .before .before .before in
-    let args = start .args in
-    let by-kept = kept (args .schema .now) (args .check) (start .pre) (check .check .given .0 .0) (check .check .given .1) in (
-      by-kept,
+    let start = at-whole-type .before .before .before .before .before .before .before in
+    let args = start .args in (
+      start .pre .0,
       record {
-        good = type-whole (args .t .now) (at-whole-type .whole-type .result) (at-whole-type .whole-type .ensures) (else1 .if1 .left);
-        few = type-few (args .t .now) (at-whole-type .whole-type .result) (at-whole-type .whole-type .ensures) (else1 .if1 .left);
-        room = refl;
+        good = type-whole (asLimits (args .«at» .limits)) (args .t .now) (at-whole-type .whole-type .result) (at-whole-type .whole-type .ensures) (else1 .if1 .left);
+        few = type-few (asLimits (args .«at» .limits)) (args .t .now) (at-whole-type .whole-type .result) (at-whole-type .whole-type .ensures) (else1 .if1 .left);
+        room = start .pre .1;
       },
     )
 
@@ -64,21 +45,23 @@ answer-fits-requires c κs = search needs
 same-length : tie.Need-same-length
 same-length c = search needs
 
-returns-3 : tie.Need-returns-3
-returns-3 c =
+same-length-2 : tie.Need-same-length-2
+same-length-2 c = search needs
+
+returns-2 : tie.Need-returns-2
+returns-2 c =
     let answer-fits = c .before in
     let required = answer-fits .before .before in
-    let look-up = required .before .before .before .before .before in
+    let look-up = required .before .before .before .before .before .before in
     let else1 = look-up .before .before .before in
     let at-whole-type = else1 .before in
-    let check = at-whole-type .before .before in
-    let start = check .before .before .before .before .before .before in
+    let start = at-whole-type .before .before .before .before .before .before .before in
     let args = start .args in
-    let by-checked-there = checked-there (args .schema .now) (args .check) (start .pre) (check .check .given .0 .0) (check .check .given .1) in
-    let by-type-there = type-there (args .t .now) (at-whole-type .whole-type .result) (at-whole-type .whole-type .ensures) (else1 .if1 .left) in
-    lookup-over (args .schema .now) (args .attr) (args .t .now) (args .out .now) (length (args .work .now)) _ by-checked-there _ by-type-there
+    let by-checked-there = sectioned-there (args .schema .now) (args .«at») (start .pre .0) in
+    let by-type-there = type-there (asLimits (args .«at» .limits)) (args .t .now) (at-whole-type .whole-type .result) (at-whole-type .whole-type .ensures) (else1 .if1 .left) in
+    lookup-over (asLimits (args .«at» .limits)) (start .pre .0 .fair) (args .schema .now) (args .attr) (args .t .now) (args .out .now) (length (args .work .now)) _ by-checked-there _ by-type-there
     (look-up .look-up .last .1 .1 .1 .1 .0) (look-up .look-up .result) (look-up .look-up .ensures) (required .required .given .0 .0)
-    (required .required .given .0 .1 .0) (required .required .given .1) (look-up .look-up .kept .1 .1 .1 .1 .0) (answer-fits .answer-fits .result)
+    (required .required .given .0 .1 .0) (required .required .given .1) (omega (arith, look-up .look-up .kept .1 .1 .1 .1 .0, start .pre .1)) (answer-fits .answer-fits .result)
     (answer-fits .answer-fits .ensures) (c .if2 .taken)
 
 sub-copy : tie.Need-sub-copy
@@ -90,19 +73,18 @@ part-copy-start c = search needs
 part-copy-end : tie.Need-part-copy-end
 part-copy-end c =
     let required = c .before .before .before .before in
-    let look-up = required .before .before .before .before .before in
+    let look-up = required .before .before .before .before .before .before in
     let else1 = look-up .before .before .before in
     let at-whole-type = else1 .before in
-    let check = at-whole-type .before .before in
-    let start = check .before .before .before .before .before .before in
+    let start = at-whole-type .before .before .before .before .before .before .before in
     let args = start .args in
-    let by-checked-there = checked-there (args .schema .now) (args .check) (start .pre) (check .check .given .0 .0) (check .check .given .1) in
-    let by-type-there = type-there (args .t .now) (at-whole-type .whole-type .result) (at-whole-type .whole-type .ensures) (else1 .if1 .left) in
+    let by-checked-there = sectioned-there (args .schema .now) (args .«at») (start .pre .0) in
+    let by-type-there = type-there (asLimits (args .«at» .limits)) (args .t .now) (at-whole-type .whole-type .result) (at-whole-type .whole-type .ensures) (else1 .if1 .left) in
     omega (
       arith,
-      small (args .schema .now) (args .attr) (args .t .now) (args .out .now) (length (args .work .now)) _ by-checked-there _ by-type-there
+      small (asLimits (args .«at» .limits)) (start .pre .0 .fair) (args .schema .now) (args .attr) (args .t .now) (args .out .now) (length (args .work .now)) _ by-checked-there _ by-type-there
           (look-up .look-up .last .1 .1 .1 .1 .0) (look-up .look-up .result) (look-up .look-up .ensures) (required .required .given .0 .0)
-          (required .required .given .0 .1 .0) (required .required .given .1) (look-up .look-up .kept .1 .1 .1 .1 .0),
+          (required .required .given .0 .1 .0) (required .required .given .1) (omega (arith, look-up .look-up .kept .1 .1 .1 .1 .0, start .pre .1)),
       look-up .look-up .kept .1 .1 .1 .1 .0,
     )
 
@@ -111,107 +93,112 @@ copy-requires c κs =
     let else2 = c .before .before .before in
     let answer-fits = else2 .before in
     let required = answer-fits .before .before in
-    let look-up = required .before .before .before .before .before in
+    let look-up = required .before .before .before .before .before .before in
     let else1 = look-up .before .before .before in
     let at-whole-type = else1 .before in
-    let check = at-whole-type .before .before in
-    let start = check .before .before .before .before .before .before in
+    let start = at-whole-type .before .before .before .before .before .before .before in
     let args = start .args in
-    let by-checked-there = checked-there (args .schema .now) (args .check) (start .pre) (check .check .given .0 .0) (check .check .given .1) in
-    let by-type-there = type-there (args .t .now) (at-whole-type .whole-type .result) (at-whole-type .whole-type .ensures) (else1 .if1 .left) in
-    lookup-room (args .schema .now) (args .attr) (args .t .now) (args .out .now) (length (args .work .now)) _ by-checked-there _ by-type-there
+    let by-checked-there = sectioned-there (args .schema .now) (args .«at») (start .pre .0) in
+    let by-type-there = type-there (asLimits (args .«at» .limits)) (args .t .now) (at-whole-type .whole-type .result) (at-whole-type .whole-type .ensures) (else1 .if1 .left) in
+    lookup-room (asLimits (args .«at» .limits)) (start .pre .0 .fair) (args .schema .now) (args .attr) (args .t .now) (args .out .now) (length (args .work .now)) _ by-checked-there _ by-type-there
     (look-up .look-up .last .1 .1 .1 .1 .0) (look-up .look-up .result) (look-up .look-up .ensures) (required .required .given .0 .0)
-    (required .required .given .0 .1 .0) (required .required .given .1) (look-up .look-up .kept .1 .1 .1 .1 .0) (answer-fits .answer-fits .result)
+    (required .required .given .0 .1 .0) (required .required .given .1) (omega (arith, look-up .look-up .kept .1 .1 .1 .1 .0, start .pre .1)) (answer-fits .answer-fits .result)
     (answer-fits .answer-fits .ensures) (else2 .if2 .left)
+
+enum-told : tie.Need-enum-told
+enum-told c = search needs
 
 enum-told-2 : tie.Need-enum-told-2
 enum-told-2 c = search needs
 
-enum-told-3 : tie.Need-enum-told-3
-enum-told-3 c = search needs
-
-same-length-2 : tie.Need-same-length-2
-same-length-2 c = search needs
-
 same-length-3 : tie.Need-same-length-3
 same-length-3 c = search needs
-
-returns-4 : tie.Need-returns-4
-returns-4 c =
-    let copy = c .before .before in
-    let else2 = copy .before .before .before .before in
-    let answer-fits = else2 .before in
-    let required = answer-fits .before .before in
-    let look-up = required .before .before .before .before .before in
-    let else1 = look-up .before .before .before in
-    let at-whole-type = else1 .before in
-    let check = at-whole-type .before .before in
-    let start = check .before .before .before .before .before .before in
-    let args = start .args in
-    let by-checked-there = checked-there (args .schema .now) (args .check) (start .pre) (check .check .given .0 .0) (check .check .given .1) in
-    let by-type-there = type-there (args .t .now) (at-whole-type .whole-type .result) (at-whole-type .whole-type .ensures) (else1 .if1 .left) in
-    lookup-writes (args .schema .now) (args .attr) (args .t .now) (args .out .now) (length (args .work .now)) _ by-checked-there _ by-type-there
-    (look-up .look-up .last .1 .1 .1 .1 .0) (look-up .look-up .result) (look-up .look-up .ensures) (required .required .given .0 .0)
-    (required .required .given .0 .1 .0) (required .required .given .1) (look-up .look-up .kept .1 .1 .1 .1 .0) (answer-fits .answer-fits .result)
-    (answer-fits .answer-fits .ensures) (else2 .if2 .left) (copy .copy .last .1 .0) (copy .copy .ensures)
 
 same-length-4 : tie.Need-same-length-4
 same-length-4 c = search needs
 
-returns-5 : tie.Need-returns-5
-returns-5 c =
-    let look-up = c .before .before .before .before .before in
-    let else1 = look-up .before .before .before in
-    let at-whole-type = else1 .before in
-    let check = at-whole-type .before .before in
-    let start = check .before .before .before .before .before .before in
-    let args = start .args in
-    let by-checked-there = checked-there (args .schema .now) (args .check) (start .pre) (check .check .given .0 .0) (check .check .given .1) in
-    let by-type-there = type-there (args .t .now) (at-whole-type .whole-type .result) (at-whole-type .whole-type .ensures) (else1 .if1 .left) in
-    lookup-nothing (args .schema .now) (args .attr) (args .t .now) (args .out .now) (length (args .work .now)) _ by-checked-there _ by-type-there
-    (look-up .look-up .last .1 .1 .1 .1 .0) (look-up .look-up .result) (look-up .look-up .ensures) (c .enum-told2 .given .1)
-
 same-length-5 : tie.Need-same-length-5
 same-length-5 c = search needs
 
-returns-6 : tie.Need-returns-6
-returns-6 c =
-    let look-up = c .before .before .before .before .before in
+returns-3 : tie.Need-returns-3
+returns-3 c =
+    let copy = c .before .before in
+    let else2 = copy .before .before .before .before in
+    let answer-fits = else2 .before in
+    let required = answer-fits .before .before in
+    let look-up = required .before .before .before .before .before .before in
     let else1 = look-up .before .before .before in
     let at-whole-type = else1 .before in
-    let check = at-whole-type .before .before in
-    let start = check .before .before .before .before .before .before in
+    let start = at-whole-type .before .before .before .before .before .before .before in
     let args = start .args in
-    let by-checked-there = checked-there (args .schema .now) (args .check) (start .pre) (check .check .given .0 .0) (check .check .given .1) in
-    let by-type-there = type-there (args .t .now) (at-whole-type .whole-type .result) (at-whole-type .whole-type .ensures) (else1 .if1 .left) in
-    lookup-too-long (args .schema .now) (args .attr) (args .t .now) (args .out .now) (length (args .work .now)) _ by-checked-there _ by-type-there
-    (look-up .look-up .last .1 .1 .1 .1 .0) (look-up .look-up .result) (look-up .look-up .ensures) (c .enum-told3 .given .1)
+    let by-checked-there = sectioned-there (args .schema .now) (args .«at») (start .pre .0) in
+    let by-type-there = type-there (asLimits (args .«at» .limits)) (args .t .now) (at-whole-type .whole-type .result) (at-whole-type .whole-type .ensures) (else1 .if1 .left) in
+    lookup-writes (asLimits (args .«at» .limits)) (start .pre .0 .fair) (args .schema .now) (args .attr) (args .t .now) (args .out .now) (length (args .work .now)) _ by-checked-there _ by-type-there
+    (look-up .look-up .last .1 .1 .1 .1 .0) (look-up .look-up .result) (look-up .look-up .ensures) (required .required .given .0 .0)
+    (required .required .given .0 .1 .0) (required .required .given .1) (omega (arith, look-up .look-up .kept .1 .1 .1 .1 .0, start .pre .1)) (answer-fits .answer-fits .result)
+    (answer-fits .answer-fits .ensures) (else2 .if2 .left) (copy .copy .last .1 .0) (copy .copy .ensures)
+
+same-length-6 : tie.Need-same-length-6
+same-length-6 c = search needs
+
+same-length-7 : tie.Need-same-length-7
+same-length-7 c = search needs
+
+returns-4 : tie.Need-returns-4
+returns-4 c =
+    let look-up = c .before .before .before .before .before .before in
+    let else1 = look-up .before .before .before in
+    let at-whole-type = else1 .before in
+    let start = at-whole-type .before .before .before .before .before .before .before in
+    let args = start .args in
+    let by-checked-there = sectioned-there (args .schema .now) (args .«at») (start .pre .0) in
+    let by-type-there = type-there (asLimits (args .«at» .limits)) (args .t .now) (at-whole-type .whole-type .result) (at-whole-type .whole-type .ensures) (else1 .if1 .left) in
+    lookup-nothing (asLimits (args .«at» .limits)) (start .pre .0 .fair) (args .schema .now) (args .attr) (args .t .now) (args .out .now) (length (args .work .now)) _ by-checked-there _ by-type-there
+    (look-up .look-up .last .1 .1 .1 .1 .0) (look-up .look-up .result) (look-up .look-up .ensures) (c .enum-told .given .1)
+
+same-length-8 : tie.Need-same-length-8
+same-length-8 c = search needs
+
+same-length-9 : tie.Need-same-length-9
+same-length-9 c = search needs
+
+returns-5 : tie.Need-returns-5
+returns-5 c =
+    let look-up = c .before .before .before .before .before .before in
+    let else1 = look-up .before .before .before in
+    let at-whole-type = else1 .before in
+    let start = at-whole-type .before .before .before .before .before .before .before in
+    let args = start .args in
+    let by-checked-there = sectioned-there (args .schema .now) (args .«at») (start .pre .0) in
+    let by-type-there = type-there (asLimits (args .«at» .limits)) (args .t .now) (at-whole-type .whole-type .result) (at-whole-type .whole-type .ensures) (else1 .if1 .left) in
+    lookup-too-long (asLimits (args .«at» .limits)) (start .pre .0 .fair) (args .schema .now) (args .attr) (args .t .now) (args .out .now) (length (args .work .now)) _ by-checked-there _ by-type-there
+    (look-up .look-up .last .1 .1 .1 .1 .0) (look-up .look-up .result) (look-up .look-up .ensures) (c .enum-told2 .given .1)
 
 pub looked-up-spec : {M : Type 1} → statement M
 looked-up-spec =
     tie.close
     (tie.spec
-    enum-known-check
-    enum-told
-    returns
     whole-type-requires
-    returns-2
-    slice-aggregate-look-up
+    returns
     look-up-requires
     enum-known-required
     answer-fits-requires
     same-length
-    returns-3
+    same-length-2
+    returns-2
     sub-copy
     part-copy-start
     part-copy-end
     copy-requires
+    enum-told
     enum-told-2
-    enum-told-3
-    same-length-2
     same-length-3
-    returns-4
     same-length-4
-    returns-5
     same-length-5
-    returns-6)
+    returns-3
+    same-length-6
+    same-length-7
+    returns-4
+    same-length-8
+    same-length-9
+    returns-5)

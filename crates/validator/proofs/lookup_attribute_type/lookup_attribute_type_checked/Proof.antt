@@ -6,8 +6,8 @@ use Rattle.validator.proofs.lookup_attribute_type.lookup_attribute_type
 }
 use Rattle.validator.proofs.lookup_attribute_type.lookup_attribute_type_checked.Tie as tie
 
-looked-up-requires : tie.Need-looked-up-requires
-looked-up-requires c κs = search needs
+looked-up-under-requires : tie.Need-looked-up-under-requires
+looked-up-under-requires c κs = search needs
 
 clear-requires : tie.Need-clear-requires
 clear-requires c κs = search needs
@@ -23,9 +23,9 @@ returns c =
     let clear = c .before .before in
     let looked-up = clear .before .before .before .before .before .before in
     let start = looked-up .before .before .before .before .before .before .before in
-    cleared-after (start .args .work .now) (looked-up .looked-up .last .1 .1 .1 .1 .1 .0) (clear .clear .last .0) (looked-up .looked-up .ensures)
-    (looked-up .looked-up .kept .1 .1 .1 .1 .1 .0) (clear .clear .ensures)
+    cleared-after (start .args .work .now) (looked-up .looked-up-under .last .1 .1 .1 .1 .1 .0) (clear .clear .last .0) (looked-up .looked-up-under .ensures)
+    (looked-up .looked-up-under .kept .1 .1 .1 .1 .1 .0) (clear .clear .ensures)
 
 pub lookup-attribute-type-checked-spec : {M : Type 1} → statement M
 lookup-attribute-type-checked-spec =
-    tie.close (tie.spec looked-up-requires clear-requires same-length same-length-2 returns)
+    tie.close (tie.spec looked-up-under-requires clear-requires same-length same-length-2 returns)

@@ -1,11 +1,32 @@
 -- `validator::may_have_attr::may_have_attr_checked` meets its contract. Assumes nothing.
-use Rattle.schemas.specs.Laws.Finders.{kept}
-use Rattle.validator.specs.Laws.Questions.{type-missing, type-there, type-whole}
-use Rattle.validator.specs.Laws.Schemas.{checked-missing, checked-there}
-use Rattle.validator.specs.Laws.MayHave.{may-have-no-schema, may-have-no-type, may-have-said}
+use mathlib.Core.Path.{_≡_, sym, ap}
+use Rattle.cedar.specs.Calls.{mayHaveCall}
+use Rattle.validator.specs.Answers.{answerOf}
+use Rattle.cedar.specs.Limits.{Limits}
+use Rattle.cedar.specs.Laws.Limits.{may-have-refused}
+use Rattle.forms.specs.Limits.{asLimits}
+use Rattle.schemas.specs.SchemaBytes.{limitsOf}
+use Rattle.validator.specs.Laws.Schemas.{kept-refused, kept-allowed, kept-missing, kept-sections, kept-under}
+use Rattle.validator.specs.Laws.MayHave.{may-have-no-schema}
 use borrow.Author.Needs.{needs}
 use Rattle.validator.proofs.may_have_attr.may_have_attr_checked.Statement.{statement}
 use Rattle.validator.proofs.may_have_attr.may_have_attr_checked.Tie as tie
+
+limits-requires : tie.Need-limits-requires
+limits-requires c κs = search needs
+
+are-allowed-requires : tie.Need-are-allowed-requires
+are-allowed-requires c κs = search needs
+
+returns : tie.Need-returns
+returns c =
+    let allowed = c .before in
+    let limits = allowed .before in
+    let start = limits .before .before .before in
+    let args = start .args in
+    let bad = kept-refused (args .schema .now) (args .check) (start .pre) (limits .limits .result) (limits .limits .ensures) (allowed .are-allowed .result)
+    (allowed .are-allowed .ensures) (c .if1 .taken) in
+    sym (ap answerOf (may-have-refused (asLimits (limitsOf (args .check))) bad (args .schema .now) (args .attr) (args .t .now)))
 
 enum-known-check : tie.Need-enum-known-check
 enum-known-check c = search needs
@@ -13,59 +34,42 @@ enum-known-check c = search needs
 enum-told : tie.Need-enum-told
 enum-told c = search needs
 
-returns : tie.Need-returns
-returns c =
-    let start = c .before .before .before .before in
-    let args = start .args in
-    may-have-no-schema (args .attr) (args .schema .now) (args .t .now) (checked-missing (args .schema .now) (args .check) (start .pre) (c .enum-told .given .1))
-
-whole-type-requires : tie.Need-whole-type-requires
-whole-type-requires c κs = search needs
-
 returns-2 : tie.Need-returns-2
 returns-2 c =
-    let whole-type = c .before in
-    let check = whole-type .before .before in
-    let start = check .before .before .before .before in
+    let else1 = c .before .before in
+    let allowed = else1 .before in
+    let limits = allowed .before in
+    let start = limits .before .before .before in
     let args = start .args in
-    let by-checked-there = checked-there (args .schema .now) (args .check) (start .pre) (check .check .given .0 .0) (check .check .given .1) in
-    let by-type-missing = type-missing (args .t .now) (whole-type .whole-type .result) (whole-type .whole-type .ensures) (c .if1 .taken) in
-    may-have-no-type (args .attr) (args .schema .now) (args .t .now) _ by-checked-there by-type-missing
+    let fair = kept-allowed (args .schema .now) (args .check) (start .pre) (limits .limits .result) (limits .limits .ensures) (allowed .are-allowed .result)
+    (allowed .are-allowed .ensures) (else1 .if1 .left) in
+    may-have-no-schema (asLimits (limitsOf (args .check))) fair (args .attr) (args .schema .now) (args .t .now)
+    (kept-missing (args .schema .now) (args .check) (start .pre) fair (c .enum-told .given .0 .0) (c .enum-told .given .1))
 
-may-have-attr-requires : tie.Need-may-have-attr-requires
-may-have-attr-requires c κs =
-    let whole-type = c .before in
-    let check = whole-type .before .before in
-    let start = check .before .before .before .before in
+may-have-under-requires : tie.Need-may-have-under-requires
+may-have-under-requires c κs =
+    let check = c .before in
+    let start = check .before .before .before .before .before .before .before in
     let args = start .args in
-    let by-kept = kept (args .schema .now) (args .check) (start .pre) (check .check .given .0 .0) (check .check .given .1) in
-    (by-kept, type-whole (args .t .now) (whole-type .whole-type .result) (whole-type .whole-type .ensures) (c .if1 .left))
-
-yes-or-no-requires : tie.Need-yes-or-no-requires
-yes-or-no-requires c κs = search needs
+    kept-sections (args .schema .now) (args .check) (start .pre) (check .check .given .0 .0) (check .check .given .1)
 
 returns-3 : tie.Need-returns-3
 returns-3 c =
-    let may-have-attr = c .before in
-    let else1 = may-have-attr .before in
-    let whole-type = else1 .before in
-    let check = whole-type .before .before in
-    let start = check .before .before .before .before in
+    let check = c .before .before in
+    let start = check .before .before .before .before .before .before .before in
     let args = start .args in
-    let by-checked-there = checked-there (args .schema .now) (args .check) (start .pre) (check .check .given .0 .0) (check .check .given .1) in
-    let by-type-there = type-there (args .t .now) (whole-type .whole-type .result) (whole-type .whole-type .ensures) (else1 .if1 .left) in
-    may-have-said (args .attr) (args .schema .now) (args .t .now) _ by-checked-there _ by-type-there (c .yes-or-no .result)
-    (may-have-attr .may-have-attr .result) (c .yes-or-no .ensures) (may-have-attr .may-have-attr .ensures)
+    kept-under (args .schema .now) (args .check) (start .pre) (check .check .given .0 .0) (check .check .given .1)
+    (λ (lim : Limits). c .may-have-under .result ≡ answerOf (mayHaveCall lim (args .schema .now) (args .attr) (args .t .now))) (c .may-have-under .ensures)
 
 pub may-have-attr-checked-spec : {M : Type 1} → statement M
 may-have-attr-checked-spec =
     tie.close
     (tie.spec
+    limits-requires
+    are-allowed-requires
+    returns
     enum-known-check
     enum-told
-    returns
-    whole-type-requires
     returns-2
-    may-have-attr-requires
-    yes-or-no-requires
+    may-have-under-requires
     returns-3)

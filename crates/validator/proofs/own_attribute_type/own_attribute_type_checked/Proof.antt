@@ -1,4 +1,6 @@
 -- `validator::own_attribute_type::own_attribute_type_checked` meets its contract. Assumes nothing.
+use Rattle.forms.specs.Limits.{asLimits}
+use Rattle.schemas.specs.SchemaBytes.{limitsOf}
 use native.Mathlib.Omega.{arith}
 use mathlib.Core.Path.{refl}
 use Rattle.validator.specs.Laws.Handed.{here-refused, here-nothing, here-found, here-required, here-optional}
@@ -33,7 +35,7 @@ sub-result c =
     let known = part .before in
     let start = known .before .before in
     let args = start .args in
-    let f = here-found (args .schema .now) (args .attr) (args .t) (λ i. omega (arith, known .shared-slice-known2 .given i))
+    let f = here-found (asLimits (limitsOf (args .check))) (args .schema .now) (args .attr) (args .t) (λ i. omega (arith, known .shared-slice-known2 .given i))
     (part .own-attribute-part-checked .result) (part .own-attribute-part-checked .ensures) (place .start .given .0 .0) (place .start .given .0 .1 .0)
     (place .start .given .0 .1 .1 .0) (place .start .given .1) in
     omega (arith, f .order, f .inside)
@@ -48,7 +50,7 @@ part-result-end c =
     let known = part .before in
     let start = known .before .before in
     let args = start .args in
-    let f = here-found (args .schema .now) (args .attr) (args .t) (λ i. omega (arith, known .shared-slice-known2 .given i))
+    let f = here-found (asLimits (limitsOf (args .check))) (args .schema .now) (args .attr) (args .t) (λ i. omega (arith, known .shared-slice-known2 .given i))
     (part .own-attribute-part-checked .result) (part .own-attribute-part-checked .ensures) (place .start .given .0 .0) (place .start .given .0 .1 .0)
     (place .start .given .0 .1 .1 .0) (place .start .given .1) in
     omega (arith, f .order, f .inside)
@@ -61,7 +63,7 @@ returns c =
     let known = part .before in
     let start = known .before .before in
     let args = start .args in
-    here-required (args .schema .now) (args .attr) (args .t) (λ i. omega (arith, known .shared-slice-known2 .given i))
+    here-required (asLimits (limitsOf (args .check))) (args .schema .now) (args .attr) (args .t) (λ i. omega (arith, known .shared-slice-known2 .given i))
     (part .own-attribute-part-checked .result) (part .own-attribute-part-checked .ensures) (place .start .given .0 .0) (place .start .given .0 .1 .0)
     (place .start .given .0 .1 .1 .0) (place .start .given .1) _ refl (omega arith) refl (then1 .if1 .taken)
 
@@ -72,7 +74,7 @@ sub-result-2 c =
     let known = part .before in
     let start = known .before .before in
     let args = start .args in
-    let f = here-found (args .schema .now) (args .attr) (args .t) (λ i. omega (arith, known .shared-slice-known2 .given i))
+    let f = here-found (asLimits (limitsOf (args .check))) (args .schema .now) (args .attr) (args .t) (λ i. omega (arith, known .shared-slice-known2 .given i))
     (part .own-attribute-part-checked .result) (part .own-attribute-part-checked .ensures) (place .start .given .0 .0) (place .start .given .0 .1 .0)
     (place .start .given .0 .1 .1 .0) (place .start .given .1) in
     omega (arith, f .order, f .inside)
@@ -87,7 +89,7 @@ part-result-end-2 c =
     let known = part .before in
     let start = known .before .before in
     let args = start .args in
-    let f = here-found (args .schema .now) (args .attr) (args .t) (λ i. omega (arith, known .shared-slice-known2 .given i))
+    let f = here-found (asLimits (limitsOf (args .check))) (args .schema .now) (args .attr) (args .t) (λ i. omega (arith, known .shared-slice-known2 .given i))
     (part .own-attribute-part-checked .result) (part .own-attribute-part-checked .ensures) (place .start .given .0 .0) (place .start .given .0 .1 .0)
     (place .start .given .0 .1 .1 .0) (place .start .given .1) in
     omega (arith, f .order, f .inside)
@@ -99,7 +101,7 @@ returns-2 c =
     let known = part .before in
     let start = known .before .before in
     let args = start .args in
-    here-refused (args .schema .now) (args .attr) (args .t) (λ i. omega (arith, known .shared-slice-known2 .given i)) (part .own-attribute-part-checked .result)
+    here-refused (asLimits (limitsOf (args .check))) (args .schema .now) (args .attr) (args .t) (λ i. omega (arith, known .shared-slice-known2 .given i)) (part .own-attribute-part-checked .result)
     (part .own-attribute-part-checked .ensures) (at-e .e .given .0 .0) (at-e .e .given .1) _ refl refl
 
 returns-3 : tie.Need-returns-3
@@ -109,7 +111,7 @@ returns-3 c =
     let known = part .before in
     let start = known .before .before in
     let args = start .args in
-    here-nothing (args .schema .now) (args .attr) (args .t) (λ i. omega (arith, known .shared-slice-known2 .given i)) (part .own-attribute-part-checked .result)
+    here-nothing (asLimits (limitsOf (args .check))) (args .schema .now) (args .attr) (args .t) (λ i. omega (arith, known .shared-slice-known2 .given i)) (part .own-attribute-part-checked .result)
     (part .own-attribute-part-checked .ensures) (at-enum-told .enum-told .given .1) _ refl refl
 
 returns-4 : tie.Need-returns-4
@@ -120,7 +122,7 @@ returns-4 c =
     let known = part .before in
     let start = known .before .before in
     let args = start .args in
-    here-optional (args .schema .now) (args .attr) (args .t) (λ i. omega (arith, known .shared-slice-known2 .given i))
+    here-optional (asLimits (limitsOf (args .check))) (args .schema .now) (args .attr) (args .t) (λ i. omega (arith, known .shared-slice-known2 .given i))
     (part .own-attribute-part-checked .result) (part .own-attribute-part-checked .ensures) (place .start .given .0 .0) (place .start .given .0 .1 .0)
     (place .start .given .0 .1 .1 .0) (place .start .given .1) _ refl (omega arith) refl (else1 .if1 .left)
 
