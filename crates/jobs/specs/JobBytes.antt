@@ -8,6 +8,8 @@ use Rattle.cedar.specs.JobForm.{Operation, subtypeOp, boundOp, disjointOp, look
 use Rattle.cedar.specs.JobForm.{takesMode, takesAttribute, takesSecond, takenOrZero, Question, Job}
 use Rattle.cedar.specs.Limits.{blockBytes}
 use Rattle.forms.specs.Parts.{part, rd}
+use Rattle.cedar.specs.Limits.{standard}
+use Rattle.forms.specs.declared.limits.Limits.{Limits as LimitsStruct}
 use Rattle.schemas.specs.SchemaBytes.{checked}
 use Rattle.schemas.specs.declared.whole.Checked.{Checked}
 use Rattle.schemas.specs.declared.whole.Checked.the-variants.{Broken}
@@ -58,9 +60,13 @@ bodiesFrom b = schemaFrom b + rd b 0
 unfoldable pub schemaOf : List ℕ → List ℕ
 schemaOf b = part (schemaFrom b) (bodiesFrom b) b
 
+-- The limits of a job, as the code's struct.
+abbrev pub jobLimits : LimitsStruct
+jobLimits = record { levels = standard .levels; bytes = standard .bytes }
+
 -- The check of that schema; of a job that is cut short before its bodies, a broken one.
 unfoldable pub jobCheck : List ℕ → Checked
-jobCheck b = cond (leb (bodiesFrom b) (length b)) (checked (schemaOf b)) Broken
+jobCheck b = cond (leb (bodiesFrom b) (length b)) (checked jobLimits (schemaOf b)) (Broken jobLimits)
 
 -- A whole job, and its tree.
 abbrev pub jobFits : List ℕ → Bool

@@ -6,6 +6,7 @@ use crate::questions::question_at;
 use crate::steps::Buffers;
 use crate::whole::bodies_from;
 use crate::whole::schema_from;
+use forms::limits::Limits;
 use schemas::whole::Checked;
 use validator::all_attributes::all_attributes_checked;
 use validator::answers::Answer;
@@ -28,12 +29,12 @@ ghost use Rattle.cedar.specs.Calls.{foldCall, lookupCall, namesCall};
 ghost use Rattle.cedar.specs.Lines.{jobRoom, jobWork};
 ghost use Rattle.schemas.specs.SchemaBytes.{checked};
 ghost use Rattle.validator.specs.Answers.{Answered};
-ghost use Rattle.jobs.specs.JobBytes.{opOf, jobCheck};
+ghost use Rattle.jobs.specs.JobBytes.{opOf, jobLimits, jobCheck};
 ghost use Rattle.jobs.specs.Walk.{asked, standsAt, outcomeAt};
 
 // The fold of a list, with a job's workspace.
 fn fold(schema: &[u8], check: Checked, mode: u8, list: &[u8], result: &mut [u8]) -> Answer
-    requires { ⌜ check ≡ checked (now schema) ⌝ }
+    requires { ⌜ check ≡ checked jobLimits (now schema) ⌝ }
     requires { ⌜ length (now result) ≡ jobRoom ⌝ }
     ensures { λ r. ⌜ Answered (foldCall standard mode (now (schema .entry)) (now (list .entry)) jobRoom jobWork) (now (result .entry)) (now (result .exit)) r ⌝ }
 {
@@ -43,7 +44,7 @@ fn fold(schema: &[u8], check: Checked, mode: u8, list: &[u8], result: &mut [u8])
 
 // The lookup of an attribute, with a job's workspace.
 fn lookup(schema: &[u8], check: Checked, attribute: u16, t: &[u8], result: &mut [u8]) -> Answer
-    requires { ⌜ check ≡ checked (now schema) ⌝ }
+    requires { ⌜ check ≡ checked jobLimits (now schema) ⌝ }
     requires { ⌜ length (now result) ≡ jobRoom ⌝ }
     ensures { λ r. ⌜ Answered (lookupCall standard (now (schema .entry)) attribute (now (t .entry)) jobRoom jobWork) (now (result .entry)) (now (result .exit)) r ⌝ }
 {
@@ -53,7 +54,7 @@ fn lookup(schema: &[u8], check: Checked, attribute: u16, t: &[u8], result: &mut 
 
 // The names of a type's attributes, with a job's workspace.
 fn names(schema: &[u8], check: Checked, t: &[u8], result: &mut [u8]) -> Answer
-    requires { ⌜ check ≡ checked (now schema) ⌝ }
+    requires { ⌜ check ≡ checked jobLimits (now schema) ⌝ }
     requires { ⌜ length (now result) ≡ jobRoom ⌝ }
     ensures { λ r. ⌜ Answered (namesCall standard (now (schema .entry)) (now (t .entry)) jobRoom jobWork) (now (result .entry)) (now (result .exit)) r ⌝ }
 {
@@ -71,7 +72,7 @@ fn ask(
     result: &mut [u8],
 ) -> Answer
     requires { ⌜ q .operation ≤ 10 ⌝ }
-    requires { ⌜ check ≡ checked (now schema) ⌝ }
+    requires { ⌜ check ≡ checked jobLimits (now schema) ⌝ }
     requires { ⌜ length (now result) ≡ jobRoom ⌝ }
     ensures { λ r. ⌜ Answered (asked (opOf (q .operation)) (q .mode) (q .attribute) (now (schema .entry)) (now (first .entry)) (now (second .entry))) (now (result .entry)) (now (result .exit)) r ⌝ }
 {
@@ -81,12 +82,12 @@ fn ask(
     match operation {
         Operation::SUBTYPE => is_subtype_checked(schema, check, mode, first, second),
         Operation::BOUND => least_upper_bound_checked(schema, check, mode, first, second, result),
-        Operation::DISJOINT => are_types_disjoint(first, second),
+        Operation::DISJOINT => are_types_disjoint(Limits::standard(), first, second),
         Operation::LOOKUP => lookup(schema, check, attribute, first, result),
         Operation::MAY_HAVE => may_have_attr_checked(schema, check, attribute, first),
         Operation::NAMES => names(schema, check, first, result),
-        Operation::CONSISTENT => is_consistent_with(first, second),
-        Operation::CONVERT => convert(first, result),
+        Operation::CONSISTENT => is_consistent_with(Limits::standard(), first, second),
+        Operation::CONVERT => convert(Limits::standard(), first, result),
         Operation::CONFORMS => typecheck_restricted_expr_checked(schema, check, first, second),
         Operation::FOLD => fold(schema, check, mode, first, result),
         _ => euid_literal_checked(schema, check, first, result),
