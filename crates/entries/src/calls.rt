@@ -1,4 +1,4 @@
-// The calls that check the schema each time. The answers change if two arguments of one type are exchanged.
+// The calls that check the schema each time, under the standard limits. The answers change if two arguments of one type are exchanged.
 use crate::print::print_both;
 use crate::print::print_number;
 use crate::print::print_result;
@@ -14,76 +14,119 @@ use exports::calls::tirncheav_may_have_attr;
 use exports::calls::tirncheav_own_attribute_type;
 use exports::calls::tirncheav_reduce_to_least_upper_bound;
 use exports::calls::tirncheav_typecheck_restricted_expr;
+use forms::limits::Limits;
 use trial::Form;
 use trial::result;
 use trial::workspace;
 
 fn ask_disjoint(t0: &[u8], t1: &[u8]) {
-    let n = tirncheav_are_types_disjoint(t0, t1);
+    let n = tirncheav_are_types_disjoint(Limits::LEVELS, Limits::BYTES, t0, t1);
     print_number(b"are_types_disjoint", n);
 }
 
 fn ask_subtype(schema: &[u8]) {
-    let n = tirncheav_is_subtype(1, schema, &Form::ENTITY_2, &Form::BOTH);
+    let n = tirncheav_is_subtype(
+        Limits::LEVELS,
+        Limits::BYTES,
+        1,
+        schema,
+        &Form::ENTITY_2,
+        &Form::BOTH,
+    );
     print_number(b"is_subtype", n);
 }
 
 fn ask_bound(schema: &[u8], t0: &[u8], t1: &[u8]) {
     let mut out = result();
-    let n = tirncheav_least_upper_bound(1, schema, t0, t1, &mut out);
+    let n = tirncheav_least_upper_bound(Limits::LEVELS, Limits::BYTES, 1, schema, t0, t1, &mut out);
     print_result(b"least_upper_bound", n, &out);
 }
 
 fn ask_fold(schema: &[u8]) {
     let mut out = result();
     let mut work = workspace();
-    let n = tirncheav_reduce_to_least_upper_bound(1, schema, &Form::LIST, &mut out, &mut work);
+    let n = tirncheav_reduce_to_least_upper_bound(
+        Limits::LEVELS,
+        Limits::BYTES,
+        1,
+        schema,
+        &Form::LIST,
+        &mut out,
+        &mut work,
+    );
     print_both(b"reduce_to_least_upper_bound", n, &out, &work);
 }
 
 fn ask_lookup(schema: &[u8]) {
     let mut out = result();
     let mut work = workspace();
-    let n = tirncheav_lookup_attribute_type(schema, 1, &Form::BOTH, &mut out, &mut work);
+    let n = tirncheav_lookup_attribute_type(
+        Limits::LEVELS,
+        Limits::BYTES,
+        schema,
+        1,
+        &Form::BOTH,
+        &mut out,
+        &mut work,
+    );
     print_both(b"lookup_attribute_type", n, &out, &work);
 }
 
 fn ask_own(schema: &[u8]) {
-    let n = tirncheav_own_attribute_type(schema, 1, &Form::RECORD);
+    let n = tirncheav_own_attribute_type(Limits::LEVELS, Limits::BYTES, schema, 1, &Form::RECORD);
     print_number(b"own_attribute_type", n);
 }
 
 fn ask_may_have(schema: &[u8]) {
-    let n = tirncheav_may_have_attr(schema, 1, &Form::ENTITY_2);
+    let n = tirncheav_may_have_attr(Limits::LEVELS, Limits::BYTES, schema, 1, &Form::ENTITY_2);
     print_number(b"may_have_attr", n);
 }
 
 fn ask_names(schema: &[u8]) {
     let mut out = result();
     let mut work = workspace();
-    let n = tirncheav_all_attributes(schema, &Form::BOTH, &mut out, &mut work);
+    let n = tirncheav_all_attributes(
+        Limits::LEVELS,
+        Limits::BYTES,
+        schema,
+        &Form::BOTH,
+        &mut out,
+        &mut work,
+    );
     print_both(b"all_attributes", n, &out, &work);
 }
 
 fn ask_consistent() {
-    let n = tirncheav_is_consistent_with(&Form::LONG, &Form::NEVER);
+    let n = tirncheav_is_consistent_with(Limits::LEVELS, Limits::BYTES, &Form::LONG, &Form::NEVER);
     print_number(b"is_consistent_with", n);
 }
 
 fn ask_convert() {
     let mut out = result();
-    let n = tirncheav_convert(&Form::TRUE, &mut out);
+    let n = tirncheav_convert(Limits::LEVELS, Limits::BYTES, &Form::TRUE, &mut out);
     print_result(b"convert", n, &out);
 }
 
 fn ask_conforms(schema: &[u8]) {
-    let n = tirncheav_typecheck_restricted_expr(schema, &Form::ENTITY_2, &Form::UID_2);
+    let n = tirncheav_typecheck_restricted_expr(
+        Limits::LEVELS,
+        Limits::BYTES,
+        schema,
+        &Form::ENTITY_2,
+        &Form::UID_2,
+    );
     print_number(b"typecheck_restricted_expr", n);
 }
 
 fn ask_literal(schema: &[u8]) {
     let mut out = result();
-    let n = tirncheav_euid_literal(schema, &Form::UID_3, &mut out);
+    let n = tirncheav_euid_literal(
+        Limits::LEVELS,
+        Limits::BYTES,
+        schema,
+        &Form::UID_3,
+        &mut out,
+    );
     print_result(b"euid_literal", n, &out);
 }
 

@@ -12,30 +12,41 @@ use exports::checked_calls::tirncheav_own_attribute_type_checked;
 use exports::checked_calls::tirncheav_reduce_to_least_upper_bound_checked;
 use exports::checked_calls::tirncheav_typecheck_restricted_expr_checked;
 use exports::checks::tirncheav_check_schema;
+use forms::limits::Limits;
 use trial::Form;
 use trial::result;
 use trial::workspace;
+ghost use mathlib.Core.Path.{_≡_};
+ghost use Rattle.schemas.specs.SchemaBytes.{checked};
+ghost use Rattle.exports.specs.Checks.{checkNumber, limitsIn};
+
+// The check of a schema under the standard limits, as a caller keeps it.
+fn kept(schema: &[u8]) -> u64
+    ensures { λ r. ⌜ r ≡ checkNumber (checked (limitsIn r) (now (schema .entry))) ⌝ }
+{
+    tirncheav_check_schema(Limits::LEVELS, Limits::BYTES, schema)
+}
 
 fn ask_check(schema: &[u8]) {
-    let n = tirncheav_check_schema(schema);
+    let n = kept(schema);
     print_number(b"check_schema", n);
 }
 
 fn ask_subtype(schema: &[u8]) {
-    let check = tirncheav_check_schema(schema);
+    let check = kept(schema);
     let n = tirncheav_is_subtype_checked(schema, check, 1, &Form::ENTITY_2, &Form::BOTH);
     print_number(b"is_subtype_checked", n);
 }
 
 fn ask_bound(schema: &[u8], t0: &[u8], t1: &[u8]) {
-    let check = tirncheav_check_schema(schema);
+    let check = kept(schema);
     let mut out = result();
     let n = tirncheav_least_upper_bound_checked(schema, check, 1, t0, t1, &mut out);
     print_result(b"least_upper_bound_checked", n, &out);
 }
 
 fn ask_fold(schema: &[u8]) {
-    let check = tirncheav_check_schema(schema);
+    let check = kept(schema);
     let mut out = result();
     let mut work = workspace();
     let n = tirncheav_reduce_to_least_upper_bound_checked(
@@ -50,7 +61,7 @@ fn ask_fold(schema: &[u8]) {
 }
 
 fn ask_lookup(schema: &[u8]) {
-    let check = tirncheav_check_schema(schema);
+    let check = kept(schema);
     let mut out = result();
     let mut work = workspace();
     let n = tirncheav_lookup_attribute_type_checked(
@@ -65,19 +76,19 @@ fn ask_lookup(schema: &[u8]) {
 }
 
 fn ask_own(schema: &[u8]) {
-    let check = tirncheav_check_schema(schema);
+    let check = kept(schema);
     let n = tirncheav_own_attribute_type_checked(schema, check, 1, &Form::RECORD);
     print_number(b"own_attribute_type_checked", n);
 }
 
 fn ask_may_have(schema: &[u8]) {
-    let check = tirncheav_check_schema(schema);
+    let check = kept(schema);
     let n = tirncheav_may_have_attr_checked(schema, check, 1, &Form::ENTITY_2);
     print_number(b"may_have_attr_checked", n);
 }
 
 fn ask_names(schema: &[u8]) {
-    let check = tirncheav_check_schema(schema);
+    let check = kept(schema);
     let mut out = result();
     let mut work = workspace();
     let n = tirncheav_all_attributes_checked(schema, check, &Form::BOTH, &mut out, &mut work);
@@ -85,7 +96,7 @@ fn ask_names(schema: &[u8]) {
 }
 
 fn ask_conforms(schema: &[u8]) {
-    let check = tirncheav_check_schema(schema);
+    let check = kept(schema);
     let n = tirncheav_typecheck_restricted_expr_checked(
         schema,
         check,
@@ -96,7 +107,7 @@ fn ask_conforms(schema: &[u8]) {
 }
 
 fn ask_literal(schema: &[u8]) {
-    let check = tirncheav_check_schema(schema);
+    let check = kept(schema);
     let mut out = result();
     let n = tirncheav_euid_literal_checked(schema, check, &Form::UID_3, &mut out);
     print_result(b"euid_literal_checked", n, &out);

@@ -1,5 +1,8 @@
 // Each call on a schema that was checked before, and its line.
+use crate::beyond::deep_type;
+use crate::beyond::long_type;
 use crate::print::print_both;
+use crate::print::print_kept;
 use crate::print::print_line;
 use crate::print::print_part;
 use crate::print::print_result;
@@ -17,37 +20,46 @@ use validator::own_attribute_type::own_attribute_type_checked;
 use validator::reduce_to_least_upper_bound::reduce_to_least_upper_bound_checked;
 use validator::typecheck_restricted_expr::typecheck_restricted_expr_checked;
 ghost use mathlib.Core.Path.{_≡_};
-ghost use Rattle.schemas.specs.SchemaBytes.{checked};
+ghost use Rattle.schemas.specs.SchemaBytes.{limitsOf, checked};
 
-// The calls that only answer.
-fn ask_tests(schema: &[u8], check: Checked)
-    requires { ⌜ check ≡ checked (now schema) ⌝ }
+fn ask_subtype(schema: &[u8], check: Checked, mode: u8)
+    requires { ⌜ check ≡ checked (limitsOf check) (now schema) ⌝ }
 {
-    let below = is_subtype_checked(schema, check, 1, &Form::ENTITY_2, &Form::BOTH);
+    let below = is_subtype_checked(schema, check, mode, &Form::ENTITY_2, &Form::BOTH);
     print_line(b"is_subtype ", below);
-    let may = may_have_attr_checked(schema, check, 1, &Form::ENTITY_2);
+}
+
+fn ask_may_have(schema: &[u8], check: Checked, t: &[u8])
+    requires { ⌜ check ≡ checked (limitsOf check) (now schema) ⌝ }
+{
+    let may = may_have_attr_checked(schema, check, 1, t);
     print_line(b"may_have_attr ", may);
+}
+
+fn ask_conforms(schema: &[u8], check: Checked)
+    requires { ⌜ check ≡ checked (limitsOf check) (now schema) ⌝ }
+{
     let conforms = typecheck_restricted_expr_checked(schema, check, &Form::ENTITY_2, &Form::UID_2);
     print_line(b"typecheck_restricted_expr ", conforms);
 }
 
-fn ask_bound(schema: &[u8], check: Checked, t0: &[u8], t1: &[u8])
-    requires { ⌜ check ≡ checked (now schema) ⌝ }
+fn ask_bound(schema: &[u8], check: Checked, mode: u8, t0: &[u8], t1: &[u8])
+    requires { ⌜ check ≡ checked (limitsOf check) (now schema) ⌝ }
 {
     let mut out = result();
-    let answer = least_upper_bound_checked(schema, check, 1, t0, t1, &mut out);
+    let answer = least_upper_bound_checked(schema, check, mode, t0, t1, &mut out);
     print_result(b"least_upper_bound ", answer, &out);
 }
 
-fn ask_fold(schema: &[u8], check: Checked)
-    requires { ⌜ check ≡ checked (now schema) ⌝ }
+fn ask_fold(schema: &[u8], check: Checked, mode: u8)
+    requires { ⌜ check ≡ checked (limitsOf check) (now schema) ⌝ }
 {
     let mut out = result();
     let mut work = workspace();
     let answer = reduce_to_least_upper_bound_checked(
         schema,
         check,
-        1,
+        mode,
         &Form::LIST,
         &mut out,
         &mut work,
@@ -56,7 +68,7 @@ fn ask_fold(schema: &[u8], check: Checked)
 }
 
 fn ask_lookup(schema: &[u8], check: Checked)
-    requires { ⌜ check ≡ checked (now schema) ⌝ }
+    requires { ⌜ check ≡ checked (limitsOf check) (now schema) ⌝ }
 {
     let mut out = result();
     let mut work = workspace();
@@ -65,7 +77,7 @@ fn ask_lookup(schema: &[u8], check: Checked)
 }
 
 fn ask_own(schema: &[u8], check: Checked)
-    requires { ⌜ check ≡ checked (now schema) ⌝ }
+    requires { ⌜ check ≡ checked (limitsOf check) (now schema) ⌝ }
 {
     let mut told = 0u8;
     let part = own_attribute_type_checked(schema, check, 1, &Form::RECORD, &mut told);
@@ -73,7 +85,7 @@ fn ask_own(schema: &[u8], check: Checked)
 }
 
 fn ask_names(schema: &[u8], check: Checked)
-    requires { ⌜ check ≡ checked (now schema) ⌝ }
+    requires { ⌜ check ≡ checked (limitsOf check) (now schema) ⌝ }
 {
     let mut out = result();
     let mut work = workspace();
@@ -82,23 +94,45 @@ fn ask_names(schema: &[u8], check: Checked)
 }
 
 fn ask_literal(schema: &[u8], check: Checked)
-    requires { ⌜ check ≡ checked (now schema) ⌝ }
+    requires { ⌜ check ≡ checked (limitsOf check) (now schema) ⌝ }
 {
     let mut out = result();
     let answer = euid_literal_checked(schema, check, &Form::UID_3, &mut out);
     print_result(b"euid_literal ", answer, &out);
 }
 
-// The bound is the same both ways round, so its second question has a second type that is not whole.
-pub(crate) fn ask_all(schema: &[u8], check: Checked)
-    requires { ⌜ check ≡ checked (now schema) ⌝ }
+// Each call once; the bound is the same both ways round, so its second question has a second type that is not whole.
+fn ask_each(schema: &[u8], check: Checked)
+    requires { ⌜ check ≡ checked (limitsOf check) (now schema) ⌝ }
 {
-    ask_tests(schema, check);
-    ask_bound(schema, check, &Form::ENTITY_2, &Form::ENTITY_4);
-    ask_bound(schema, check, &Form::LONG, &Form::BROKEN);
-    ask_fold(schema, check);
+    ask_subtype(schema, check, 1);
+    ask_may_have(schema, check, &Form::ENTITY_2);
+    ask_conforms(schema, check);
+    ask_bound(schema, check, 1, &Form::ENTITY_2, &Form::ENTITY_4);
+    ask_bound(schema, check, 1, &Form::LONG, &Form::BROKEN);
+    ask_fold(schema, check, 1);
     ask_lookup(schema, check);
     ask_own(schema, check);
     ask_names(schema, check);
     ask_literal(schema, check);
+}
+
+// The calls that take a mode, with a number that is none.
+fn ask_no_mode(schema: &[u8], check: Checked)
+    requires { ⌜ check ≡ checked (limitsOf check) (now schema) ⌝ }
+{
+    ask_subtype(schema, check, 3);
+    ask_bound(schema, check, 3, &Form::ENTITY_2, &Form::ENTITY_4);
+    ask_fold(schema, check, 3);
+}
+
+// The block and the limits, each call, and two types that the standard limits refuse.
+pub(crate) fn ask_all(schema: &[u8], check: Checked)
+    requires { ⌜ check ≡ checked (limitsOf check) (now schema) ⌝ }
+{
+    print_kept(schema.len(), check.limits());
+    ask_each(schema, check);
+    ask_no_mode(schema, check);
+    ask_may_have(schema, check, &deep_type());
+    ask_may_have(schema, check, &long_type());
 }

@@ -1,9 +1,19 @@
-// The line of a call: the call, its answer, and between brackets the bytes of each buffer that it was lent.
+// The line of a kept schema, and that of a call: the call, its answer, and between brackets the bytes of each buffer that it was lent.
+use forms::limits::Limits;
 use streams::write_output;
 use trial::print_answer;
 use trial::print_bytes;
+use trial::print_counted;
 use trial::print_hex;
 use validator::answers::Answer;
+
+// Prints how long a kept block is, and its limits.
+pub(crate) fn print_kept(length: usize, limits: Limits) {
+    print_counted(b"schema ", length);
+    print_counted(b", levels ", limits.levels);
+    print_counted(b", bytes ", limits.bytes);
+    write_output(b"\n");
+}
 
 // Prints the line of a call that takes no buffer.
 pub(crate) fn print_line(call: &[u8], answer: Answer) {

@@ -1,4 +1,4 @@
--- A kept schema as the walks have it: its type at a lifetime, its machine value, and what it owns, taken apart: the block and three numbers.
+-- A kept schema as the walks have it: its type at a lifetime, its machine value, and what it owns, taken apart: the block, the limits and three numbers.
 -- Assumes `Given`, for the calculus alone.
 use Prim.Native.Nat.{_<_, _^_}
 use mathlib.Core.Path.{_≡_, refl}
@@ -23,6 +23,8 @@ use denote.Steps.{owned, nothing}
 use denote.Struct.Declared.{Declared}
 use denote.Struct.Laws as LL
 use denote.Struct.Rest.{all-own, own-open, own-shut}
+use Rattle.forms.proofs.limits.Limits as F
+use Rattle.forms.proofs.limits.Limits.Laws as F′
 use Rattle.reader.specs.declared.validator_schema.ValidatorSchema.{ValidatorSchema}
 use Rattle.reader.proofs.validator_schema.ValidatorSchema as T
 use Rattle.reader.proofs.validator_schema.ValidatorSchema.Laws as T′
@@ -42,7 +44,7 @@ module _ (κ : Lft) where
 
   -- the types of the fields
   abbrev pub Fields : List RattleType
-  Fields = ShrSlice (named 0) κ u8 ∷ usize ∷ usize ∷ usize ∷ []
+  Fields = ShrSlice (named 0) κ u8 ∷ F.the-row ∷ usize ∷ usize ∷ usize ∷ []
 
 module _ (d : ValidatorSchema) where
   abbrev pub mach : Val
@@ -53,10 +55,11 @@ module _ (d : ValidatorSchema) where
 
 module _ (κ : Lft) (d : ValidatorSchema) where
   abbrev pub values : Denots (Fields κ)
-  values = (d .block, (d .entities, (d .actions, (d .functions, tt))))
+  values = (d .block, (d .limits, (d .entities, (d .actions, (d .functions, tt)))))
 
   abbrev pub machs : Valss (Fields κ)
-  machs = (blockVal d ∷ [], (vint w64 (d .entities) ∷ [], (vint w64 (d .actions) ∷ [], (vint w64 (d .functions) ∷ [], tt))))
+  machs =
+      (blockVal d ∷ [], (F′.lowered (d .limits) ∷ [], (vint w64 (d .entities) ∷ [], (vint w64 (d .actions) ∷ [], (vint w64 (d .functions) ∷ [], tt)))))
 
   abbrev pub Own : Fml
   Own = B κ .own d (mach d ∷ [])
@@ -75,12 +78,13 @@ module _ (κ : Lft) (d : ValidatorSchema) where
     pub block-of : ent 𝓤 (sem 𝓤 H A (fsep Own ftrue)) (sem 𝓤 H A (ShrSlice (named 0) κ u8 .own (d .block) (blockVal d ∷ [])))
     block-of = qed W (‵ (fsep Own ftrue) ∷ []) ∵ use1 W (‵ (owns (Fields κ) values machs)) apart $ fsplit ! $ keep ! (0 ∷ []) $ done !
 
-    -- and back, where the numbers are a machine's
-    pub together : d .entities < 2 ^ 64 → d .actions < 2 ^ 64 → d .functions < 2 ^ 64
+    -- and back, where the limits and the numbers are a machine's
+    pub together : Is F.the-row (d .limits) (F′.lowered (d .limits) ∷ []) → d .entities < 2 ^ 64 → d .actions < 2 ^ 64 → d .functions < 2 ^ 64
         → ent 𝓤 (sem 𝓤 H A (ShrSlice (named 0) κ u8 .own (d .block) (blockVal d ∷ []))) (sem 𝓤 H A Own)
-    together e a f =
+    together l e a f =
         qed W (‵ (ShrSlice (named 0) κ u8 .own (d .block) (blockVal d ∷ [])) ∷ []) ∵ nothing ! $
         owned ! usize (Is usize) (uint-makes 𝓤 H A W w64) (d .functions) _ (refl, f) $ fjoin ! $
         owned ! usize (Is usize) (uint-makes 𝓤 H A W w64) (d .actions) _ (refl, a) $ fjoin ! $
         owned ! usize (Is usize) (uint-makes 𝓤 H A W w64) (d .entities) _ (refl, e) $ fjoin ! $
+        owned ! F.the-row (Is F.the-row) (LL.makes F.the-type (LL.usize-plain, (LL.usize-plain, tt)) 𝓤 H A) (d .limits) _ l $ fjoin ! $
         move ! (1 ∷ 0 ∷ []) $ fjoin ! $ by ! (own-shut 𝓤 H A W (D κ) (L κ) values)

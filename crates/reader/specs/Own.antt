@@ -2,15 +2,16 @@
 use Prim.Native.Nat.{ℕ}
 use mathlib.Core.Path.{_≡_}
 use denote.Ref.{now}
+use Rattle.forms.specs.declared.limits.Limits.{Limits}
 use Rattle.schemas.specs.SchemaBytes.{checked}
 use Rattle.schemas.specs.Offsets.{offsetsOf}
 use Rattle.schemas.specs.declared.offsets.Offsets.{Offsets}
 use Rattle.reader.specs.declared.validator_schema.ValidatorSchema.{ValidatorSchema}
 
--- Offsets by their sections.
-abbrev pub offsets : ℕ → ℕ → ℕ → Offsets
-offsets entities actions functions = record { entities = entities; actions = actions; functions = functions }
+-- Offsets by their limits and sections.
+abbrev pub offsets : Limits → ℕ → ℕ → ℕ → Offsets
+offsets limits entities actions functions = record { limits = limits; entities = entities; actions = actions; functions = functions }
 
--- The offsets beside the block are those of its own check.
+-- What is kept beside the block is that of its own check.
 abbrev pub OwnCheck : ValidatorSchema → Type 0
-OwnCheck r = offsets (r .entities) (r .actions) (r .functions) ≡ offsetsOf (checked (now (r .block)))
+OwnCheck r = offsets (r .limits) (r .entities) (r .actions) (r .functions) ≡ offsetsOf (checked (r .limits) (now (r .block)))

@@ -3,8 +3,8 @@ use crate::calls::Call;
 use crate::calls::Form;
 use crate::print::print_left;
 use crate::print::print_part;
+use forms::limits::Limits;
 use jobs::Operation;
-use schemas::whole::check_schema;
 use validator::all_attributes::all_attributes;
 use validator::answers::Answer;
 use validator::are_types_disjoint::are_types_disjoint;
@@ -15,7 +15,7 @@ use validator::is_subtype::is_subtype;
 use validator::least_upper_bound::least_upper_bound;
 use validator::lookup_attribute_type::lookup_attribute_type;
 use validator::may_have_attr::may_have_attr;
-use validator::own_attribute_type::own_attribute_part_checked;
+use validator::own_attribute_type::own_attribute_part;
 use validator::own_attribute_type::own_attribute_type;
 use validator::reduce_to_least_upper_bound::reduce_to_least_upper_bound;
 use validator::typecheck_restricted_expr::typecheck_restricted_expr;
@@ -41,21 +41,25 @@ fn ask(
     out: &mut [u8],
     work: &mut [u8],
 ) -> Answer {
+    let limits = Limits {
+        levels: call.levels,
+        bytes: call.bytes,
+    };
     let mode = call.mode;
     let attribute = call.attribute;
     let operation = call.operation;
     match operation {
-        Operation::SUBTYPE => is_subtype(mode, schema, first, second),
-        Operation::BOUND => least_upper_bound(mode, schema, first, second, out),
-        Operation::DISJOINT => are_types_disjoint(first, second),
-        Operation::LOOKUP => lookup_attribute_type(schema, attribute, first, out, work),
-        Operation::MAY_HAVE => may_have_attr(schema, attribute, first),
-        Operation::NAMES => all_attributes(schema, first, out, work),
-        Operation::CONSISTENT => is_consistent_with(first, second),
-        Operation::CONVERT => convert(first, out),
-        Operation::CONFORMS => typecheck_restricted_expr(schema, first, second),
-        Operation::FOLD => reduce_to_least_upper_bound(mode, schema, first, out, work),
-        _ => euid_literal(schema, first, out),
+        Operation::SUBTYPE => is_subtype(limits, mode, schema, first, second),
+        Operation::BOUND => least_upper_bound(limits, mode, schema, first, second, out),
+        Operation::DISJOINT => are_types_disjoint(limits, first, second),
+        Operation::LOOKUP => lookup_attribute_type(limits, schema, attribute, first, out, work),
+        Operation::MAY_HAVE => may_have_attr(limits, schema, attribute, first),
+        Operation::NAMES => all_attributes(limits, schema, first, out, work),
+        Operation::CONSISTENT => is_consistent_with(limits, first, second),
+        Operation::CONVERT => convert(limits, first, out),
+        Operation::CONFORMS => typecheck_restricted_expr(limits, schema, first, second),
+        Operation::FOLD => reduce_to_least_upper_bound(limits, mode, schema, first, out, work),
+        _ => euid_literal(limits, schema, first, out),
     }
 }
 
@@ -73,10 +77,10 @@ fn print_lent(
 }
 
 // Prints the line of a call of the second entry of lookup.
-fn print_own(schema: &[u8], attribute: u16, form: &[u8]) {
+fn print_own(limits: Limits, schema: &[u8], attribute: u16, form: &[u8]) {
     let mut told = Calls::UNTOUCHED;
-    let part = own_attribute_type(schema, attribute, form, &mut told);
-    let place = own_attribute_part_checked(schema, check_schema(schema), attribute, form);
+    let part = own_attribute_type(limits, schema, attribute, form, &mut told);
+    let place = own_attribute_part(limits, schema, attribute, form);
     print_part(told, place, part);
 }
 
@@ -93,7 +97,11 @@ pub(crate) fn print_answer(call: Call, schema: &[u8], first: &[u8], second: &[u8
 {
     let operation = call.operation;
     if operation == Calls::OWN {
-        print_own(schema, call.attribute, first);
+        let limits = Limits {
+            levels: call.levels,
+            bytes: call.bytes,
+        };
+        print_own(limits, schema, call.attribute, first);
         return;
     }
     let mut result = untouched();

@@ -1,11 +1,11 @@
 // The form of a call.
 use forms::numbers::u16_at;
 ghost use mathlib.Core.Path.{_≡_};
-ghost use Prim.Native.Nat.{_<_};
-ghost use Rattle.rooms.specs.CallBytes.{callOf};
+ghost use Prim.Native.Nat.{_<_, _≤_};
+ghost use Rattle.rooms.specs.CallBytes.{wideOf, callOf};
 
-// What an entry is asked: the operation, its mode and attribute, the lengths of the result buffer and the workspace, and the lengths of
-// the schema and the two bodies.
+// What an entry is asked: the operation, its mode and attribute, the lengths of the result buffer and the workspace, the lengths of the
+// schema and the two bodies, and the limits.
 pub struct Call {
     pub operation: u8,
     pub mode: u8,
@@ -15,6 +15,8 @@ pub struct Call {
     pub schema: usize,
     pub first: usize,
     pub second: usize,
+    pub levels: usize,
+    pub bytes: usize,
 }
 
 // Where the numbers of a call stand before its bodies, how many bytes they take, and the most that the bodies can take.
@@ -35,11 +37,25 @@ impl Form {
 
     const SECOND: usize = 12;
 
-    pub const HEAD: usize = 14;
+    const LEVELS: usize = 14;
+
+    const BYTES: usize = 18;
+
+    pub const HEAD: usize = 22;
+
+    const HALF: usize = 65536;
 
     pub const LARGEST: usize = 65535;
 
     pub const BODIES: usize = 3 * Self::LARGEST;
+}
+
+// A number of four bytes, the low one first.
+fn u32_at(head: &[u8; Form::HEAD], at: usize) -> usize
+    requires { ⌜ «at» ≤ 18 ⌝ }
+    ensures { λ r. ⌜ r ≡ wideOf «at» (now (head .entry)) ⌝ }
+{
+    u16_at(head, at) + Form::HALF * u16_at(head, at + 2)
 }
 
 // The call that a head says.
@@ -54,6 +70,8 @@ pub fn call_of(head: &[u8; Form::HEAD]) -> Call
     let schema = u16_at(head, Form::SCHEMA);
     let first = u16_at(head, Form::FIRST);
     let second = u16_at(head, Form::SECOND);
+    let levels = u32_at(head, Form::LEVELS);
+    let bytes = u32_at(head, Form::BYTES);
     Call {
         operation: head[0],
         mode: head[Form::MODE],
@@ -63,5 +81,7 @@ pub fn call_of(head: &[u8; Form::HEAD]) -> Call
         schema,
         first,
         second,
+        levels,
+        bytes,
     }
 }

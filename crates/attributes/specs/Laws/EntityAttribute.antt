@@ -3,14 +3,14 @@ use Prim.Native.Nat.{ℕ, _+_, _*_, _-_, _≤_}
 use native.Mathlib.Omega.{arith}
 use mathlib.Core.List.{List}
 use mathlib.Core.Bool.{Bool, true, false, _||_}
-use mathlib.Core.Option.{Option, none, some}
-use mathlib.Core.Path.{_≡_, refl, ap, sym, subst, _∙_}
+use mathlib.Core.Option.{some}
+use mathlib.Core.Path.{_≡_, refl, ap, subst, _∙_}
 use lib.Dec.{eqb}
 use lib.ListN.{length, take, drop, getD}
 use lib.Seq.{take-take, drop-drop}
-use Rattle.cedar.specs.Types.{Ty, present}
+use Rattle.cedar.specs.Types.{present}
 use Rattle.cedar.specs.Limits.{Limits}
-use Rattle.cedar.specs.Attribute.{entityOf, attrOf, ownAttr, mayHaveType}
+use Rattle.cedar.specs.Attribute.{attrOf, ownAttr, mayHaveType}
 use Rattle.forms.specs.Parts.{part, rest, rd}
 use Rattle.forms.specs.TypeBytes.{whole, dec, namesBy}
 use Rattle.forms.specs.Laws.Parts.{drop-take, length-part}

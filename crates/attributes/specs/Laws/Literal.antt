@@ -1,21 +1,20 @@
 -- The type of a uid: what the finders say, and its form. Assumes nothing.
-use Prim.Native.Nat.{ℕ, _+_, _-_, _≤_, _<_}
+use Prim.Native.Nat.{ℕ, _+_, _-_, _≤_}
 use native.Mathlib.Omega.{arith}
 use mathlib.Core.List.{List, [], _∷_, _++_}
 use mathlib.Core.Bool.{Bool, true, false}
-use mathlib.Core.Option.{Option, none, some}
+use mathlib.Core.Option.{none}
 use mathlib.Core.Path.{_≡_, refl, ap, sym, subst, _∙_}
 use lib.ListN.{length, drop, length-append}
-use Rattle.cedar.specs.Types.{Ty, rec, act, isAction, maybe}
+use Rattle.cedar.specs.Types.{rec, isAction, maybe}
 use Rattle.cedar.specs.Bytes.{Bytes, u16}
 use Rattle.cedar.specs.TypeForm.{enc}
 use Rattle.cedar.specs.Outcome.{over}
 use Rattle.cedar.specs.Limits.{Limits, allowed}
 use Rattle.cedar.specs.Attribute.{entityOf}
-use Rattle.cedar.specs.Literal.{actionOf, literal}
+use Rattle.cedar.specs.Literal.{actionOf}
 use Rattle.cedar.specs.Laws.Limits.{allowed-bytes}
 use Rattle.forms.specs.Parts.{part, rest}
-use Rattle.forms.specs.TypeBytes.{dec}
 use Rattle.forms.specs.Laws.Parts.{rest-is, length-rest, length-part}
 use Rattle.schemas.specs.SchemaBytes.{decS}
 use Rattle.schemas.specs.Entries.{openAt, bodyAttrs}

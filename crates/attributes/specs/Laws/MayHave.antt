@@ -1,18 +1,17 @@
 -- Whether a type may have an attribute, by the first byte of its form and by the entries of its entity types. Assumes nothing.
-use Prim.Native.Nat.{ℕ, zero, suc, _+_, _*_, _-_, _≤_, _<_}
+use Prim.Native.Nat.{ℕ, zero, suc, _*_, _-_, _≤_, _<_}
 use native.Mathlib.Omega.{arith}
-use mathlib.Core.List.{List, [], _∷_}
+use mathlib.Core.List.{List}
 use mathlib.Core.Bool.{Bool, true, false, _||_}
-use mathlib.Core.Option.{Option, none, some}
-use mathlib.Core.Path.{_≡_, refl, ap, sym, subst, _∙_}
-use lib.Dec.{eqb}
+use mathlib.Core.Option.{Option, none}
+use mathlib.Core.Path.{_≡_, refl, ap, sym, _∙_}
 use lib.ListN.{length, getD}
 use borrow.Author.Tests.{eq-eqb, ne-eqb}
 use Rattle.cedar.specs.Types.{Atom, never, anyent, Ty, atom, Schema, present, is}
 use Rattle.cedar.specs.Limits.{Limits}
 use Rattle.cedar.specs.TypeForm.{Kind, one, setKind, recKind, entKind, actKind, extKind, noKind, kindOf}
 use Rattle.cedar.specs.Attribute.{ownAttr, mayHaveType, mayHaveNames, mayHave}
-use Rattle.forms.specs.Parts.{part, rest, rd, kind}
+use Rattle.forms.specs.Parts.{rest, rd, kind}
 use Rattle.forms.specs.TypeBytes.{whole, dec, namesBy}
 use Rattle.forms.specs.Laws.Views.{is-record, is-action, is-entity, is-atom, see, seen-set, seen-record, seen-entity, seen-action, seen-extension, seen-atom}
 use Rattle.schemas.specs.SchemaBytes.{decS}

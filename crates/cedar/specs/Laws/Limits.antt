@@ -1,12 +1,12 @@
 -- Limits within their ranges, and what a call answers under others.
 use Prim.Native.Nat.{ℕ, _≤_}
-use mathlib.Core.Bool.{Bool, true, false, _&&_}
+use mathlib.Core.Bool.{true, false, _&&_}
 use mathlib.Core.Path.{_≡_, refl, sym, subst}
 use mathlib.Core.List.{List}
 use lib.Dec.{T, leb, leb→le}
 use Rattle.cedar.specs.Limits.{Limits, standard, mostLevels, fewestBytes, mostBytes, allowed}
 use Rattle.cedar.specs.Result.{badLimits}
-use Rattle.cedar.specs.Outcome.{Outcome, refused}
+use Rattle.cedar.specs.Outcome.{refused}
 use Rattle.cedar.specs.Conformance.{Counts}
 use Rattle.cedar.specs.Calls.{literalCall, disjointCall, subtypeCall, boundCall, foldCall, lookupCall, ownAttributeCall, mayHaveCall, namesCall}
 use Rattle.cedar.specs.Calls.{consistentCall, convertCall, conformsBy}

@@ -3,14 +3,14 @@ use mathlib.Core.Path.{_≡_, refl, ap, sym, _∙_}
 use mathlib.Core.List.{List, [], _∷_, _++_}
 use mathlib.Core.Bool.{Bool, true}
 use mathlib.Core.Option.{Option, none, some}
-use Prim.Native.Nat.{ℕ, zero, suc, _+_, _*_, _-_, _≤_, _<_}
+use Prim.Native.Nat.{ℕ, suc, _+_, _*_, _-_, _≤_, _<_}
 use native.Mathlib.Omega.{arith}
 use native.Mathlib.Decide.{ℕ-discrete}
 use lib.Dec.{eqb}
 use lib.ListN.{length, getD}
 use borrow.Author.Tests.{ne-eqb}
 use Rattle.cedar.specs.Types.{Atom, never, true′, false′, bool, long, string, anyset, anyent, Ty, atom, set, rec, ent, ext, Attrs, nil, attr}
-use Rattle.cedar.specs.Bytes.{u16, flag, _>>=_}
+use Rattle.cedar.specs.Bytes.{u16, _>>=_}
 use Rattle.cedar.specs.TypeForm.{atomCode, count, enc}
 use Rattle.cedar.specs.Conversion.{convert, convertAttrs}
 use Rattle.cedar.specs.Result.{Result, ok, err, bind}
@@ -29,7 +29,7 @@ use Rattle.writing.specs.Laws.FormLengths.{Cut, before, Summing, summing-err, s
 use Rattle.forms.specs.Laws.Views.{is-set, is-record, is-entity, is-action, is-extension, is-atom}
 use Rattle.forms.specs.Laws.Attributes.{attrs-none}
 use Rattle.writing.specs.Laws.Laying.{flag-is, behind-front, ready-room, written-known, Laying, laying-start, laying-end, laying-ready, laying-pos, laying-at}
-use Rattle.writing.specs.Laws.Laying.{laying-entry, laying-back, laying-small, laying-more}
+use Rattle.writing.specs.Laws.Laying.{laying-entry, laying-small, laying-more}
 use Rattle.forms.specs.Laws.Names.{names-length}
 use Rattle.forms.specs.Laws.Tables.{Split, split, record-is, attrs-count, left-is, left-flag}
 use Rattle.forms.specs.Tables.{Left}

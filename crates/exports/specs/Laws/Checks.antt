@@ -2,19 +2,19 @@
 use Prim.Native.Nat.{ℕ, _+_, _*_, _/_, _%_, _≤_, _<_}
 use native.Mathlib.Omega.{arith}
 use mathlib.Core.List.{List}
-use mathlib.Core.Bool.{Bool, true, false, cond}
+use mathlib.Core.Bool.{Bool, true, false}
 use mathlib.Core.Path.{_≡_, refl, ap, subst, sym, _∙_}
 use lib.ListN.{length}
 use Rattle.cedar.specs.Limits.{Limits, allowed}
 use Rattle.cedar.specs.Result.{badLimits}
 use Rattle.cedar.specs.Outcome.{Outcome, refused}
-use Rattle.cedar.specs.Laws.Limits.{allowed-levels, allowed-bytes}
+use Rattle.cedar.specs.Laws.Limits.{allowed-levels}
 use Rattle.forms.specs.Limits.{asLimits}
 use Rattle.forms.specs.declared.limits.Limits.{Limits as LimitsStruct}
 use Rattle.schemas.specs.SchemaBytes.{entriesEnd, limitsOf, checked}
 use Rattle.schemas.specs.Offsets.{offsetsOf}
 use Rattle.schemas.specs.Laws.Checks.{checked-limits, checked-whole}
-use Rattle.schemas.specs.Laws.Offsets.{Stands, stands}
+use Rattle.schemas.specs.Laws.Offsets.{Stands, stands, own-limits}
 use Rattle.schemas.specs.declared.offsets.Offsets.{Offsets}
 use Rattle.schemas.specs.declared.whole.Checked.{Checked}
 use Rattle.schemas.specs.declared.whole.Checked.the-variants.{Whole, Broken}
@@ -25,21 +25,18 @@ use Rattle.exports.specs.Checks.{packedOf, checkNumber, limitsIn, Near}
 peel : (n a x : ℕ) → n ≡ a + packedStep * x → a < packedStep → (n % packedStep ≡ a) × (n / packedStep ≡ x)
 peel n a x e l = (omega (arith, e, l), omega (arith, e, l))
 
--- The limits of what is kept of a check are the check's.
-kept-limits : (y : Checked) → offsetsOf y .limits ≡ limitsOf y
-kept-limits (Whole x) = refl
-kept-limits (Broken l) = refl
-
-own-limits : (l : LimitsStruct) (b : List ℕ) → offsetsOf (checked l b) .limits ≡ l
-own-limits l b = kept-limits (checked l b) ∙ checked-limits l b
-
 -- The offsets of any schema under limits that are allowed are near.
 pub near : (l : LimitsStruct) (b : List ℕ) (o : Offsets) → allowed (asLimits l) ≡ true → o ≡ offsetsOf (checked l b) → Near o
 near l b o fair own = subst Near (sym own) (go (checked l b) refl)
   where
     go : (y : Checked) → checked l b ≡ y → Near (offsetsOf y)
     go (Broken d) e =
-        record { fair = ap (λ (m : LimitsStruct). allowed (asLimits m)) (sym (ap limitsOf e) ∙ checked-limits l b) ∙ fair; second = omega arith; third = omega arith }
+        record {
+          fair = ap (λ (m : LimitsStruct). allowed (asLimits m)) (sym
+              (ap limitsOf e) ∙ checked-limits l b) ∙ fair;
+          second = omega arith;
+          third = omega arith;
+        }
     go (Whole x) e =
         let s = stands l b x e in
         record {

@@ -97,7 +97,11 @@ narrow lim schema a t known p e = go p refl
     go : (x : OwnPart) → p ≡ x → Narrow x
     go (places.Refused n) i = tt
     go places.Nothing i = tt
-    go (places.At s z q) i = let f = here-found lim schema a t known p e s z q i in (omega (arith, f .order, f .inside, f .few), omega (arith, f .inside, f .few))
+    go (places.At s z q) i = let f = here-found lim schema a t known p e s z q i in (
+      omega (arith, f .order, f .inside, f .few),
+      omega
+          (arith, f .inside, f .few),
+    )
 
 pub at-narrow : (p : OwnPart) (s e : ℕ) (q : Bool) → Narrow p → p ≡ places.At s e q → (s ≤ mostBytes) × (e ≤ mostBytes)
 at-narrow p s e q h at = subst Narrow at h

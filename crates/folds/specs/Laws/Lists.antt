@@ -52,10 +52,12 @@ module _ {lim : Limits} {work : ℕ} {m : Mode} {all : Result Ty} {len : ℕ} {l
       first : decTs (lim .levels) left es bs ≡ dec (lim .levels) (part 0 k bs) ∷ decTs (lim .levels) (left - 1) (rest 2 es) (rest k bs)
       first = rw q (type-entry (i .sound) p .is)
 
-      goes : all ≡ foldFrom (stepFits lim work) m (dec (lim .levels) (part 0 len last)) (dec (lim .levels) (part 0 k bs) ∷ decTs (lim .levels) (left - 1) (rest 2 es) (rest k bs))
+      goes : all ≡ foldFrom (stepFits lim work) m (dec (lim .levels) (part 0 len last)) (dec (lim .levels) (part 0 k bs) ∷ decTs (lim .levels) (left - 1)
+          (rest 2 es) (rest k bs))
       goes = i .same ∙ ap (foldFrom (stepFits lim work) m (dec (lim .levels) (part 0 len last))) first
 
-      module _ (last′ : List ℕ) (r : JoinStep) (g : Stepped lim (bound m (dec (lim .levels) (part 0 len last)) (dec (lim .levels) (part 0 k bs))) work last′ r) where
+      module _ (last′ : List ℕ) (r : JoinStep) (g : Stepped lim (bound m (dec (lim .levels) (part 0 len last)) (dec (lim .levels)
+          (part 0 k bs))) work last′ r) where
         told : (x : JoinStep) → r ≡ x → Stepped lim (bound m (dec (lim .levels) (part 0 len last)) (dec (lim .levels) (part 0 k bs))) work last′ x
         told x h = subst (λ (y : JoinStep). Stepped lim (bound m (dec (lim .levels) (part 0 len last)) (dec (lim .levels) (part 0 k bs))) work last′ y) h g
 

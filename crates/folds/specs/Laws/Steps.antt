@@ -73,7 +73,8 @@ pub record Stepping (lim : Limits) (len : ℕ) (last t : List ℕ) : Type 0 wher
   pub bytes : (i : ℕ) → getD last i 0 < 256
   pub bytes′ : (i : ℕ) → getD t i 0 < 256
 
-pub stepping : {lim : Limits} {len : ℕ} {last t : List ℕ} → Held lim len last → whole (lim .levels) t ≡ true → ((i : ℕ) → getD last i 0 < 256) → ((i : ℕ) → getD t i 0 < 256) →
+pub stepping : {lim : Limits} {len : ℕ} {last t : List ℕ} → Held lim len last → whole (lim .levels) t ≡ true → ((i : ℕ) → getD last i 0 < 256) → ((i : ℕ) →
+    getD t i 0 < 256) →
     Stepping lim len last t
 stepping h w p q = record { held = h; other = w; bytes = p; bytes′ = q }
 

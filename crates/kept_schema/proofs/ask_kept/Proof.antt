@@ -41,10 +41,14 @@ use denote.Triple.Table.{entered, cited}
 use denote.Triple.Walked.{says, Stays, stay-dropped, walkOf, goes-dropped, Walks, onExit, ends-at, walked, walk-meets}
 use denote.Exit.{yes}
 use denote.Triple.Clauses.{ensured, lasts}
-use Rattle.schemas.specs.SchemaBytes.{checked}
+use Rattle.forms.specs.declared.limits.Limits.{Limits}
+use Rattle.forms.proofs.limits.Limits as F
+use Rattle.forms.proofs.limits.Limits.Laws as F′
+use Rattle.schemas.specs.SchemaBytes.{limitsOf, checked}
 use Rattle.schemas.specs.declared.whole.Checked.{Checked}
 use Rattle.schemas.proofs.whole.Checked as K
 use Rattle.schemas.proofs.whole.Checked.Laws as K′
+use Rattle.validator.specs.Laws.Schemas.{checked-own}
 use Rattle.reader.specs.Own.{OwnCheck}
 use Rattle.reader.specs.declared.validator_schema.ValidatorSchema.{ValidatorSchema}
 use Rattle.reader.proofs.validator_schema.ValidatorSchema as T
@@ -72,7 +76,7 @@ use Rattle.kept_schema.proofs.ask_kept.Code as code
 
 -- nothing is kept for the exit of what cannot change
 abbrev stayed : Stays (ask.ended .signature .params) (ask.ended .kept)
-stayed = (stay-dropped (shrSliceOf (0 ∷ []) tt (plain (λ _. u8))) yes, tt)
+stayed = (stay-dropped (plain (λ _. F.the-row)) yes, (stay-dropped (shrSliceOf (0 ∷ []) tt (plain (λ _. u8))) yes, tt))
 
 -- the contracts that the proof cites
 module _ {M : Type 1} (𝓤 : URA M) (H : Heap 𝓤) (A : Atoms 𝓤) (mem : Memory → SProp 𝓤) (run : Routine → Fun 𝓤) where
@@ -103,19 +107,29 @@ module _ (κ : Lft) where
   Slice = ShrSlice (named 0) κ u8
 
 module _ {M : Type 1} (𝓤 : URA M) (H : Heap 𝓤) (A : Atoms 𝓤) (W : Given 𝓤 H A) (mem : Memory → SProp 𝓤) (run : Routine → Fun 𝓤)
-    (κ : Lft) (q : Share) (s : RefT (List ℕ)) where
+    (κ : Lft) (q : Share) (l : Limits) (s : RefT (List ℕ)) where
+  -- the machine values that l and s have
+  abbrev w : Val
+  w = F′.lowered l
+
   abbrev v : Val
   v = sliceVal (s .ptr) (length (s .now))
 
+  abbrev args : Limits × (RefT (List ℕ) × Unit {0})
+  args = (l, (s, tt))
+
+  abbrev at : List Val × (List Val × Unit {0})
+  at = (w ∷ [], (v ∷ [], tt))
+
   abbrev Entry : SProp 𝓤
-  Entry = onEntry 𝓤 H A ask.signature (κ, tt) (q, tt) (s, tt) (v ∷ [], tt)
+  Entry = onEntry 𝓤 H A ask.signature (κ, tt) (q, tt) args at
 
   abbrev Post : Val → SProp 𝓤
-  Post = walkOf 𝓤 H A ask.ended stayed (ask.clauses 𝓤 H A mem run) .post (((κ, tt), (q, tt), tt, (s, tt), (v ∷ [], tt)), tt)
+  Post = walkOf 𝓤 H A ask.ended stayed (ask.clauses 𝓤 H A mem run) .post (((κ, tt), (q, tt), tt, args, at), tt)
 
   -- what each is passed; d is the struct, with the machine value u, r the slice that it hands out, k the check
   abbrev to-new : New 𝓤 H A mem run .Ghost
-  to-new = (((κ, tt), (q, tt), tt, (s, tt), (v ∷ [], tt)), tt)
+  to-new = (((κ, tt), (q, tt), tt, args, at), tt)
 
   abbrev to-block : ValidatorSchema → Val → Block 𝓤 H A mem run .Ghost
   to-block d u = (((κ, tt), (q, tt), tt, (d, tt), (u ∷ [], tt)), tt)
@@ -127,7 +141,7 @@ module _ {M : Type 1} (𝓤 : URA M) (H : Heap 𝓤) (A : Atoms 𝓤) (W : Given
   to-all r u k w = (((κ, tt), (q, tt), tt, (r, (k, tt)), (u ∷ [], (w ∷ [], tt))), tt)
 
   new-asked : ent 𝓤 Entry (New 𝓤 H A mem run .pre to-new)
-  new-asked = qed W ((‵ (flft κ q) ⊛ ‵ ftrue) ∷ ‵ (owns (Slice κ ∷ []) (s, tt) (v ∷ [], tt)) ∷ []) ∵ join ! $ frame ! $ done !
+  new-asked = qed W ((‵ (flft κ q) ⊛ ‵ ftrue) ∷ ‵ (owns (F.the-row ∷ Slice κ ∷ []) args at) ∷ []) ∵ join ! $ frame ! $ done !
 
   block-asked : (d : ValidatorSchema) (u : Val)
       → ent 𝓤 (⋆ 𝓤 H A (‵ (B κ .own d (u ∷ [])) ∷ (‵ (flft κ q) ⊛ ‵ ftrue) ∷ [])) (Block 𝓤 H A mem run .pre (to-block d u))
@@ -141,7 +155,7 @@ module _ {M : Type 1} (𝓤 : URA M) (H : Heap 𝓤) (A : Atoms 𝓤) (W : Given
       qed W (‵ (B κ .own d (u ∷ [])) ∷ (‵ (flft κ q) ⊛ ‵ ftrue) ∷ []) ∵ says ! own $ move ! (1 ∷ []) $ frame ! $
       nothing ! $ move ! (1 ∷ 0 ∷ []) $ fjoin ! $ done !
 
-  all-asked : (r : RefT (List ℕ)) (u : Val) (k : Checked) (w : Val) → k ≡ checked (now r)
+  all-asked : (r : RefT (List ℕ)) (u : Val) (k : Checked) (w : Val) → k ≡ checked (limitsOf k) (now r)
       → ent 𝓤 (⋆ 𝓤 H A ((‵ (K.the-row .own k (w ∷ [])) ⊛ ‵ (Slice κ .own r (u ∷ []))) ∷ (‵ (flft κ q) ⊛ ‵ ftrue) ∷ []))
       (All 𝓤 H A mem run .pre (to-all r u k w))
   all-asked r u k w e =
@@ -150,20 +164,24 @@ module _ {M : Type 1} (𝓤 : URA M) (H : Heap 𝓤) (A : Atoms 𝓤) (W : Given
 
   -- what each says of its result: of the callee's `ensured`, the clause alone
   abbrev Made : ValidatorSchema → Type 0
-  Made d = (d .block ≡ s) × OwnCheck d
+  Made d = (d .block ≡ s) × (d .limits ≡ l) × OwnCheck d
 
-  new-said : (d : ValidatorSchema) → ent 𝓤 (ensured 𝓤 H A new.ended (new.clauses 𝓤 H A mem run) (κ, tt) (s, tt) tt d) (fact 𝓤 (Made d))
-  new-said d = exE 𝓤 _ (λ ws. snd∗ 𝓤 (sem 𝓤 H A (lasts new.ended (κ, tt) (s, tt) ws)) (fact 𝓤 (Made d)))
+  new-said : (d : ValidatorSchema) → ent 𝓤 (ensured 𝓤 H A new.ended (new.clauses 𝓤 H A mem run) (κ, tt) args tt d) (fact 𝓤 (Made d))
+  new-said d = exE 𝓤 _ (λ ws. snd∗ 𝓤 (sem 𝓤 H A (lasts new.ended (κ, tt) args ws)) (fact 𝓤 (Made d)))
 
   block-said : (d : ValidatorSchema) (r : RefT (List ℕ))
       → ent 𝓤 (ensured 𝓤 H A block.ended (block.clauses 𝓤 H A mem run) (κ, tt) (d, tt) tt r) (fact 𝓤 (r ≡ d .block))
   block-said d r = exE 𝓤 _ (λ ws. snd∗ 𝓤 (sem 𝓤 H A (lasts block.ended (κ, tt) (d, tt) ws)) (fact 𝓤 (r ≡ d .block)))
 
   abbrev Came : ValidatorSchema → Checked → Type 0
-  Came d k = k ≡ checked (now (d .block))
+  Came d k = k ≡ checked (d .limits) (now (d .block))
 
   check-said : (d : ValidatorSchema) (k : Checked) → ent 𝓤 (ensured 𝓤 H A check.ended (check.clauses 𝓤 H A mem run) (κ, tt) (d, tt) tt k) (fact 𝓤 (Came d k))
   check-said d k = exE 𝓤 _ (λ ws. snd∗ 𝓤 (sem 𝓤 H A (lasts check.ended (κ, tt) (d, tt) ws)) (fact 𝓤 (Came d k)))
+
+  -- what is handed out is a check of the slice beside it, under its own limits
+  own-check : (d : ValidatorSchema) (r : RefT (List ℕ)) (k : Checked) → r ≡ d .block → Came d k → k ≡ checked (limitsOf k) (now r)
+  own-check d r k same came = checked-own (d .limits) (now r) k (came ∙ ap (λ (x : RefT (List ℕ)). checked (d .limits) (now x)) (sym same))
 
   -- the struct's machine value, as a local holds it
   typed : (d : ValidatorSchema) (u : Val) → Is (B κ) d (u ∷ []) → Holds (hasTy (T′.mir erased) u) × WT u
@@ -171,70 +189,74 @@ module _ {M : Type 1} (𝓤 : URA M) (H : Heap 𝓤) (A : Atoms 𝓤) (W : Given
 
   -- what is owed at the exit: nothing is said, so nothing is shown beside it
   abbrev Owed : SProp 𝓤
-  Owed = onExit 𝓤 H A ask.ended stayed (κ, tt) (q, tt) (v ∷ [], tt) vunit tt (s, tt) (tt, tt)
+  Owed = onExit 𝓤 H A ask.ended stayed (κ, tt) (q, tt) at vunit tt args (tt, (tt, tt))
 
   exits : ent 𝓤 (⋆ 𝓤 H A ((‵ (flft κ q) ⊛ ‵ ftrue) ∷ [])) (Post vunit)
   exits =
       qed W ((‵ (flft κ q) ⊛ ‵ ftrue) ∷ []) ∵
-      suffices ! _ (ends-at 𝓤 H A ask.ended stayed (ask.clauses 𝓤 H A mem run) W (((κ, tt), (q, tt), tt, (s, tt), (v ∷ [], tt)), tt)
-      vunit tt (tt, tt) (tt, tt)) $
+      suffices ! _ (ends-at 𝓤 H A ask.ended stayed (ask.clauses 𝓤 H A mem run) W (((κ, tt), (q, tt), tt, args, at), tt)
+      vunit tt (tt, (tt, tt)) (tt, (tt, tt))) $
       suffices ! _ (comm∗ 𝓤 (emp 𝓤) Owed) $ suffices ! Owed (emp∗ 𝓤 Owed) $
-      frame ! $ nothing ! $ nothing ! $ fjoin ! $ frame ! $ feqI ! (List Val) (vunit ∷ []) (vunit ∷ []) refl $ done !
+      frame ! $ nothing ! $ nothing ! $ fjoin ! $ nothing ! $ fjoin ! $ frame ! $ feqI ! (List Val) (vunit ∷ []) (vunit ∷ []) refl $ done !
 
   module _ (C : Calls 𝓤 H) (Λ : Loops 𝓤 H) (fm : FmC 𝓤 H (W .laws) C) (known-new : Triple 𝓤 (C #new) (New 𝓤 H A mem run))
       (known-block : Triple 𝓤 (C #block) (Block 𝓤 H A mem run)) (known-check : Triple 𝓤 (C #check) (Check 𝓤 H A mem run))
       (known-all : Triple 𝓤 (C #all) (All 𝓤 H A mem run)) where
-    walk : Is (Slice κ) s (v ∷ []) → ent 𝓤 Entry (WpFn 𝓤 H C Λ code.function (v ∷ []) Post)
-    walk p =
-        qed W (raw Entry ∷ []) ∵ enter ! C Λ code.function (v ∷ []) _ $
-        alloc1 ! (λ l₀. alloc1 ! (λ l₁. alloc1 ! (λ l₂. alloc1 ! (λ l₃. alloc1 ! (λ l₄. alloc1 ! (λ l₅. alloc1 ! (λ l₆. alloc1 ! (λ l₇. alloc0 ! $ params1 ! $
+    walk : Is F.the-row l (w ∷ []) → Is (Slice κ) s (v ∷ []) → ent 𝓤 Entry (WpFn 𝓤 H C Λ code.function (w ∷ v ∷ []) Post)
+    walk i p =
+        qed W (raw Entry ∷ []) ∵ enter ! C Λ code.function (w ∷ v ∷ []) _ $
+        alloc1 ! (λ l₀. alloc1 ! (λ l₁. alloc1 ! (λ l₂. alloc1 ! (λ l₃. alloc1 ! (λ l₄. alloc1 ! (λ l₅. alloc1 ! (λ l₆. alloc1 ! (λ l₇.
+        alloc1 ! (λ l₈. alloc0 ! $ params1 ! $
+        pass1 ! (init ! 14 refl (LL.lawful F.the-type F′.the-laws 𝓤 H A W .typed l (w ∷ []) i .0)) $
         pass1 ! (init ! 12 refl (shr-slice-lawful 𝓤 H A W (named 0) κ u8 .typed s (v ∷ []) p .0)) $ pass0 ! $
-        move ! (16 ∷ []) $ use1 W (raw (New 𝓤 H A mem run .pre to-new)) new-asked $
-        -- [what `new` asks; _7; …; _6; …; _5; …; _4; …; _3; …; _2; …; _1; …; room for _0; …]
-        calls-at ! fm (New 𝓤 H A mem run) known-new to-new (and-then ! (load ! (from ! (stop !)) (look ! 13 refl)) (no-more !)) (λ u.
+        move ! (18 ∷ []) $ use1 W (raw (New 𝓤 H A mem run .pre to-new)) new-asked $
+        -- [what `new` asks; _8; …; _7; …; _6; …; _5; …; _4; …; _3; …; _2; …; _1; …; room for _0; …]
+        calls-at ! fm (New 𝓤 H A mem run) known-new to-new
+        (and-then ! (load ! (from ! (stop !)) (look ! 15 refl)) (and-then ! (load ! (from ! (stop !)) (look ! 13 refl)) (no-more !))) (λ u.
         use1 W (later (some (λ (d : ValidatorSchema). ((‵ (flft κ q) ⊛ ‵ ftrue) ⊛ ‵ (B κ .own d (u ∷ [])))
-        ⊛ raw (ensured 𝓤 H A new.ended (new.clauses 𝓤 H A mem run) (κ, tt) (s, tt) tt d)))) (id⊢ 𝓤 _) $ await ! tt $ pick ! (λ d.
+        ⊛ raw (ensured 𝓤 H A new.ended (new.clauses 𝓤 H A mem run) (κ, tt) args tt d)))) (id⊢ 𝓤 _) $ await ! tt $ pick ! (λ d.
         split ! $ move ! (1 ∷ []) $ use1 W (raw (fact 𝓤 (Made d))) (new-said d) $ heard ! (Made d) (λ made. split ! $ move ! (1 ∷ []) $
-        -- [what the struct owns; the token; _7; …]
+        -- [what the struct owns; the token; _8; …]
         peeks ! (B κ) (Is (B κ)) (shows 𝓤 H A (B κ)) d (u ∷ []) (λ is.
         land ! (from ! (stop !)) (init ! 12 refl (typed d u is)) $
         use1 W (‵ (B κ .own d (u ∷ [])) ⊛ ‵ (B κ .own d (u ∷ []))) (LL.copy (T.the-type (α κ)) (T′.the-copy (α κ)) 𝓤 H A W .twice d (u ∷ [])) $ split ! $
         assigns ! (of-opd ! (load ! (from ! (stop !)) (look ! 13 refl))) (from ! (stop !)) (init ! 7 refl (typed d u is)) $
         move ! (0 ∷ 2 ∷ []) $ use2 W (raw (Block 𝓤 H A mem run .pre (to-block d u))) (block-asked d u) $
-        -- [what `block` asks; what the struct owns; _7; …]
+        -- [what `block` asks; what the struct owns; _8; …]
         calls-at ! fm (Block 𝓤 H A mem run) known-block (to-block d u) (and-then ! (load ! (from ! (stop !)) (look ! 6 refl)) (no-more !)) (λ u₁.
         use1 W (later (some (λ (r : RefT (List ℕ)). ((‵ (flft κ q) ⊛ ‵ ftrue) ⊛ ‵ (Slice κ .own r (u₁ ∷ [])))
         ⊛ raw (ensured 𝓤 H A block.ended (block.clauses 𝓤 H A mem run) (κ, tt) (d, tt) tt r)))) (id⊢ 𝓤 _) $ await ! tt $ pick ! (λ r.
         split ! $ move ! (1 ∷ []) $ use1 W (raw (fact 𝓤 (r ≡ d .block))) (block-said d r) $ heard ! (r ≡ d .block) (λ same. split ! $ move ! (1 ∷ []) $
-        -- [what the slice owns; the token; what the struct owns; _7; …]
+        -- [what the slice owns; the token; what the struct owns; _8; …]
         peeks ! (Slice κ) (Is (Slice κ)) (shows 𝓤 H A (Slice κ)) r (u₁ ∷ []) (λ is₁.
         land ! (from ! (stop !)) (init ! 9 refl (shr-slice-lawful 𝓤 H A W erased κ u8 .typed r (u₁ ∷ []) is₁ .0)) $
         assigns ! (of-opd ! (load ! (from ! (stop !)) (look ! 13 refl))) (from ! (stop !)) (init ! 3 refl (typed d u is)) $
-        move ! (2 ∷ 1 ∷ []) $ use2 W (raw (Check 𝓤 H A mem run .pre (to-check d u))) (check-asked d u (made .1)) $
-        -- [what `check` asks; what the slice owns; _7; …]
+        move ! (2 ∷ 1 ∷ []) $ use2 W (raw (Check 𝓤 H A mem run .pre (to-check d u))) (check-asked d u (made .2)) $
+        -- [what `check` asks; what the slice owns; _8; …]
         calls-at ! fm (Check 𝓤 H A mem run) known-check (to-check d u) (and-then ! (load ! (from ! (stop !)) (look ! 2 refl)) (no-more !)) (λ u₂.
         use1 W (later (some (λ (k : Checked). ((‵ (flft κ q) ⊛ ‵ ftrue) ⊛ ‵ (K.the-row .own k (u₂ ∷ [])))
         ⊛ raw (ensured 𝓤 H A check.ended (check.clauses 𝓤 H A mem run) (κ, tt) (d, tt) tt k)))) (id⊢ 𝓤 _) $ await ! tt $ pick ! (λ k.
         split ! $ move ! (1 ∷ []) $ use1 W (raw (fact 𝓤 (Came d k))) (check-said d k) $ heard ! (Came d k) (λ came. split ! $ move ! (1 ∷ []) $
-        -- [what the check owns; the token; what the slice owns; _7; …]
+        -- [what the check owns; the token; what the slice owns; _8; …]
         peeks ! K.the-row (Is K.the-row) (shows 𝓤 H A K.the-row) k (u₂ ∷ []) (λ is₂.
         land ! (from ! (stop !)) (init ! 5 refl (EL.lawful K.the-type K′.the-laws 𝓤 H A W tt .typed k _ is₂ .0)) $
         move ! (0 ∷ 2 ∷ []) $ join ! $
-        use2 W (raw (All 𝓤 H A mem run .pre (to-all r u₁ k u₂))) (all-asked r u₁ k u₂ (came ∙ ap (λ (x : RefT (List ℕ)). checked (now x)) (sym same))) $
-        -- [what `ask_all` asks; _7; …]
+        use2 W (raw (All 𝓤 H A mem run .pre (to-all r u₁ k u₂))) (all-asked r u₁ k u₂ (own-check d r k same came)) $
+        -- [what `ask_all` asks; _8; …]
         calls-at ! fm (All 𝓤 H A mem run) known-all (to-all r u₁ k u₂)
         (and-then ! (load ! (from ! (stop !)) (look ! 7 refl)) (and-then ! (load ! (from ! (stop !)) (look ! 3 refl)) (no-more !))) (λ u₃.
         use1 W (later (some (λ (z : Unit {0}). ((‵ (flft κ q) ⊛ ‵ ftrue) ⊛ ‵ (unit .own z (u₃ ∷ [])))
         ⊛ raw (ensured 𝓤 H A all.ended (all.clauses 𝓤 H A mem run) (κ, tt) (r, (k, tt)) tt z)))) (id⊢ 𝓤 _) $ await ! tt $ pick ! (λ z.
         split ! $ move ! (1 ∷ []) $ drop ! $ split ! $ move ! (1 ∷ []) $
-        -- [the unit; the token; _7; …]
+        -- [the unit; the token; _8; …]
         peeks ! unit (Is unit) (shows 𝓤 H A unit) z (u₃ ∷ []) (λ is₃.
         land ! (from ! (stop !)) (init ! 10 refl (nothing-lawful 𝓤 H A W .typed z (u₃ ∷ []) is₃ .0)) $ drop ! $
-        assigns ! (of-opd ! (unit-lit !)) (from ! (stop !)) (init ! 15 refl (tt, tt)) $ returns ! (look ! 15 refl) $
+        assigns ! (of-opd ! (unit-lit !)) (from ! (stop !)) (init ! 17 refl (tt, tt)) $ returns ! (look ! 17 refl) $
         forget ! 1 refl $ forget ! 3 refl $ forget ! 5 refl $ forget ! 7 refl $ forget ! 9 refl $ forget ! 11 refl $ forget ! 13 refl $ forget ! 15 refl $
+        forget ! 17 refl $ move ! (17 ∷ 18 ∷ []) $ free1 ! $
         move ! (15 ∷ 16 ∷ []) $ free1 ! $ move ! (13 ∷ 14 ∷ []) $ free1 ! $ move ! (11 ∷ 12 ∷ []) $ free1 ! $ move ! (9 ∷ 10 ∷ []) $ free1 ! $
         move ! (7 ∷ 8 ∷ []) $ free1 ! $ move ! (5 ∷ 6 ∷ []) $ free1 ! $ move ! (3 ∷ 4 ∷ []) $ free1 ! $ move ! (1 ∷ 2 ∷ []) $ free1 ! $ free0 ! $
-        by ! exits)))))))))))))))))))))))
+        by ! exits))))))))))))))))))))))))
 
 module _ {M : Type 1} (𝓤 : URA M) (H : Heap 𝓤) (A : Atoms 𝓤) (W : Given 𝓤 H A) (mem : Memory → SProp 𝓤) (run : Routine → Fun 𝓤) where
   walks : (C : Calls 𝓤 H) (Λ : Loops 𝓤 H) → FmC 𝓤 H (W .laws) C → Triple 𝓤 (C #new) (New 𝓤 H A mem run) → Triple 𝓤 (C #block) (Block 𝓤 H A mem run)
@@ -242,14 +264,17 @@ module _ {M : Type 1} (𝓤 : URA M) (H : Heap 𝓤) (A : Atoms 𝓤) (W : Given
       → Walks 𝓤 H A ask.ended stayed (WpFn 𝓤 H C Λ code.function) (ask.clauses 𝓤 H A mem run)
   walks C Λ fm kn kb kc ka =
       walked 𝓤 H A ask.ended stayed (ask.clauses 𝓤 H A mem run) (WpFn 𝓤 H C Λ code.function)
-      (λ κs. (slice-vals, tt)) (λ κs. (shr-slice-tells (named 0) (κs .0) u8, tt))
-      (λ κs qs bounds a g are. via 𝓤 _ (fst∗ 𝓤 _ (emp 𝓤)) (walk 𝓤 H A W mem run (κs .0) (qs .0) (a .0) C Λ fm kn kb kc ka (are .0)))
+      (λ κs. (LL.vals F.the-type F′.the-laws, (slice-vals, tt))) (λ κs. (LL.tells F.the-type F′.the-laws, (shr-slice-tells (named 0) (κs .0) u8, tt)))
+      (λ κs qs bounds a g are. via 𝓤 _ (fst∗ 𝓤 _ (emp 𝓤)) (walk 𝓤 H A W mem run (κs .0) (qs .0) (a .0) (a .1 .0) C Λ fm kn kb kc ka (are .0) (are .1 .0)))
 
   ask-meets : (𝓣 : Tables 𝓤 H) → Triple 𝓤 (𝓣 .C #new) (New 𝓤 H A mem run) → Triple 𝓤 (𝓣 .C #block) (Block 𝓤 H A mem run)
       → Triple 𝓤 (𝓣 .C #check) (Check 𝓤 H A mem run) → Triple 𝓤 (𝓣 .C #all) (All 𝓤 H A mem run)
       → Meets 𝓤 H A ask.signature (WpFn 𝓤 H (𝓣 .C) (𝓣 .Λ) code.function) (ask.spec 𝓤 H A mem run)
   ask-meets 𝓣 kn kb kc ka =
-      walk-meets 𝓤 H A ask.ended stayed W (goes-dropped 𝓤 H A W 1 (shrSliceOf (0 ∷ []) tt (plain (λ _. u8))) yes (λ κs x f. refl), tt)
+      walk-meets 𝓤 H A ask.ended stayed W (
+        goes-dropped 𝓤 H A W 1 (plain (λ _. F.the-row)) yes (λ κs x f. refl),
+        (goes-dropped 𝓤 H A W 1 (shrSliceOf (0 ∷ []) tt (plain (λ _. u8))) yes (λ κs x f. refl), tt),
+      )
       (ask.clauses 𝓤 H A mem run) (WpFn 𝓤 H (𝓣 .C) (𝓣 .Λ) code.function) (WpFn-mono 𝓤 H (W .laws) 𝓣 code.function)
       (walks (𝓣 .C) (𝓣 .Λ) (fmOf 𝓤 H (W .laws) 𝓣) kn kb kc ka)
 

@@ -1,8 +1,8 @@
 -- The fold of an attribute over entity types, and the lookup of any type. Assumes nothing.
-use Prim.Native.Nat.{ℕ, _+_, _*_, _-_, _≤_, _<_}
+use Prim.Native.Nat.{ℕ, _+_, _-_, _≤_, _<_}
 use native.Mathlib.Omega.{arith}
-use mathlib.Core.List.{List, [], _∷_}
-use mathlib.Core.Bool.{Bool, true, false, _&&_}
+use mathlib.Core.List.{List, _∷_}
+use mathlib.Core.Bool.{Bool, true, _&&_}
 use mathlib.Core.Option.{Option, none, some}
 use mathlib.Core.Path.{_≡_, refl, ap, sym, subst, _∙_}
 use lib.ListN.{length}
@@ -22,7 +22,6 @@ use Rattle.forms.specs.Laws.Views.{is-entity, see, seen-set, seen-record, seen-
 use Rattle.attributes.specs.Laws.Ahead.{Ahead, ahead-start, ahead-end, ahead-first, ahead-next}
 use Rattle.folds.specs.declared.steps.JoinStep.{JoinStep}
 use Rattle.folds.specs.declared.steps.JoinStep.the-variants.{To, Not, TooLong}
-use Rattle.lookups.specs.declared.lookup_attribute_type.Looked.{Looked}
 use Rattle.lookups.specs.declared.lookup_attribute_type.Looked.the-variants as looks
 use Rattle.folds.specs.Steps.{Held, Stepped}
 use Rattle.lookups.specs.Lookup.{Named, below, LookedUp}
@@ -51,7 +50,8 @@ pub record Folding (lim : Limits) (work : ℕ) (s : Schema) (a : ℕ) (all : Res
   pub held : Held (below lim) len last
   pub ahead : Ahead all (foldAttr (stepFits lim work) s a (q, dec (lim .levels - 1) (part 0 len last))) left ns
 
-pub folding-start : (lim : Limits) (work : ℕ) (s : Schema) (a len : ℕ) (q : Bool) (last : List ℕ) (n : ℕ) (ns : List ℕ) → Held (below lim) len last → Named n ns →
+pub folding-start : (lim : Limits) (work : ℕ) (s : Schema) (a len : ℕ) (q : Bool) (last : List ℕ) (n : ℕ) (ns : List ℕ) → Held (below lim) len last →
+    Named n ns →
     Folding lim work s a (foldAttr (stepFits lim work) s a (q, dec (lim .levels - 1) (part 0 len last)) (namesBy 2 n ns)) len q last n ns
 folding-start lim work s a len q last n ns h k =
     record { held = h; ahead = ahead-start (foldAttr (stepFits lim work) s a (q, dec (lim .levels - 1) (part 0 len last))) n ns (k .sized) }
@@ -68,7 +68,8 @@ module _ {lim : Limits} {work : ℕ} {s : Schema} {a : ℕ} {all : Result (Optio
     module _ (y : Bool) (t : List ℕ) (f : attrOf s a k ≡ some (y, dec (lim .levels - 1) t)) (last′ : List ℕ) (r : JoinStep)
         (g : Stepped (below lim) (bound permissive (dec (lim .levels - 1) (part 0 len last)) (dec (lim .levels - 1) t)) work last′ r) where
       told : (x : JoinStep) → r ≡ x → Stepped (below lim) (bound permissive (dec (lim .levels - 1) (part 0 len last)) (dec (lim .levels - 1) t)) work last′ x
-      told x h = subst (λ (y : JoinStep). Stepped (below lim) (bound permissive (dec (lim .levels - 1) (part 0 len last)) (dec (lim .levels - 1) t)) work last′ y) h g
+      told x h = subst (λ (y : JoinStep). Stepped (below lim) (bound permissive (dec (lim .levels - 1) (part 0 len last)) (dec
+          (lim .levels - 1) t)) work last′ y) h g
 
       pub folding-unbounded : (n : ℕ) → r ≡ Not n → all ≡ ok none
       folding-unbounded n h =

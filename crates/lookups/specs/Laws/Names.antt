@@ -1,11 +1,10 @@
 -- Name lists: the names of attribute entries, and those that are kept. Assumes nothing.
-use Prim.Native.Nat.{ℕ, zero, suc, _+_, _*_, _-_, _≤_, _<_}
-use native.Mathlib.Numerals.{sub-one}
+use Prim.Native.Nat.{ℕ, _+_, _*_, _-_, _≤_, _<_}
 use native.Mathlib.Omega.{arith}
 use mathlib.Core.List.{List, [], _∷_, _++_, append-assoc, append-nil}
 use mathlib.Core.Bool.{Bool, true, false}
 use mathlib.Core.Option.{Option, none, some}
-use mathlib.Core.Path.{_≡_, refl, ap, sym, subst, _∙_}
+use mathlib.Core.Path.{_≡_, refl, ap, sym, _∙_}
 use lib.ListN.{length, length-append}
 use Rattle.cedar.specs.Types.{Ty, Schema, maybe, names}
 use Rattle.cedar.specs.Bytes.{u16, encNames}
@@ -15,8 +14,8 @@ use Rattle.cedar.specs.Outcome.{over}
 use Rattle.cedar.specs.Attribute.{entityOf, lookupNames, keepFound, entityNames, allNames}
 use Rattle.cedar.specs.Laws.Lengths.{length-encNames}
 use Rattle.forms.specs.Parts.{part, rest, rd, kind}
-use Rattle.forms.specs.Rows.{rowsOf, tableEnd}
-use Rattle.forms.specs.TypeBytes.{whole, dec, decA, namesBy, attrRow}
+use Rattle.forms.specs.Rows.{tableEnd}
+use Rattle.forms.specs.TypeBytes.{whole, dec, namesBy, attrRow}
 use Rattle.forms.specs.Laws.Parts.{length-rest, length-part}
 use Rattle.forms.specs.Laws.Names.{names-first, names-none, names-length, names-of-entries}
 use Rattle.forms.specs.Laws.Views.{is-record, is-action, is-entity, see, seen-set, seen-record, seen-entity, seen-action, seen-extension, seen-atom}
@@ -24,7 +23,7 @@ use Rattle.schemas.specs.SchemaBytes.{decS}
 use Rattle.attributes.specs.declared.entity_attribute.EntityEntries.the-variants.{From}
 use Rattle.attributes.specs.EntityAttribute.{EntriesIn}
 use Rattle.writing.specs.Written.{Written}
-use Rattle.writing.specs.Laws.Writing.{back, length-over, over-at, Writing, writing-start, writing-at, writing-end, writing-more}
+use Rattle.writing.specs.Laws.Writing.{back, length-over, over-at, Writing, writing-at, writing-end, writing-more}
 use Rattle.lookups.specs.declared.lookup_attribute_type.Looked.{Looked}
 use Rattle.lookups.specs.declared.lookup_attribute_type.Looked.the-variants as looks
 use Rattle.lookups.specs.declared.all_attributes.Names.{Names}
@@ -94,7 +93,8 @@ kept-small (looks.Found q n) a = omega arith
 kept-small looks.Nothing a = omega arith
 kept-small looks.TooLong a = omega arith
 
-keeps : (lim : Limits) (look : ℕ → Result (Option (Bool × Ty))) (a : ℕ) (xs done last : List ℕ) (x : Looked) → LookedUp lim (look a) last x → isTooLong x ≡ false →
+keeps : (lim : Limits) (look : ℕ → Result (Option (Bool × Ty))) (a : ℕ) (xs done last : List ℕ) (x : Looked) → LookedUp lim (look a) last x →
+    isTooLong x ≡ false →
     bind (keepFound look (a ∷ xs)) (λ ks. ok (done ++ ks)) ≡ bind (keepFound look xs) (λ ks. ok ((done ++ keptNames x a) ++ ks))
 unfolding keptNames
 keeps lim look a xs done last (looks.Found q n) h t = rw (h .0) (go (keepFound look xs))

@@ -135,7 +135,8 @@ module _ {l : LimitsStruct} {b : List ℕ} {k : SectionKind} {ks : List SectionK
         }
 
 -- Sections whose bodies start where they must are the schema's.
-pub sections-are : (l : LimitsStruct) (b : List ℕ) (p q r : ℕ) → p ≡ entitySection b .bodies → q ≡ actionSection b .bodies → r ≡ functionSection b .bodies → (u v w : Section) →
+pub sections-are : (l : LimitsStruct) (b : List ℕ) (p q r : ℕ) → p ≡ entitySection b .bodies → q ≡ actionSection b .bodies → r ≡ functionSection b .bodies →
+    (u v w : Section) →
     u ≡ sectionAt Entities p b → v ≡ sectionAt Actions q b → w ≡ sectionAt Functions r b →
     record { limits = l; entities = u; actions = v; functions = w } ≡ sectionsOf l b
 unfolding sectionsOf

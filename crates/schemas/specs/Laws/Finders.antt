@@ -7,20 +7,18 @@ use Prim.Native.Nat.{ℕ, _+_, _*_, _≤_}
 use native.Mathlib.Omega.{arith}
 use lib.Dec.{eqb, leb}
 use lib.ListN.{length, getD}
-use borrow.Author.Tests.{leb-true, le-leb, eqb-true}
+use borrow.Author.Tests.{leb-true, eqb-true}
 use Rattle.cedar.specs.Types.{Attrs, Arg, maybe}
 use Rattle.cedar.specs.Limits.{Limits, allowed, blockBytes}
 use Rattle.cedar.specs.SchemaForm.{entitiesOf, actionsOf, functionsOf}
 use Rattle.cedar.specs.Attribute.{entityIn, entityOf}
 use Rattle.cedar.specs.Literal.{actionIn, actionOf}
 use Rattle.cedar.specs.Conformance.{functionIn, functionOf}
-use Rattle.cedar.specs.Whole.{wholeSchema}
 use Rattle.forms.specs.Limits.{asLimits}
 use Rattle.forms.specs.Parts.{part, rest, rd, kind}
 use Rattle.forms.specs.declared.limits.Limits.{Limits as LimitsStruct}
 use Rattle.forms.specs.TypeBytes.{whole}
 use Rattle.forms.specs.Laws.Parts.{and-l, and-r}
-use Rattle.forms.specs.Laws.Sure.{sure-yes}
 use Rattle.forms.specs.Laws.Views.{IsRecord, is-record}
 use Rattle.schemas.specs.SchemaBytes.{entityRow, actionRow, functionRow, bodyTest, bodyFits, bodyOf, recordOf, argsFit, argsOf}
 use Rattle.schemas.specs.SchemaBytes.{sectionFits, sectionOf, sectionEnd, entitySection, actionSection, functionSection, sectionsOf, headFits, wholeS}
@@ -29,7 +27,6 @@ use Rattle.schemas.specs.Entries.{entryAt, signatureOf, functionAt, Laid
 use Rattle.schemas.specs.Laws.Walks.{section-ends}
 use Rattle.schemas.specs.Laws.Bodies.{is-body}
 use Rattle.schemas.specs.Laws.Checks.{Head, head, checked-whole}
-use Rattle.schemas.specs.Laws.SchemaTwin.{whole-schema-twin}
 use Rattle.schemas.specs.Laws.Entries.{lookup, FoundIn, found-in}
 use Rattle.schemas.specs.declared.kinds.SectionKind.the-variants.{Entities, Actions, Functions}
 use Rattle.schemas.specs.declared.sections.Section.{Section}

@@ -41,6 +41,14 @@ stands l b x e =
       third = omega (arith, functions-laid k .room);
     }
 
+-- The limits that are kept of a check are its own.
+kept-limits : (y : Checked) → offsetsOf y .limits ≡ limitsOf y
+kept-limits (Whole x) = refl
+kept-limits (Broken l) = refl
+
+pub own-limits : (l : LimitsStruct) (b : List ℕ) → offsetsOf (checked l b) .limits ≡ l
+own-limits l b = kept-limits (checked l b) ∙ checked-limits l b
+
 -- The offsets of what a check found.
 module _ (l : LimitsStruct) (b : List ℕ) (y : Checked) (q : y ≡ checked l b) where
   pub of-whole : (x : Sections) → y ≡ Whole x →

@@ -1,18 +1,15 @@
 -- The bound call, question by question. Assumes nothing.
-use Prim.Native.Nat.{ℕ, zero, suc, _<_}
-use native.Mathlib.Omega.{arith}
+use Prim.Native.Nat.{ℕ, _<_}
 use mathlib.Core.List.{List}
 use mathlib.Core.Bool.{true}
-use mathlib.Core.Option.{Option, none, some}
+use mathlib.Core.Option.{none, some}
 use mathlib.Core.Path.{_≡_, refl, sym, ap, _∙_}
-use lib.ListN.{length, getD}
+use lib.ListN.{getD}
 use Rattle.cedar.specs.Types.{Mode, Ty, Schema}
 use Rattle.cedar.specs.Laws.Shape.{Ordered}
-use Rattle.cedar.specs.Bytes.{Bytes}
 use Rattle.cedar.specs.Limits.{Limits, allowed}
 use Rattle.cedar.specs.Whole.{wholeType, wholeSchema}
-use Rattle.cedar.specs.Result.{Result}
-use Rattle.cedar.specs.Outcome.{Outcome, refused}
+use Rattle.cedar.specs.Outcome.{refused}
 use Rattle.cedar.specs.Bound.{bound}
 use Rattle.cedar.specs.Laws.DirectBound.{direct}
 use Rattle.cedar.specs.Calls.{modeOf, writeType, boundCall}
@@ -20,7 +17,6 @@ use Rattle.cedar.specs.Laws.Whole.{wholeType-reads}
 use Rattle.cedar.specs.Laws.Direct.{direct-bound}
 use Rattle.forms.specs.TypeBytes.{dec}
 use Rattle.forms.specs.Laws.Bytes.{Bytes-index}
-use Rattle.validator.specs.Laws.Questions.{there}
 
 -- A whole type is in order.
 ordered : (lim : Limits) (b : List ℕ) (a : Ty) → ((i : ℕ) → getD b i 0 < 256) → wholeType lim b ≡ some a → Ordered a
@@ -46,7 +42,8 @@ module _ (lim : Limits) (fair : allowed lim ≡ true) (mode : ℕ) (s t₀ t₁ 
         pub bound-direct : ((i : ℕ) → getD t₀ i 0 < 256) → ((i : ℕ) → getD t₁ i 0 < 256) → wholeType lim t₁ ≡ some (dec (lim .levels) t₁)
             → boundCall lim mode s t₀ t₁ room ≡ writeType lim room (direct m (dec (lim .levels) t₀) (dec (lim .levels) t₁))
         bound-direct k₀ k₁ eb =
-            calls ∙ ap (writeType lim room) (sym (direct-bound (dec (lim .levels) t₀) m (dec (lim .levels) t₁) (ordered lim t₀ (dec (lim .levels) t₀) k₀ ea) (ordered lim t₁ (dec (lim .levels) t₁) k₁ eb)))
+            calls ∙ ap (writeType lim room) (sym (direct-bound (dec (lim .levels) t₀) m (dec (lim .levels) t₁) (ordered lim t₀ (dec (lim .levels) t₀) k₀ ea)
+            (ordered lim t₁ (dec (lim .levels) t₁) k₁ eb)))
           where
             calls : boundCall lim mode s t₀ t₁ room ≡ writeType lim room (bound m (dec (lim .levels) t₀) (dec (lim .levels) t₁))
             calls = rw (fair, em, es, ea, eb) refl

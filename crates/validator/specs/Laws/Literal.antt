@@ -1,5 +1,5 @@
 -- The outcome of `euid_literal`, question by question. Assumes nothing.
-use Prim.Native.Nat.{ℕ, suc, _+_, _-_, _≤_, min}
+use Prim.Native.Nat.{ℕ, suc, _-_, _≤_, min}
 use native.Mathlib.Omega.{arith}
 use mathlib.Core.List.{List}
 use mathlib.Core.Bool.{Bool, true, false, not}
@@ -8,7 +8,7 @@ use mathlib.Core.Path.{_≡_, refl, ap, sym, subst, _∙_}
 use lib.Dec.{leb}
 use lib.ListN.{length}
 use borrow.Author.Tests.{leb-true, not-false}
-use Rattle.cedar.specs.Types.{Ty, Schema, maybe}
+use Rattle.cedar.specs.Types.{Ty, maybe}
 use Rattle.cedar.specs.Bytes.{Bytes}
 use Rattle.cedar.specs.TypeForm.{enc}
 use Rattle.cedar.specs.Limits.{Limits, mostBytes, allowed}
@@ -20,7 +20,7 @@ use Rattle.cedar.specs.Calls.{writeType, literalCall}
 use Rattle.cedar.specs.Laws.Limits.{allowed-bytes}
 use Rattle.schemas.specs.SchemaBytes.{decS}
 use Rattle.writing.specs.declared.form_lengths.FormLength.the-variants.{Of}
-use Rattle.writing.specs.FormLengths.{cap, formLengthOf}
+use Rattle.writing.specs.FormLengths.{formLengthOf}
 use Rattle.attributes.specs.declared.euid_literal.Literal.{Literal}
 use Rattle.attributes.specs.declared.euid_literal.Literal.the-variants as literals
 use Rattle.attributes.specs.Literal.{literalType, literalForm, literalLength, Laid, Standing, LiteralAt}

@@ -13,7 +13,7 @@ use Rattle.cedar.specs.TypeForm.{enc}
 use Rattle.cedar.specs.Limits.{Limits, allowed}
 use Rattle.cedar.specs.Result.{Result, ok, err}
 use Rattle.cedar.specs.Whole.{wholeType, wholeSchema}
-use Rattle.cedar.specs.Outcome.{Outcome, nothing, refused, attribute, over}
+use Rattle.cedar.specs.Outcome.{Outcome, nothing, attribute, over}
 use Rattle.cedar.specs.Attribute.{lookup}
 use Rattle.cedar.specs.Calls.{stepFits, writeAttribute, lookupCall}
 use Rattle.forms.specs.Parts.{part}
@@ -22,7 +22,6 @@ use Rattle.forms.specs.Laws.Parts.{length-part}
 use Rattle.lookups.specs.declared.lookup_attribute_type.Looked.{Looked}
 use Rattle.lookups.specs.declared.lookup_attribute_type.Looked.the-variants as looks
 use Rattle.lookups.specs.Lookup.{LookedUp}
-use Rattle.validator.specs.declared.answers.Answer.{Answer}
 use Rattle.validator.specs.declared.answers.Answer.the-variants.{Refused, Nothing, Attribute}
 use Rattle.validator.specs.Answers.{Answered}
 use Rattle.validator.specs.Laws.Writing.{refuses}
@@ -65,12 +64,14 @@ module _ (lim : Limits) (fair : allowed lim ≡ true) (schema : List ℕ) (a : �
         sized : length (part 0 n last) ≡ n
         sized = length-part 0 n last (omega (arith, small)) ∙ omega arith
 
-        fits-as : (y : Bool) → y ≡ leb n (min (length o) (lim .bytes)) → leb (length (enc (dec (lim .levels - 1) (part 0 n last)))) (min (length o) (lim .bytes)) ≡ y
+        fits-as : (y : Bool) → y ≡ leb n (min (length o) (lim .bytes)) →
+            leb (length (enc (dec (lim .levels - 1) (part 0 n last)))) (min (length o) (lim .bytes)) ≡ y
         fits-as y f = ap (λ (k : ℕ). leb k (min (length o) (lim .bytes))) (ap length exact ∙ sized) ∙ sym f
 
         module _ (y : Bool) (fits : y ≡ leb n (min (length o) (lim .bytes))) where
           pub lookup-over : not y ≡ true → Answered outcome o o (Refused 10)
-          lookup-over k = refuses 10 (comes-to (ok (some (q, dec (lim .levels - 1) (part 0 n last)))) (ends (looks.Found q n) e .0) ∙ rw (fits-as y fits, not-true y k) refl)
+          lookup-over k = refuses 10 (comes-to (ok (some (q, dec (lim .levels - 1) (part 0 n last)))) (ends (looks.Found q n) e .0) ∙ rw
+              (fits-as y fits, not-true y k) refl)
 
           module _ (k : not y ≡ false) where
             pub lookup-room : length (part 0 n last) ≤ length o
@@ -78,7 +79,8 @@ module _ (lim : Limits) (fair : allowed lim ≡ true) (schema : List ℕ) (a : �
 
             pub lookup-writes : (xs : List ℕ) → xs ≡ over (part 0 n last) o → Answered outcome o xs (Attribute q n)
             lookup-writes xs w =
-                let c : outcome ≡ attribute q (dec (lim .levels - 1) (part 0 n last)) = comes-to (ok (some (q, dec (lim .levels - 1) (part 0 n last)))) (ends (looks.Found q n) e .0) ∙
+                let c : outcome ≡ attribute q (dec (lim .levels - 1) (part 0 n last)) = comes-to (ok (some (q, dec (lim .levels - 1) (part 0 n last))))
+                (ends (looks.Found q n) e .0) ∙
                 rw (fits-as y fits, not-false y k) refl in
                 subst (λ (z : Outcome). Answered z o xs (Attribute q n)) (sym c)
                 record { answer = ap (Attribute q) (sym (ap length exact ∙ sized)); result = w ∙ ap (λ (z : List ℕ). over z o) (sym exact) }

@@ -52,7 +52,8 @@ pub guard-yes : (b r : Bool) → r ≡ b → not r ≡ false → guard b ≡ som
 guard-yes b r q h = ap guard (sym q ∙ not-false r h)
 
 -- Under limits that are allowed a call goes on.
-pub within-limits : (lim : Limits) → allowed lim ≡ true → (o : Outcome) {r : Answer} → r ≡ answerOf o → r ≡ answerOf (ask badLimits (guard (allowed lim)) (λ _. o))
+pub within-limits : (lim : Limits) → allowed lim ≡ true → (o : Outcome) {r : Answer} → r ≡ answerOf o →
+    r ≡ answerOf (ask badLimits (guard (allowed lim)) (λ _. o))
 within-limits lim fair o q = ask-on badLimits {o = guard (allowed lim)} (λ (_ : Unit {0}). o) (ap guard fair) q
 
 -- The answer of `whole_type`.

@@ -2,7 +2,7 @@
 use mathlib.Core.Path.{_≡_, sym, ap, subst, _∙_}
 use Prim.Native.Nat.{ℕ}
 use mathlib.Core.List.{List}
-use mathlib.Core.Bool.{Bool, true, false, not, _&&_}
+use mathlib.Core.Bool.{Bool, true, false, not}
 use mathlib.Core.Option.{none, some}
 use lib.Dec.{leb}
 use lib.ListN.{length}
@@ -34,7 +34,8 @@ module _ (l : LimitsStruct) (b : List ℕ) (y : Checked) (q : y ≡ checked l b)
 -- A schema with its sections is whole under their limits.
 pub sectioned-there : (b : List ℕ) (x : Sections) → Sectioned b x → wholeSchema (asLimits (x .limits)) b ≡ some (decS (asLimits (x .limits)) b)
 sectioned-there b x k =
-    sure-yes (whole-schema-twin (asLimits (x .limits)) b) (and-yes (leb (length b) 32768) (wholeS (asLimits (x .limits)) b) (le-leb (length b) 32768 (k .few)) ∙ k .yes)
+    sure-yes (whole-schema-twin (asLimits (x .limits)) b) (and-yes (leb (length b) 32768) (wholeS (asLimits (x .limits)) b) (le-leb (length b) 32768
+    (k .few)) ∙ k .yes)
 
 -- What is kept of a check: its own limits.
 module _ (b : List ℕ) (y : Checked) (own : y ≡ checked (limitsOf y) b) where

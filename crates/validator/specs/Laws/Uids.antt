@@ -1,5 +1,5 @@
 -- The value's question, for a literal: is it whole, and a uid? Assumes nothing.
-use Prim.Native.Nat.{ℕ, zero, suc, _≤_, _<_}
+use Prim.Native.Nat.{ℕ, zero, suc, _<_}
 use native.Mathlib.Omega.{arith}
 use mathlib.Core.List.{List}
 use mathlib.Core.Bool.{Bool, true, false, not, _&&_}
@@ -7,7 +7,7 @@ use mathlib.Core.Option.{Option, none, some}
 use mathlib.Core.Path.{_≡_, refl, ap, sym, _∙_}
 use lib.Dec.{eqb, leb, ltb}
 use lib.ListN.{length}
-use borrow.Author.Tests.{not-true, not-false, eqb-true, ltb-true, eq-eqb, ne-eqb}
+use borrow.Author.Tests.{not-true, not-false, eqb-true, ltb-true, eq-eqb}
 use Rattle.cedar.specs.Types.{Value, uid, present}
 use Rattle.cedar.specs.Bytes.{_>>=_}
 use Rattle.cedar.specs.Limits.{Limits}

@@ -1,16 +1,16 @@
 -- The answer of a call that writes a type, by the length that its length pass told. Assumes nothing.
 use mathlib.Core.Path.{_≡_, refl, ap, sym, _∙_}
-use mathlib.Core.List.{List, []}
-use mathlib.Core.Bool.{Bool, true, false, not, _&&_, cond}
+use mathlib.Core.List.{List}
+use mathlib.Core.Bool.{Bool, true, false, not}
 use mathlib.Core.Option.{Option, none, some}
-use Prim.Native.Nat.{ℕ, _≤_, _<_, min}
+use Prim.Native.Nat.{ℕ, _≤_, min}
 use native.Mathlib.Omega.{arith}
 use lib.Dec.{leb}
 use lib.ListN.{length}
 use borrow.Author.Tests.{leb-true, leb-false, le-leb, lt-leb, not-true, not-false}
 use Rattle.cedar.specs.Types.{Ty, present}
 use Rattle.cedar.specs.TypeForm.{enc}
-use Rattle.cedar.specs.Result.{Result, ok, err}
+use Rattle.cedar.specs.Result.{Result, ok}
 use Rattle.cedar.specs.Limits.{Limits, mostBytes}
 use Rattle.cedar.specs.Whole.{wholeType}
 use Rattle.cedar.specs.Outcome.{Outcome, refused, typed, over}
@@ -24,7 +24,6 @@ use Rattle.writing.specs.declared.form_lengths.FormLength.the-variants.{Of, Not
 use Rattle.writing.specs.Written.{Written}
 use Rattle.writing.specs.FormLengths.{cap, formLengthOf, formOf, Ready}
 use Rattle.writing.specs.Laws.FormLengths.{of-ok, not-err, exact, ready}
-use Rattle.validator.specs.declared.answers.Answer.{Answer}
 use Rattle.validator.specs.declared.answers.Answer.the-variants.{Refused, Wrote}
 use Rattle.validator.specs.Answers.{Answered}
 
@@ -51,7 +50,8 @@ refuses n e = rw e record { answer = refl; result = refl }
 fills : {c : Outcome} {o xs : List ℕ} (t : Ty) (n : ℕ) → c ≡ typed t → length (enc t) ≡ n → xs ≡ over (enc t) o → Answered c o xs (Wrote n)
 fills t n e l q = rw e record { answer = ap Wrote (sym l); result = q }
 
-module _ (lim : Limits) (most : lim .bytes ≤ mostBytes) (r : Result Ty) (o : List ℕ) (c : Outcome) (e : c ≡ writeType lim (length o) r) (x : FormLength) (told : x ≡ formLengthOf enc r) where
+module _ (lim : Limits) (most : lim .bytes ≤ mostBytes) (r : Result Ty) (o : List ℕ) (c : Outcome) (e : c ≡ writeType lim (length o) r) (x : FormLength)
+    (told : x ≡ formLengthOf enc r) where
   pub writes-not : (d : ℕ) → x ≡ Not d → Answered c o o (Refused d)
   writes-not d q = refuses d (e ∙ rw (not-err enc r x d told q) refl)
 

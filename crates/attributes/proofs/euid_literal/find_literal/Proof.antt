@@ -30,7 +30,8 @@ returns c =
     let start = c .before .before .before .before .before .before in
     let args = start .args in
     let by-action-not = action-not (start .pre) (args .entity) (args .id) (find-action .result) (find-action .ensures) (c .enum-told .given .1) in
-    literal-no-action (asLimits (args .«at» .limits)) (start .pre .fair) (args .schema .now) (args .entity) (args .id) (is-action .result) (is-action .ensures) (if1 .taken) by-action-not
+    literal-no-action (asLimits (args .«at» .limits)) (start .pre .fair) (args .schema .now) (args .entity) (args .id) (is-action .result)
+    (is-action .ensures) (if1 .taken) by-action-not
 
 returns-2 : tie.Need-returns-2
 returns-2 c =
@@ -42,7 +43,8 @@ returns-2 c =
     let args = start .args in
     let by-action-at = action-at (start .pre) (args .entity) (args .id) (find-action .result) (find-action .ensures) (start-step .given .0 .0)
     (start-step .given .0 .1 .0) (start-step .given .0 .1 .1 .0) (start-step .given .1) in
-    literal-action (asLimits (args .«at» .limits)) (start .pre .fair) (args .schema .now) (args .entity) (args .id) (is-action .result) (is-action .ensures) (start-step .given .0 .1 .0)
+    literal-action (asLimits (args .«at» .limits)) (start .pre .fair) (args .schema .now) (args .entity) (args .id) (is-action .result) (is-action .ensures)
+    (start-step .given .0 .1 .0)
     (start-step .given .0 .1 .1 .0) (if1 .taken) by-action-at
 
 find-entity-requires : tie.Need-find-entity-requires
@@ -62,7 +64,8 @@ returns-3 c =
     let start = c .before .before .before .before .before .before in
     let args = start .args in
     let by-entity-not = entity-not (start .pre) (args .entity) (find-entity .result) (find-entity .ensures) (c .enum-told3 .given .1) in
-    literal-no-entity (asLimits (args .«at» .limits)) (start .pre .fair) (args .schema .now) (args .entity) (args .id) (is-action .result) (is-action .ensures) (if1 .left) by-entity-not
+    literal-no-entity (asLimits (args .«at» .limits)) (start .pre .fair) (args .schema .now) (args .entity) (args .id) (is-action .result)
+    (is-action .ensures) (if1 .left) by-entity-not
 
 returns-4 : tie.Need-returns-4
 returns-4 c =
@@ -73,7 +76,8 @@ returns-4 c =
     let args = start .args in
     let by-entity-at = entity-at (start .pre) (args .entity) (find-entity .result) (find-entity .ensures) (c .enum-told2 .given .0 .0)
     (c .enum-told2 .given .0 .1 .0) (c .enum-told2 .given .0 .1 .1 .0) (c .enum-told2 .given .1) in
-    literal-entity (asLimits (args .«at» .limits)) (start .pre .fair) (args .schema .now) (args .entity) (args .id) (is-action .result) (is-action .ensures) (c .enum-told2 .given .0 .1 .0)
+    literal-entity (asLimits (args .«at» .limits)) (start .pre .fair) (args .schema .now) (args .entity) (args .id) (is-action .result) (is-action .ensures)
+    (c .enum-told2 .given .0 .1 .0)
     (c .enum-told2 .given .0 .1 .1 .0) (if1 .left) by-entity-at
 
 pub find-literal-spec : {M : Type 1} → statement M

@@ -1,6 +1,5 @@
 use native.Mathlib.Omega.{arith}
 use mathlib.Core.Path.{ap}
-use Rattle.forms.specs.Laws.Parts.{length-part}
 use Rattle.attributes.specs.Literal.{literalLength}
 use Rattle.attributes.specs.Laws.Literal.{laid-body, action-room, copy-room, action-written, entity-written}
 use borrow.Author.Needs.{needs}

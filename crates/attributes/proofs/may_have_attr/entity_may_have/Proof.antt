@@ -1,4 +1,3 @@
-use borrow.Author.Needs.{needs}
 use native.Mathlib.Omega.{arith}
 use Rattle.forms.specs.Limits.{asLimits}
 use Rattle.cedar.specs.Attribute.{mayHaveNames}
@@ -15,7 +14,8 @@ use Rattle.forms.proofs.numbers.u16_at.Reads as u16-at-reads
 
 abbrev Inv-loop : tie.InvT-loop
 Inv-loop schema sections types n name e₀ left₀ e left =
-    Ahead (mayHaveNames (decS (asLimits (sections .limits)) schema) name (namesBy 2 n types)) (mayHaveNames (decS (asLimits (sections .limits)) schema) name) left e
+    Ahead (mayHaveNames (decS (asLimits (sections .limits)) schema) name (namesBy 2 n types)) (mayHaveNames (decS (asLimits
+    (sections .limits)) schema) name) left e
 
 abbrev μ-loop : tie.MeasureT-loop
 μ-loop schema sections types n name e₀ left₀ e left = left

@@ -22,7 +22,8 @@ returns c =
     let found = c .before .before .entity-attribute in
     let args = c .before .before .before .before .args in
     let given = c .enum-told .given in
-    found-may-have (asLimits (args .«at» .limits)) (args .schema .now) (args .entity) (args .name) (found .result) (found .ensures) (given .0 .0) (given .0 .1 .0) (given .0 .1 .1 .0)
+    found-may-have (asLimits (args .«at» .limits)) (args .schema .now) (args .entity) (args .name) (found .result) (found .ensures) (given .0 .0)
+    (given .0 .1 .0) (given .0 .1 .1 .0)
     (given .1)
 
 returns-2 : tie.Need-returns-2

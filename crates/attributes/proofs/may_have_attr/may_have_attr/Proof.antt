@@ -45,7 +45,8 @@ entity-may-have-requires c κs =
     let match-keys4 = c .before .before .match in
     let start = c .before .before .before .before .before .before in
     let args = start .args in
-    let by-entity-names = entity-names (decS (asLimits (args .«at» .limits)) (args .schema .now)) (args .name) (args .«at» .limits .levels) (args .t .now) (start .pre .1) (match-keys4 .keys4)
+    let by-entity-names = entity-names (decS (asLimits (args .«at» .limits)) (args .schema .now)) (args .name) (args .«at» .limits .levels) (args .t .now)
+    (start .pre .1) (match-keys4 .keys4)
     (c .u16-at .result) (c .u16-at .ensures .0) in
     (start .pre .0, omega (arith, by-entity-names, length-rest 3 (args .t .now)))
 
@@ -56,19 +57,22 @@ returns : tie.Need-returns
 returns c =
     let start = c .before .before .before .before in
     let args = start .args in
-    never-is (decS (asLimits (args .«at» .limits)) (args .schema .now)) (args .name) (args .«at» .limits .levels) (args .t .now) (start .pre .1) (c .match .keys1)
+    never-is (decS (asLimits (args .«at» .limits)) (args .schema .now)) (args .name) (args .«at» .limits .levels) (args .t .now) (start .pre .1)
+    (c .match .keys1)
 
 returns-2 : tie.Need-returns-2
 returns-2 c =
     let start = c .before .before .before .before in
     let args = start .args in
-    any-entity-is (decS (asLimits (args .«at» .limits)) (args .schema .now)) (args .name) (args .«at» .limits .levels) (args .t .now) (start .pre .1) (c .match .keys2)
+    any-entity-is (decS (asLimits (args .«at» .limits)) (args .schema .now)) (args .name) (args .«at» .limits .levels) (args .t .now) (start .pre .1)
+    (c .match .keys2)
 
 returns-3 : tie.Need-returns-3
 returns-3 c =
     let start = c .before .before .before .before .before in
     let args = start .args in
-    record-is (decS (asLimits (args .«at» .limits)) (args .schema .now)) (args .name) (args .«at» .limits .levels) (args .t .now) (start .pre .1) (c .before .match .keys3) (c .record-may-have .result)
+    record-is (decS (asLimits (args .«at» .limits)) (args .schema .now)) (args .name) (args .«at» .limits .levels) (args .t .now) (start .pre .1)
+    (c .before .match .keys3) (c .record-may-have .result)
     (c .record-may-have .ensures)
 
 returns-4 : tie.Need-returns-4
@@ -77,21 +81,24 @@ returns-4 c =
     let match-keys4 = c .before .before .before .match in
     let start = c .before .before .before .before .before .before .before in
     let args = start .args in
-    entity-is (decS (asLimits (args .«at» .limits)) (args .schema .now)) (args .name) (args .«at» .limits .levels) (args .t .now) (start .pre .1) (match-keys4 .keys4) (u16-at .result) (u16-at .ensures .0)
+    entity-is (decS (asLimits (args .«at» .limits)) (args .schema .now)) (args .name) (args .«at» .limits .levels) (args .t .now) (start .pre .1)
+    (match-keys4 .keys4) (u16-at .result) (u16-at .ensures .0)
     (c .entity-may-have .result) (c .entity-may-have .ensures)
 
 returns-5 : tie.Need-returns-5
 returns-5 c =
     let start = c .before .before .before .before .before in
     let args = start .args in
-    action-is (decS (asLimits (args .«at» .limits)) (args .schema .now)) (args .name) (args .«at» .limits .levels) (args .t .now) (start .pre .1) (c .before .match .keys5) (c .lists-attribute .result)
+    action-is (decS (asLimits (args .«at» .limits)) (args .schema .now)) (args .name) (args .«at» .limits .levels) (args .t .now) (start .pre .1)
+    (c .before .match .keys5) (c .lists-attribute .result)
     (c .lists-attribute .ensures)
 
 returns-6 : tie.Need-returns-6
 returns-6 c =
     let start = c .before .before .before .before in
     let args = start .args in
-    other-is (decS (asLimits (args .«at» .limits)) (args .schema .now)) (args .name) (args .«at» .limits .levels) (args .t .now) (start .pre .1) (c .match .rest)
+    other-is (decS (asLimits (args .«at» .limits)) (args .schema .now)) (args .name) (args .«at» .limits .levels) (args .t .now) (start .pre .1)
+    (c .match .rest)
 
 pub may-have-attr-spec : {M : Type 1} → statement M
 may-have-attr-spec =

@@ -198,7 +198,8 @@ argument-fits-returns-5 t c =
 
 abbrev arguments-fit-Inv-loop : arguments-fit-lts.InvT-loop
 arguments-fit-Inv-loop schema sections asked v levels n end e₀ b₀ left₀ k₀ e b left k =
-    ArgumentsAhead levels (decS (asLimits (sections .limits)) schema) (ofArguments shorter (decS (asLimits (sections .limits)) schema) (argumentsOf levels v) (argsOf asked)) left e b k
+    ArgumentsAhead levels (decS (asLimits (sections .limits)) schema) (ofArguments shorter (decS (asLimits (sections .limits)) schema)
+    (argumentsOf levels v) (argsOf asked)) left e b k
 
 abbrev arguments-fit-μ-loop : arguments-fit-lts.MeasureT-loop
 arguments-fit-μ-loop schema sections asked v levels n end e₀ b₀ left₀ k₀ e b left k = left
@@ -526,7 +527,8 @@ call-returns-returns-4 t c =
     let f = f-step .given .0 .0 in
     let g = function-at (s .pre .1 .0) (u16-at .result) (y .result) (y .ensures) f (f-step .given .1) in
     let args = s .args in
-    c .arguments-fit .ensures ∙ call-arguments (decS (asLimits (args .sections .limits)) (args .schema .now)) (u16-at .result) (rd (args .v .now) 1) (args .extension) (u16-at .ensures .0)
+    c .arguments-fit .ensures ∙ call-arguments (decS (asLimits (args .sections .limits)) (args .schema .now)) (u16-at .result) (rd (args .v .now) 1)
+    (args .extension) (u16-at .ensures .0)
     (argumentsOf (args .levels) (args .v .now)) (f .returns) (f .extension) _ (g .is) (if1 .left) (if2 .left)
 
 pub +argument-fits+arguments-fit+call-returns-spec : {M : Type 1} → statement M

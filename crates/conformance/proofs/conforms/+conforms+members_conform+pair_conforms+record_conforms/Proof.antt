@@ -804,7 +804,8 @@ pair-conforms-returns-2 t c =
 
 abbrev record-conforms-Inv-loop : record-conforms-lts.InvT-loop
 record-conforms-Inv-loop schema sections t v levels m n p q f₀ c₀ e₀ b₀ ahead₀ left₀ f c e b ahead left =
-    RecordAhead levels (decS (asLimits (sections .limits)) schema) (isOpen t) (recordSaid (decS (asLimits (sections .limits)) schema) (isOpen t) (attributesOf levels t) (pairsOf levels v))
+    RecordAhead levels (decS (asLimits (sections .limits)) schema) (isOpen t) (recordSaid (decS (asLimits (sections .limits)) schema) (isOpen t)
+    (attributesOf levels t) (pairsOf levels v))
     (verdict (hasRequired (attributesOf levels t) (pairsOf levels v))) ahead f c left e b
 
 abbrev record-conforms-μ-loop : record-conforms-lts.MeasureT-loop

@@ -15,7 +15,8 @@ answer-number-requires c κs =
     let all-attributes = c .before .before .before .before in
     let start = all-attributes .before .before .before .before .before .before .before in
     let args = start .args in
-    let by-names-call-short = names-call-short (within (args .levels) (args .bytes)) (args .schema .now) (args .t .now) (length (args .out .now)) (length (args .work .now)) in
+    let by-names-call-short = names-call-short (within (args .levels) (args .bytes)) (args .schema .now) (args .t .now) (length (args .out .now)) (length
+    (args .work .now)) in
     brief (all-attributes .all-attributes .result) by-names-call-short (all-attributes .all-attributes .ensures .answer)
 
 same-length : tie.Need-same-length

@@ -14,7 +14,8 @@ answer-number-requires : tie.Need-answer-number-requires
 answer-number-requires c κs =
     let start = c .before .before .before .before .before .before in
     let at-convert = c .before .before in
-    brief (at-convert .convert .result) (convert-short (within (start .args .levels) (start .args .bytes)) (start .args .t .now) (length (start .args .out .now))) ((at-convert .convert .ensures) .answer)
+    brief (at-convert .convert .result) (convert-short (within (start .args .levels) (start .args .bytes)) (start .args .t .now) (length
+    (start .args .out .now))) ((at-convert .convert .ensures) .answer)
 
 same-length : tie.Need-same-length
 same-length c = search needs

@@ -15,7 +15,8 @@ answer-number-requires c κs =
     let euid-literal = c .before .before in
     let start = euid-literal .before .before .before .before .before in
     let args = start .args in
-    brief (euid-literal .euid-literal .result) (literal-short (within (args .levels) (args .bytes)) (args .schema .now) (args .v .now) (length (args .out .now)))
+    brief (euid-literal .euid-literal .result) (literal-short (within (args .levels) (args .bytes)) (args .schema .now) (args .v .now) (length
+    (args .out .now)))
     (euid-literal .euid-literal .ensures .answer)
 
 same-length : tie.Need-same-length

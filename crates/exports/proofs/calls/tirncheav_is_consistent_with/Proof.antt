@@ -13,7 +13,8 @@ is-consistent-with-requires c κs = search needs
 answer-number-requires : tie.Need-answer-number-requires
 answer-number-requires c κs =
     let start = c .before .before .before in
-    brief (c .is-consistent-with .result) (consistent-short (within (start .args .levels) (start .args .bytes)) (start .args .t0 .now) (start .args .t1 .now)) (c .is-consistent-with .ensures)
+    brief (c .is-consistent-with .result) (consistent-short (within (start .args .levels) (start .args .bytes)) (start .args .t0 .now)
+    (start .args .t1 .now)) (c .is-consistent-with .ensures)
 
 returns : tie.Need-returns
 returns c =

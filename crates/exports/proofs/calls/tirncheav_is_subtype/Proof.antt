@@ -14,7 +14,8 @@ answer-number-requires : tie.Need-answer-number-requires
 answer-number-requires c κs =
     let start = c .before .before .before .before in
     let args = start .args in
-    brief (c .is-subtype .result) (subtype-short (within (args .levels) (args .bytes)) (args .schema .now) (args .mode) (args .t0 .now) (args .t1 .now)) (c .is-subtype .ensures)
+    brief (c .is-subtype .result) (subtype-short (within (args .levels) (args .bytes)) (args .schema .now) (args .mode) (args .t0 .now) (args .t1 .now))
+    (c .is-subtype .ensures)
 
 returns : tie.Need-returns
 returns c =

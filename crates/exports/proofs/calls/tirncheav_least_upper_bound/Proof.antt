@@ -15,7 +15,8 @@ answer-number-requires c κs =
     let least-upper-bound = c .before .before in
     let start = least-upper-bound .before .before .before .before .before .before in
     let args = start .args in
-    let by-bound-short = bound-short (within (args .levels) (args .bytes)) (args .schema .now) (args .mode) (args .t0 .now) (args .t1 .now) (length (args .out .now)) in
+    let by-bound-short = bound-short (within (args .levels) (args .bytes)) (args .schema .now) (args .mode) (args .t0 .now) (args .t1 .now) (length
+    (args .out .now)) in
     brief (least-upper-bound .least-upper-bound .result) by-bound-short (least-upper-bound .least-upper-bound .ensures .answer)
 
 same-length : tie.Need-same-length

@@ -16,7 +16,8 @@ answer-number-requires c κs =
     let start = lookup-attribute-type .before .before .before .before .before .before .before in
     let args = start .args in
     let lookup-attribute-type-2 = lookup-attribute-type .lookup-attribute-type in
-    let by-lookup-short = lookup-short (within (args .levels) (args .bytes)) (args .schema .now) (args .attr) (args .t .now) (length (args .out .now)) (length (args .work .now)) in
+    let by-lookup-short = lookup-short (within (args .levels) (args .bytes)) (args .schema .now) (args .attr) (args .t .now) (length (args .out .now))
+    (length (args .work .now)) in
     brief (lookup-attribute-type-2 .result) by-lookup-short (lookup-attribute-type-2 .ensures .answer)
 
 same-length : tie.Need-same-length

@@ -13,7 +13,8 @@ may-have-attr-requires c κs = search needs
 answer-number-requires : tie.Need-answer-number-requires
 answer-number-requires c κs =
     let start = c .before .before .before in
-    brief (c .may-have-attr .result) (may-have-short (within (start .args .levels) (start .args .bytes)) (start .args .schema .now) (start .args .attr) (start .args .t .now)) (c .may-have-attr .ensures)
+    brief (c .may-have-attr .result) (may-have-short (within (start .args .levels) (start .args .bytes)) (start .args .schema .now) (start .args .attr)
+    (start .args .t .now)) (c .may-have-attr .ensures)
 
 returns : tie.Need-returns
 returns c =

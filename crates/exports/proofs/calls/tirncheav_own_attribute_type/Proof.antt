@@ -16,7 +16,8 @@ part-number-requires c κs =
     let known = c .before in
     let start = known .before .before in
     let args = start .args in
-    narrow (within (args .levels) (args .bytes)) (args .schema .now) (args .attr) (args .t) (λ i. omega (arith, known .shared-slice-known2 .given i)) (c .own-attribute-part .result)
+    narrow (within (args .levels) (args .bytes)) (args .schema .now) (args .attr) (args .t) (λ i. omega (arith, known .shared-slice-known2 .given i))
+    (c .own-attribute-part .result)
     (c .own-attribute-part .ensures)
 
 returns : tie.Need-returns

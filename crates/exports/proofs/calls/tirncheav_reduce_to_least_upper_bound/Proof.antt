@@ -16,7 +16,8 @@ answer-number-requires c κs =
     let start = reduce-to-least-upper-bound .before .before .before .before .before .before .before in
     let args = start .args in
     let reduce-to-least-upper-bound-2 = reduce-to-least-upper-bound .reduce-to-least-upper-bound in
-    let by-fold-short = fold-short (within (args .levels) (args .bytes)) (args .schema .now) (args .mode) (args .list .now) (length (args .out .now)) (length (args .work .now)) in
+    let by-fold-short = fold-short (within (args .levels) (args .bytes)) (args .schema .now) (args .mode) (args .list .now) (length (args .out .now))
+    (length (args .work .now)) in
     brief (reduce-to-least-upper-bound-2 .result) by-fold-short (reduce-to-least-upper-bound-2 .ensures .answer)
 
 same-length : tie.Need-same-length

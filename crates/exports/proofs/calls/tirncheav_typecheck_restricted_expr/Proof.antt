@@ -14,7 +14,8 @@ answer-number-requires : tie.Need-answer-number-requires
 answer-number-requires c κs =
     let start = c .before .before .before .before in
     let args = start .args in
-    brief (c .typecheck-restricted-expr .result) (conforms-short (within (args .levels) (args .bytes)) (args .schema .now) (args .t .now) (args .v .now)) (c .typecheck-restricted-expr .ensures)
+    brief (c .typecheck-restricted-expr .result) (conforms-short (within (args .levels) (args .bytes)) (args .schema .now) (args .t .now) (args .v .now))
+    (c .typecheck-restricted-expr .ensures)
 
 returns : tie.Need-returns
 returns c =

@@ -31,7 +31,8 @@ answer-number-requires c κs =
     let start = all-attributes-checked .before .before .before .before .before .before .before .before in
     let args = start .args in
     let all-attributes-checked-2 = all-attributes-checked .all-attributes-checked in
-    let by-names-call-short = names-call-short (asLimits (limitsOf (again .check-again .result))) (args .schema .now) (args .t .now) (length (args .out .now)) (length (args .work .now)) in
+    let by-names-call-short = names-call-short (asLimits (limitsOf (again .check-again .result))) (args .schema .now) (args .t .now) (length
+    (args .out .now)) (length (args .work .now)) in
     brief (all-attributes-checked-2 .result) by-names-call-short (all-attributes-checked-2 .ensures .answer)
 
 same-length : tie.Need-same-length
@@ -47,7 +48,8 @@ returns c =
     let start = again .before .before .before .before .before in
     let args = start .args in
     checked-under (limitsIn (args .check)) (args .schema .now) (again .check-again .result) (again .check-again .ensures)
-    (λ (lim : Limits). NumberedIn (namesCall lim (args .schema .now) (args .t .now) (length (args .out .now)) (length (args .work .now))) (args .out .now) (call .all-attributes-checked .last .1 .1 .1 .0) (args .work .now)
+    (λ (lim : Limits). NumberedIn (namesCall lim (args .schema .now) (args .t .now) (length (args .out .now)) (length (args .work .now))) (args .out .now)
+    (call .all-attributes-checked .last .1 .1 .1 .0) (args .work .now)
     (call .all-attributes-checked .last .1 .1 .1 .1 .0) (c .answer-number .result))
     (numbered-in (c .answer-number .result) (c .answer-number .ensures) (call .all-attributes-checked .ensures))
 

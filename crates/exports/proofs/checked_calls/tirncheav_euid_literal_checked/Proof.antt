@@ -31,7 +31,8 @@ answer-number-requires c κs =
     let start = euid-literal-checked .before .before .before .before .before .before in
     let args = start .args in
     let euid-literal-checked-2 = euid-literal-checked .euid-literal-checked in
-    brief (euid-literal-checked-2 .result) (literal-short (asLimits (limitsOf (again .check-again .result))) (args .schema .now) (args .v .now) (length (args .out .now)))
+    brief (euid-literal-checked-2 .result) (literal-short (asLimits (limitsOf (again .check-again .result))) (args .schema .now) (args .v .now) (length
+    (args .out .now)))
     (euid-literal-checked-2 .ensures .answer)
 
 same-length : tie.Need-same-length
@@ -44,7 +45,8 @@ returns c =
     let start = again .before .before .before .before in
     let args = start .args in
     checked-under (limitsIn (args .check)) (args .schema .now) (again .check-again .result) (again .check-again .ensures)
-    (λ (lim : Limits). Numbered (literalCall lim (args .schema .now) (args .v .now) (length (args .out .now))) (args .out .now) (call .euid-literal-checked .last .1 .1 .1 .0) (c .answer-number .result))
+    (λ (lim : Limits). Numbered (literalCall lim (args .schema .now) (args .v .now) (length (args .out .now))) (args .out .now)
+    (call .euid-literal-checked .last .1 .1 .1 .0) (c .answer-number .result))
     (numbered (c .answer-number .result) (c .answer-number .ensures) (call .euid-literal-checked .ensures))
 
 pub tirncheav-euid-literal-checked-spec : {M : Type 1} → statement M

@@ -26,7 +26,8 @@ answer-number-requires c κs =
     let again = c .before in
     let start = c .before .before .before .before .before in
     let args = start .args in
-    brief (c .is-subtype-checked .result) (subtype-short (asLimits (limitsOf (again .check-again .result))) (args .schema .now) (args .mode) (args .t0 .now) (args .t1 .now)) (c .is-subtype-checked .ensures)
+    brief (c .is-subtype-checked .result) (subtype-short (asLimits (limitsOf (again .check-again .result))) (args .schema .now) (args .mode) (args .t0 .now)
+    (args .t1 .now)) (c .is-subtype-checked .ensures)
 
 returns : tie.Need-returns
 returns c =

@@ -31,7 +31,8 @@ answer-number-requires c κs =
     let start = least-upper-bound-checked .before .before .before .before .before .before .before in
     let args = start .args in
     let least-upper-bound-checked-2 = least-upper-bound-checked .least-upper-bound-checked in
-    let by-bound-short = bound-short (asLimits (limitsOf (again .check-again .result))) (args .schema .now) (args .mode) (args .t0 .now) (args .t1 .now) (length (args .out .now)) in
+    let by-bound-short = bound-short (asLimits (limitsOf (again .check-again .result))) (args .schema .now) (args .mode) (args .t0 .now) (args .t1 .now)
+    (length (args .out .now)) in
     brief (least-upper-bound-checked-2 .result) by-bound-short (least-upper-bound-checked-2 .ensures .answer)
 
 same-length : tie.Need-same-length
@@ -44,7 +45,8 @@ returns c =
     let start = again .before .before .before .before .before in
     let args = start .args in
     checked-under (limitsIn (args .check)) (args .schema .now) (again .check-again .result) (again .check-again .ensures)
-    (λ (lim : Limits). Numbered (boundCall lim (args .mode) (args .schema .now) (args .t0 .now) (args .t1 .now) (length (args .out .now))) (args .out .now) (call .least-upper-bound-checked .last .1 .1 .1 .1 .1 .0) (c .answer-number .result))
+    (λ (lim : Limits). Numbered (boundCall lim (args .mode) (args .schema .now) (args .t0 .now) (args .t1 .now) (length (args .out .now))) (args .out .now)
+    (call .least-upper-bound-checked .last .1 .1 .1 .1 .1 .0) (c .answer-number .result))
     (numbered (c .answer-number .result) (c .answer-number .ensures) (call .least-upper-bound-checked .ensures))
 
 pub tirncheav-least-upper-bound-checked-spec : {M : Type 1} → statement M

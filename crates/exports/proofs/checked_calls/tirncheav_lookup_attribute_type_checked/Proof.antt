@@ -31,7 +31,8 @@ answer-number-requires c κs =
     let start = lookup-attribute-type-checked .before .before .before .before .before .before .before .before in
     let args = start .args in
     let lookup-attribute-type-checked-2 = lookup-attribute-type-checked .lookup-attribute-type-checked in
-    let by-lookup-short = lookup-short (asLimits (limitsOf (again .check-again .result))) (args .schema .now) (args .attr) (args .t .now) (length (args .out .now)) (length (args .work .now)) in
+    let by-lookup-short = lookup-short (asLimits (limitsOf (again .check-again .result))) (args .schema .now) (args .attr) (args .t .now) (length
+    (args .out .now)) (length (args .work .now)) in
     brief (lookup-attribute-type-checked-2 .result) by-lookup-short (lookup-attribute-type-checked-2 .ensures .answer)
 
 same-length : tie.Need-same-length
@@ -47,7 +48,8 @@ returns c =
     let start = again .before .before .before .before .before in
     let args = start .args in
     checked-under (limitsIn (args .check)) (args .schema .now) (again .check-again .result) (again .check-again .ensures)
-    (λ (lim : Limits). NumberedIn (lookupCall lim (args .schema .now) (args .attr) (args .t .now) (length (args .out .now)) (length (args .work .now))) (args .out .now) (call .lookup-attribute-type-checked .last .1 .1 .1 .1 .0) (args .work .now)
+    (λ (lim : Limits). NumberedIn (lookupCall lim (args .schema .now) (args .attr) (args .t .now) (length (args .out .now)) (length (args .work .now)))
+    (args .out .now) (call .lookup-attribute-type-checked .last .1 .1 .1 .1 .0) (args .work .now)
     (call .lookup-attribute-type-checked .last .1 .1 .1 .1 .1 .0) (c .answer-number .result))
     (numbered-in (c .answer-number .result) (c .answer-number .ensures) (call .lookup-attribute-type-checked .ensures))
 

@@ -28,7 +28,8 @@ answer-number-requires c κs =
     let again = c .before in
     let start = c .before .before .before .before in
     let args = start .args in
-    brief (c .may-have-attr-checked .result) (may-have-short (asLimits (limitsOf (again .check-again .result))) (args .schema .now) (args .attr) (args .t .now)) (c .may-have-attr-checked .ensures)
+    brief (c .may-have-attr-checked .result) (may-have-short (asLimits (limitsOf (again .check-again .result))) (args .schema .now) (args .attr)
+    (args .t .now)) (c .may-have-attr-checked .ensures)
 
 returns : tie.Need-returns
 returns c =

@@ -31,7 +31,8 @@ part-number-requires c κs =
     let known = c .before .before in
     let start = known .before .before in
     let args = start .args in
-    narrow (asLimits (limitsOf (again .check-again .result))) (args .schema .now) (args .attr) (args .t) (λ i. omega (arith, known .shared-slice-known2 .given i)) (c .own-attribute-part-checked .result)
+    narrow (asLimits (limitsOf (again .check-again .result))) (args .schema .now) (args .attr) (args .t) (λ i. omega
+    (arith, known .shared-slice-known2 .given i)) (c .own-attribute-part-checked .result)
     (c .own-attribute-part-checked .ensures)
 
 returns : tie.Need-returns
@@ -41,7 +42,8 @@ returns c =
     let start = again .before .before .before in
     let args = start .args in
     checked-under (limitsIn (args .check)) (args .schema .now) (again .check-again .result) (again .check-again .ensures)
-    (λ (lim : Limits). c .part-number .result ≡ partNumber (partOf (ownAttributeCall lim (args .schema .now) (args .attr) (args .t .now)) (bodyIn lim (args .attr) (args .t .now))))
+    (λ (lim : Limits). c .part-number .result ≡ partNumber (partOf (ownAttributeCall lim (args .schema .now) (args .attr) (args .t .now)) (bodyIn lim
+    (args .attr) (args .t .now))))
     (c .part-number .ensures ∙ ap partNumber (call .own-attribute-part-checked .ensures))
 
 pub tirncheav-own-attribute-type-checked-spec : {M : Type 1} → statement M

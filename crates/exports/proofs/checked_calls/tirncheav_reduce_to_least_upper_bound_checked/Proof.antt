@@ -32,7 +32,8 @@ answer-number-requires c κs =
     let start = reduce-to-least-upper-bound-checked .before .before .before .before .before .before .before .before in
     let args = start .args in
     let reduce-to-least-upper-bound-checked-2 = reduce-to-least-upper-bound-checked .reduce-to-least-upper-bound-checked in
-    let by-fold-short = fold-short (asLimits (limitsOf (again .check-again .result))) (args .schema .now) (args .mode) (args .list .now) (length (args .out .now)) (length (args .work .now)) in
+    let by-fold-short = fold-short (asLimits (limitsOf (again .check-again .result))) (args .schema .now) (args .mode) (args .list .now) (length
+    (args .out .now)) (length (args .work .now)) in
     brief (reduce-to-least-upper-bound-checked-2 .result) by-fold-short (reduce-to-least-upper-bound-checked-2 .ensures .answer)
 
 same-length : tie.Need-same-length
@@ -48,7 +49,8 @@ returns c =
     let start = again .before .before .before .before .before in
     let args = start .args in
     checked-under (limitsIn (args .check)) (args .schema .now) (again .check-again .result) (again .check-again .ensures)
-    (λ (lim : Limits). NumberedIn (foldCall lim (args .mode) (args .schema .now) (args .list .now) (length (args .out .now)) (length (args .work .now))) (args .out .now) (call .reduce-to-least-upper-bound-checked .last .1 .1 .1 .1 .0) (args .work .now)
+    (λ (lim : Limits). NumberedIn (foldCall lim (args .mode) (args .schema .now) (args .list .now) (length (args .out .now)) (length (args .work .now)))
+    (args .out .now) (call .reduce-to-least-upper-bound-checked .last .1 .1 .1 .1 .0) (args .work .now)
     (call .reduce-to-least-upper-bound-checked .last .1 .1 .1 .1 .1 .0) (c .answer-number .result))
     (numbered-in (c .answer-number .result) (c .answer-number .ensures) (call .reduce-to-least-upper-bound-checked .ensures))
 

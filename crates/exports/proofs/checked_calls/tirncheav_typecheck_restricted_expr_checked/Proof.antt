@@ -28,7 +28,8 @@ answer-number-requires c κs =
     let again = c .before in
     let start = c .before .before .before .before .before in
     let args = start .args in
-    brief (c .typecheck-restricted-expr-checked .result) (conforms-short (asLimits (limitsOf (again .check-again .result))) (args .schema .now) (args .t .now) (args .v .now))
+    brief (c .typecheck-restricted-expr-checked .result) (conforms-short (asLimits (limitsOf (again .check-again .result))) (args .schema .now)
+    (args .t .now) (args .v .now))
     (c .typecheck-restricted-expr-checked .ensures)
 
 returns : tie.Need-returns

@@ -31,7 +31,8 @@ loop-holds : tie.Need-loop-holds Inv-loop μ-loop
 loop-holds c =
     let start = c .before .before .before .before in
     let args = start .args in
-    let by-folding-start = folding-start (asLimits (args .limits)) (length (args .work .now)) (asMode (args .mode)) (args .len) (args .last .now) (args .n) (args .lengths .now)
+    let by-folding-start = folding-start (asLimits (args .limits)) (length (args .work .now)) (asMode (args .mode)) (args .len) (args .last .now) (args .n)
+    (args .lengths .now)
     (args .bytes .now) (start .pre .0) (start .pre .1) in
     (by-folding-start, refl, refl)
 
@@ -98,7 +99,8 @@ returns c =
     let join-step = after-join-step .join-step in
     let subst-loop-inv = subst (λ (w : ℕ). Stepped (asLimits (start .args .limits))
     (bound (asMode (start .args .mode)) (dec (start .args .limits .levels) (part 0 (at-loop .loop .to) (at-loop .loop .last)))
-    (dec (start .args .limits .levels) (part 0 (after-u16-at .u16-at .result) (at-loop .loop .b .now)))) w (join-step .last .1 .0) (join-step .result)) (at-loop .loop .inv .1)
+    (dec (start .args .limits .levels) (part 0 (after-u16-at .u16-at .result) (at-loop .loop .b .now)))) w (join-step .last .1 .0) (join-step .result))
+    (at-loop .loop .inv .1)
     (join-step .ensures) in
     folding-not (at-loop .loop .inv .0) (in-loop .loop-test .taken) (after-u16-at .u16-at .result) (after-u16-at .u16-at .ensures .0) (join-step .last .1 .0)
     (join-step .result) subst-loop-inv (after-reason .reason .given .0 .0) (after-reason .reason .given .1)
@@ -129,7 +131,8 @@ returns-2 c =
     let join-step = after-join-step .join-step in
     let subst-loop-inv = subst (λ (w : ℕ). Stepped (asLimits (start .args .limits))
     (bound (asMode (start .args .mode)) (dec (start .args .limits .levels) (part 0 (at-loop .loop .to) (at-loop .loop .last)))
-    (dec (start .args .limits .levels) (part 0 (after-u16-at .u16-at .result) (at-loop .loop .b .now)))) w (join-step .last .1 .0) (join-step .result)) (at-loop .loop .inv .1)
+    (dec (start .args .limits .levels) (part 0 (after-u16-at .u16-at .result) (at-loop .loop .b .now)))) w (join-step .last .1 .0) (join-step .result))
+    (at-loop .loop .inv .1)
     (join-step .ensures) in
     folding-too-long (at-loop .loop .inv .0) (in-loop .loop-test .taken) (after-u16-at .u16-at .result) (after-u16-at .u16-at .ensures .0)
     (join-step .last .1 .0) (join-step .result) subst-loop-inv (c .enum-told .given .1)
@@ -187,7 +190,8 @@ loop-again c =
     let join-step = after-join-step .join-step in
     let subst-loop-inv = subst (λ (w : ℕ). Stepped (asLimits (start .args .limits))
     (bound (asMode (start .args .mode)) (dec (start .args .limits .levels) (part 0 (at-loop .loop .to) (at-loop .loop .last)))
-    (dec (start .args .limits .levels) (part 0 (after-u16-at .u16-at .result) (at-loop .loop .b .now)))) w (join-step .last .1 .0) (join-step .result)) (at-loop .loop .inv .1)
+    (dec (start .args .limits .levels) (part 0 (after-u16-at .u16-at .result) (at-loop .loop .b .now)))) w (join-step .last .1 .0) (join-step .result))
+    (at-loop .loop .inv .1)
     (join-step .ensures) in
     let by-folding-next = folding-next (at-loop .loop .inv .0) (in-loop .loop-test .taken) (after-u16-at .u16-at .result) (after-u16-at .u16-at .ensures .0)
     (join-step .last .1 .0) (join-step .result) subst-loop-inv (after-m .m .given .0 .0) (after-m .m .given .1) in

@@ -55,7 +55,8 @@ fold-onto-requires c κs =
     let after-u16-at = c .before .before .before .before in
     let start = after-u16-at .before .before .before .before in
     let args = start .args in
-    let by-list-sound = list-sound (asLimits (args .limits)) (args .list .now) (args .last .now) (start .pre) (after-u16-at .u16-at .result) (after-u16-at .u16-at .ensures .0) in
+    let by-list-sound = list-sound (asLimits (args .limits)) (args .list .now) (args .last .now) (start .pre) (after-u16-at .u16-at .result)
+    (after-u16-at .u16-at .ensures .0) in
     (never-held (asLimits (args .limits)) (args .list .now) (args .last .now) (start .pre), by-list-sound)
 
 same-length : tie.Need-same-length
@@ -74,7 +75,8 @@ returns c =
     let start = after-u16-at .before .before .before .before in
     let args = start .args in
     let fold-onto = after-fold-onto .fold-onto in
-    list-folds (asLimits (args .limits)) (args .list .now) (args .last .now) (start .pre) (after-u16-at .u16-at .result) (after-u16-at .u16-at .ensures .0) (length (args .work .now))
+    list-folds (asLimits (args .limits)) (args .list .now) (args .last .now) (start .pre) (after-u16-at .u16-at .result) (after-u16-at .u16-at .ensures .0)
+    (length (args .work .now))
     (asMode (args .mode)) (fold-onto .last .1 .0) (fold-onto .result) (fold-onto .ensures)
 
 pub fold-types-spec : {M : Type 1} → statement M

@@ -118,7 +118,8 @@ write-bound-requires c κs =
     (λ i. after-shared-slice-known .shared-slice-known .given i .fits) in
     let ready = step-ready (asMode (args .mode)) from (said .result) (said .ensures) (length (args .work .now)) (after-n .n .given .0 .0) (after-n .n .given .1)
     (else1 .if1 .left) (else2 .if2 .left) room (omega (arith, length-rest half (args .work .now), else1 .if1 .left)) in
-    let exact = step-length (asMode (args .mode)) from (said .result) (said .ensures) (length (args .work .now)) (after-n .n .given .0 .0) (after-n .n .given .1)
+    let exact = step-length (asMode (args .mode)) from (said .result) (said .ensures) (length (args .work .now)) (after-n .n .given .0 .0)
+    (after-n .n .given .1)
     (else1 .if1 .left) (else2 .if2 .left) in
     (pre .0 .good, (pre .1, (ready, λ p. exact)))
 
@@ -200,7 +201,8 @@ write-bound-requires-2 c κs =
     (λ i. after-shared-slice-known .shared-slice-known .given i .fits) in
     let ready = step-ready (asMode (args .mode)) from (said .result) (said .ensures) (length (args .work .now)) (after-n .n .given .0 .0) (after-n .n .given .1)
     (else1 .if1 .left) (else2 .if2 .left) room (omega (arith, length-take half (args .work .now), else1 .if1 .left)) in
-    let exact = step-length (asMode (args .mode)) from (said .result) (said .ensures) (length (args .work .now)) (after-n .n .given .0 .0) (after-n .n .given .1)
+    let exact = step-length (asMode (args .mode)) from (said .result) (said .ensures) (length (args .work .now)) (after-n .n .given .0 .0)
+    (after-n .n .given .1)
     (else1 .if1 .left) (else2 .if2 .left) in
     (pre .0 .good, (pre .1, (ready, λ p. exact)))
 

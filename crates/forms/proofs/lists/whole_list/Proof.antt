@@ -1,10 +1,8 @@
 use mathlib.Core.Path.{sym, _∙_}
 use mathlib.Core.Bool.{false}
-use Prim.Native.Nat.{_+_, _*_}
 use Rattle.forms.specs.Limits.{asLimits}
 use Rattle.cedar.specs.ListForm.{parseList}
 use Rattle.cedar.specs.Whole.{wholeType}
-use Rattle.forms.specs.Laws.Parts.{length-part}
 use Rattle.forms.specs.Laws.Sure.{within-over, within-yes}
 use Rattle.forms.specs.Laws.Lists.{list-twin, list-short, list-many, list-over, list-open}
 use native.Mathlib.Omega.{arith}
@@ -18,12 +16,14 @@ use Rattle.forms.proofs.numbers.u16_at.Reads as u16-at-reads
 returns : tie.Need-returns
 returns c =
     let args = c .before .before .args in
-    within-over 32768 (parseList (λ c. wholeType (asLimits (args .limits)) c)) (args .l .now) (list-twin (asLimits (args .limits)) (args .l .now)) (c .if1 .taken)
+    within-over 32768 (parseList (λ c. wholeType (asLimits (args .limits)) c)) (args .l .now) (list-twin (asLimits (args .limits)) (args .l .now))
+    (c .if1 .taken)
 
 returns-2 : tie.Need-returns-2
 returns-2 c =
     let args = c .before .before .before .args in
-    within-yes 32768 (parseList (λ c. wholeType (asLimits (args .limits)) c)) (args .l .now) (list-twin (asLimits (args .limits)) (args .l .now)) (c .before .if1 .left)
+    within-yes 32768 (parseList (λ c. wholeType (asLimits (args .limits)) c)) (args .l .now) (list-twin (asLimits (args .limits)) (args .l .now))
+    (c .before .if1 .left)
     false (list-short (asLimits (args .limits)) (args .l .now) (c .if2 .taken))
 
 u16-at-requires : tie.Need-u16-at-requires
@@ -81,7 +81,8 @@ returns-5 c =
     let if1 = c .before .before .before .before .before .before .before .if1 in
     let args = c .before .before .before .before .before .before .before .before .before .args in
     let by-list-open = list-open (asLimits (args .limits)) (args .l .now) (u16-at .result) (u16-at .ensures .0) (if2 .left) (if3 .left) (if4 .left) in
-    within-yes 32768 (parseList (λ c. wholeType (asLimits (args .limits)) c)) (args .l .now) (list-twin (asLimits (args .limits)) (args .l .now)) (if1 .left) (c .types-within .result)
+    within-yes 32768 (parseList (λ c. wholeType (asLimits (args .limits)) c)) (args .l .now) (list-twin (asLimits (args .limits)) (args .l .now))
+    (if1 .left) (c .types-within .result)
     (c .types-within .ensures ∙ sym by-list-open)
 
 pub whole-list-spec : {M : Type 1} → statement M

@@ -19,7 +19,8 @@ type-within-requires c κs = omega arith
 returns-2 : tie.Need-returns-2
 returns-2 c =
     let args = c .before .before .before .before .args in
-    within-yes (args .limits .bytes) (parse (args .limits .levels)) (args .t .now) (type-twin (args .limits .levels) (args .t .now)) (c .before .if1 .left) (c .type-within .result) (c .type-within .ensures)
+    within-yes (args .limits .bytes) (parse (args .limits .levels)) (args .t .now) (type-twin (args .limits .levels) (args .t .now)) (c .before .if1 .left)
+    (c .type-within .result) (c .type-within .ensures)
 
 pub whole-type-spec : {M : Type 1} → statement M
 whole-type-spec = tie.close (tie.spec returns type-within-requires returns-2)

@@ -19,7 +19,8 @@ value-within-requires c κs = omega arith
 returns-2 : tie.Need-returns-2
 returns-2 c =
     let args = c .before .before .before .before .args in
-    within-yes (args .limits .bytes) (parseValue (args .limits .levels)) (args .v .now) (value-twin (args .limits .levels) (args .v .now)) (c .before .if1 .left) (c .value-within .result) (c .value-within .ensures)
+    within-yes (args .limits .bytes) (parseValue (args .limits .levels)) (args .v .now) (value-twin (args .limits .levels) (args .v .now))
+    (c .before .if1 .left) (c .value-within .result) (c .value-within .ensures)
 
 pub whole-value-spec : {M : Type 1} → statement M
 whole-value-spec = tie.close (tie.spec returns value-within-requires returns-2)

@@ -72,8 +72,10 @@ returns c =
     let at = start .args in
     asked-is _ _ _ _ _ subtypeOp (at .q .operation)
     (ap opOf (c .before .match .keys1))
-    (answered-quiet (at .result .now) (quiet-subtype (at .q .mode) (at .schema .now) (at .first .now) (at .second .now)) (checked-under jobLimits (at .schema .now) (at .check) (start .pre .1 .0)
-    (λ (lim : Limits). c .is-subtype-checked .result ≡ answerOf (subtypeCall lim (at .q .mode) (at .schema .now) (at .first .now) (at .second .now))) (c .is-subtype-checked .ensures)))
+    (answered-quiet (at .result .now) (quiet-subtype (at .q .mode) (at .schema .now) (at .first .now) (at .second .now)) (checked-under jobLimits
+    (at .schema .now) (at .check) (start .pre .1 .0)
+    (λ (lim : Limits). c .is-subtype-checked .result ≡ answerOf (subtypeCall lim (at .q .mode) (at .schema .now) (at .first .now) (at .second .now)))
+    (c .is-subtype-checked .ensures)))
 
 same-length : tie.Need-same-length
 same-length c = search needs
@@ -97,7 +99,8 @@ returns-3 c =
     let at = start .args in
     asked-is _ _ _ _ _ disjointOp (at .q .operation)
     (ap opOf (limits .before .match .keys3))
-    (answered-quiet (at .result .now) (quiet-disjoint (at .first .now) (at .second .now)) (subst (λ (lim : Limits). c .are-types-disjoint .result ≡ answerOf (disjointCall lim (at .first .now) (at .second .now))) (limits .standard .ensures)
+    (answered-quiet (at .result .now) (quiet-disjoint (at .first .now) (at .second .now)) (subst (λ (lim : Limits). c .are-types-disjoint .result ≡ answerOf
+    (disjointCall lim (at .first .now) (at .second .now))) (limits .standard .ensures)
     (c .are-types-disjoint .ensures)))
 
 same-length-2 : tie.Need-same-length-2
@@ -116,8 +119,10 @@ returns-5 c =
     let at = start .args in
     asked-is _ _ _ _ _ mayHaveOp (at .q .operation)
     (ap opOf (c .before .match .keys5))
-    (answered-quiet (at .result .now) (quiet-may-have (at .schema .now) (at .q .attribute) (at .first .now)) (checked-under jobLimits (at .schema .now) (at .check) (start .pre .1 .0)
-    (λ (lim : Limits). c .may-have-attr-checked .result ≡ answerOf (mayHaveCall lim (at .schema .now) (at .q .attribute) (at .first .now))) (c .may-have-attr-checked .ensures)))
+    (answered-quiet (at .result .now) (quiet-may-have (at .schema .now) (at .q .attribute) (at .first .now)) (checked-under jobLimits (at .schema .now)
+    (at .check) (start .pre .1 .0)
+    (λ (lim : Limits). c .may-have-attr-checked .result ≡ answerOf (mayHaveCall lim (at .schema .now) (at .q .attribute) (at .first .now)))
+    (c .may-have-attr-checked .ensures)))
 
 same-length-3 : tie.Need-same-length-3
 same-length-3 c = search needs
@@ -136,7 +141,8 @@ returns-7 c =
     let at = start .args in
     asked-is _ _ _ _ _ consistentOp (at .q .operation)
     (ap opOf (limits .before .match .keys7))
-    (answered-quiet (at .result .now) (quiet-consistent (at .first .now) (at .second .now)) (subst (λ (lim : Limits). c .is-consistent-with .result ≡ answerOf (consistentCall lim (at .first .now) (at .second .now))) (limits .standard2 .ensures)
+    (answered-quiet (at .result .now) (quiet-consistent (at .first .now) (at .second .now)) (subst (λ
+    (lim : Limits). c .is-consistent-with .result ≡ answerOf (consistentCall lim (at .first .now) (at .second .now))) (limits .standard2 .ensures)
     (c .is-consistent-with .ensures)))
 
 same-length-4 : tie.Need-same-length-4
@@ -150,7 +156,8 @@ returns-8 c =
     let start = limits .before .before .before .before .before .before in
     let at = start .args in
     let by-answered-room = answered-room (λ (n : ℕ). convertCall standard (at .first .now) n) (start .pre .1 .1)
-    (subst (λ (lim : Limits). Answered (convertCall lim (at .first .now) (length (at .result .now))) (at .result .now) (convert .last .1 .1 .0) (convert .result))
+    (subst (λ (lim : Limits). Answered (convertCall lim (at .first .now) (length (at .result .now))) (at .result .now) (convert .last .1 .1 .0)
+    (convert .result))
     (limits .standard3 .ensures) (convert .ensures)) in
     asked-is _ _ _ _ _ convertOp (at .q .operation) (ap opOf (match-keys8 .keys8)) by-answered-room
 
@@ -160,8 +167,10 @@ returns-9 c =
     let at = start .args in
     asked-is _ _ _ _ _ conformsOp (at .q .operation)
     (ap opOf (c .before .match .keys9))
-    (answered-quiet (at .result .now) (quiet-conforms (at .schema .now) (at .first .now) (at .second .now)) (checked-under jobLimits (at .schema .now) (at .check) (start .pre .1 .0)
-    (λ (lim : Limits). c .typecheck-restricted-expr-checked .result ≡ answerOf (conformsCall lim (at .schema .now) (at .first .now) (at .second .now))) (c .typecheck-restricted-expr-checked .ensures)))
+    (answered-quiet (at .result .now) (quiet-conforms (at .schema .now) (at .first .now) (at .second .now)) (checked-under jobLimits (at .schema .now)
+    (at .check) (start .pre .1 .0)
+    (λ (lim : Limits). c .typecheck-restricted-expr-checked .result ≡ answerOf (conformsCall lim (at .schema .now) (at .first .now) (at .second .now)))
+    (c .typecheck-restricted-expr-checked .ensures)))
 
 same-length-5 : tie.Need-same-length-5
 same-length-5 c = search needs

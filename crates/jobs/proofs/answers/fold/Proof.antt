@@ -28,7 +28,8 @@ returns c =
     let start = c .before .before .before .before .before .before .before .before .before in
     let args = start .args in
     let under = checked-under jobLimits (args .schema .now) (args .check) (start .pre .0)
-    (λ (lim : Limits). Answered (foldCall lim (args .mode) (args .schema .now) (args .list .now) (length (args .result .now)) jobWork) (args .result .now) (called .last .1 .1 .1 .1 .0) (called .result))
+    (λ (lim : Limits). Answered (foldCall lim (args .mode) (args .schema .now) (args .list .now) (length (args .result .now)) jobWork) (args .result .now)
+    (called .last .1 .1 .1 .1 .0) (called .result))
     (answered-in (called .ensures)) in
     answered-room (λ (n : ℕ). foldCall standard (args .mode) (args .schema .now) (args .list .now) n jobWork) (start .pre .1) under
 

@@ -28,7 +28,8 @@ returns-2 : tie.Need-returns-2
 returns-2 c =
     let limits = c .before .before .before .before in
     let args = limits .before .before .args in
-    ap Broken (job-limits (limits .standard .result) (limits .standard .ensures)) ∙ check-cut (args .job .now) (omega (arith, c .before .bodies-from .ensures, c .if2 .taken))
+    ap Broken (job-limits (limits .standard .result) (limits .standard .ensures)) ∙ check-cut (args .job .now) (omega
+    (arith, c .before .bodies-from .ensures, c .if2 .taken))
 
 sub-check-schema : tie.Need-sub-check-schema
 sub-check-schema c = search needs
@@ -52,7 +53,8 @@ returns-3 c =
     let by-check-part = check-part (start .args .job .now) (omega (arith, bodies .ensures, if2 .left)) (schema .result) (schema .ensures .0) (bodies .result)
     (bodies .ensures) in
     c .check-schema .ensures
-    ∙ ap (λ (l : LimitsStruct). checked l (part (schema .result) (bodies .result) (start .args .job .now))) (job-limits (limits .standard .result) (limits .standard .ensures))
+    ∙ ap (λ (l : LimitsStruct). checked l (part (schema .result) (bodies .result) (start .args .job .now))) (job-limits (limits .standard .result)
+    (limits .standard .ensures))
     ∙ by-check-part
 
 pub check-job-spec : {M : Type 1} → statement M

@@ -43,7 +43,8 @@ entity-names-requires c κs =
     let start = c .before .before .before .before .before .before .before .before .before .before .before .before in
     let pre = start .pre in
     let args = start .args in
-    let by-entity-named = entity-named (stepFits (asLimits (args .«at» .limits)) (length (args .work .now))) (decS (asLimits (args .«at» .limits)) (args .schema .now)) 0 (args .«at» .limits .levels) (args .t .now) (pre .1 .0 .good)
+    let by-entity-named = entity-named (stepFits (asLimits (args .«at» .limits)) (length (args .work .now))) (decS (asLimits (args .«at» .limits))
+    (args .schema .now)) 0 (args .«at» .limits .levels) (args .t .now) (pre .1 .0 .good)
     (match-keys1 .keys1) (u16-at .result) (u16-at .ensures .0) in
     (pre .0, (by-entity-named, (pre .1 .0 .room, pre .1 .1)))
 
@@ -65,7 +66,8 @@ write-names-requires c κs =
     let start = c .before .before .before .before .before .before .before .before .before .before in
     let pre = start .pre in
     let args = start .args in
-    record-entered (stepFits (asLimits (args .«at» .limits)) (length (args .work .now))) (decS (asLimits (args .«at» .limits)) (args .schema .now)) (args .«at» .limits .levels) (args .t .now) (pre .1 .0 .good) (args .kept .now)
+    record-entered (stepFits (asLimits (args .«at» .limits)) (length (args .work .now))) (decS (asLimits (args .«at» .limits)) (args .schema .now))
+    (args .«at» .limits .levels) (args .t .now) (pre .1 .0 .good) (args .kept .now)
     (omega (arith, pre .1 .0 .few, pre .1 .1 .0)) (pre .1 .1 .1) (u16-at2 .result) _ (match-keys2 .keys2) (u16-at2 .ensures .0) (entries-at .ensures)
 
 entries-at-requires-2 : tie.Need-entries-at-requires-2
@@ -86,7 +88,8 @@ write-names-requires-2 c κs =
     let start = c .before .before .before .before .before .before .before .before .before .before in
     let pre = start .pre in
     let args = start .args in
-    action-entered (stepFits (asLimits (args .«at» .limits)) (length (args .work .now))) (decS (asLimits (args .«at» .limits)) (args .schema .now)) (args .«at» .limits .levels) (args .t .now) (pre .1 .0 .good) (args .kept .now)
+    action-entered (stepFits (asLimits (args .«at» .limits)) (length (args .work .now))) (decS (asLimits (args .«at» .limits)) (args .schema .now))
+    (args .«at» .limits .levels) (args .t .now) (pre .1 .0 .good) (args .kept .now)
     (omega (arith, pre .1 .0 .few, pre .1 .1 .0)) (pre .1 .1 .1) (u16-at3 .result) _ (match-keys3 .keys3) (u16-at3 .ensures .0) (entries-at2 .ensures)
 
 same-length : tie.Need-same-length
@@ -106,7 +109,8 @@ returns c =
     let match-keys1 = after-u16-at .before .before .match in
     let start = after-u16-at .before .before .before .before .before .before .before .before .before in
     let args = start .args in
-    let by-entity-all = entity-all (stepFits (asLimits (args .«at» .limits)) (length (args .work .now))) (decS (asLimits (args .«at» .limits)) (args .schema .now)) (args .«at» .limits .levels) (args .t .now) (start .pre .1 .0 .good)
+    let by-entity-all = entity-all (stepFits (asLimits (args .«at» .limits)) (length (args .work .now))) (decS (asLimits (args .«at» .limits))
+    (args .schema .now)) (args .«at» .limits .levels) (args .t .now) (start .pre .1 .0 .good)
     (args .kept .now) (match-keys1 .keys1) (u16-at .result) (u16-at .ensures .0) in
     subst (λ (r : Result (List ℕ)). NamedBy r (args .kept .now) (entity-names .last .1 .1 .1 .1 .1 .1 .0) (entity-names .result))
     by-entity-all (entity-names .ensures)
@@ -123,7 +127,8 @@ returns-2 c =
     let match-keys2 = at-match-keys2 .match in
     let start = at-match-keys2 .before .before .before .before .before .before .before in
     let args = start .args in
-    record-all (stepFits (asLimits (args .«at» .limits)) (length (args .work .now))) (decS (asLimits (args .«at» .limits)) (args .schema .now)) (args .«at» .limits .levels) (args .t .now) (start .pre .1 .0 .good) (args .kept .now)
+    record-all (stepFits (asLimits (args .«at» .limits)) (length (args .work .now))) (decS (asLimits (args .«at» .limits)) (args .schema .now))
+    (args .«at» .limits .levels) (args .t .now) (start .pre .1 .0 .good) (args .kept .now)
     (u16-at2 .result) _ (write-names .last .1 .1 .0) (write-names .result) (write-names .ensures) (match-keys2 .keys2) (u16-at2 .ensures .0)
     (entries-at .ensures)
 
@@ -139,7 +144,8 @@ returns-3 c =
     let match-keys3 = at-match-keys3 .match in
     let start = at-match-keys3 .before .before .before .before .before .before .before in
     let args = start .args in
-    action-all (stepFits (asLimits (args .«at» .limits)) (length (args .work .now))) (decS (asLimits (args .«at» .limits)) (args .schema .now)) (args .«at» .limits .levels) (args .t .now) (start .pre .1 .0 .good) (args .kept .now)
+    action-all (stepFits (asLimits (args .«at» .limits)) (length (args .work .now))) (decS (asLimits (args .«at» .limits)) (args .schema .now))
+    (args .«at» .limits .levels) (args .t .now) (start .pre .1 .0 .good) (args .kept .now)
     (u16-at3 .result) _ (write-names2 .last .1 .1 .0) (write-names2 .result) (write-names2 .ensures) (match-keys3 .keys3) (u16-at3 .ensures .0)
     (entries-at2 .ensures)
 
@@ -147,7 +153,8 @@ returns-4 : tie.Need-returns-4
 returns-4 c =
     let start = c .before .before .before .before .before .before .before in
     let args = start .args in
-    other-all (stepFits (asLimits (args .«at» .limits)) (length (args .work .now))) (decS (asLimits (args .«at» .limits)) (args .schema .now)) (args .«at» .limits .levels) (args .t .now) (start .pre .1 .0 .good) (args .kept .now)
+    other-all (stepFits (asLimits (args .«at» .limits)) (length (args .work .now))) (decS (asLimits (args .«at» .limits)) (args .schema .now))
+    (args .«at» .limits .levels) (args .t .now) (start .pre .1 .0 .good) (args .kept .now)
     (c .match .rest)
 
 pub all-names-spec : {M : Type 1} → statement M

@@ -17,7 +17,8 @@ use Rattle.lookups.proofs.all_attributes.entity_names.Tie as tie
 returns : tie.Need-returns
 returns c =
     let args = c .before .before .before .before .before .before .args in
-    no-types (asLimits (args .«at» .limits)) (stepFits (asLimits (args .«at» .limits)) (length (args .work .now))) (args .schema .now) (args .n) (args .types .now) (args .kept .now) (c .if1 .taken)
+    no-types (asLimits (args .«at» .limits)) (stepFits (asLimits (args .«at» .limits)) (length (args .work .now))) (args .schema .now) (args .n)
+    (args .types .now) (args .kept .now) (c .if1 .taken)
 
 u16-at-requires : tie.Need-u16-at-requires
 u16-at-requires c κs = search needs
@@ -37,8 +38,10 @@ returns-2 c =
     let name = c .before .before .before .u16-at in
     let if1 = c .before .before .before .before .if1 in
     let args = c .before .before .before .before .before .before .before .before .before .before .args in
-    let by-entries-missing = entries-missing (asLimits (args .«at» .limits)) (args .schema .now) (name .result) (found .result) (found .ensures) (c .enum-told .given .1) in
-    no-entry (asLimits (args .«at» .limits)) (stepFits (asLimits (args .«at» .limits)) (length (args .work .now))) (args .schema .now) (args .n) (args .types .now) (args .kept .now) (if1 .left) (name .result)
+    let by-entries-missing = entries-missing (asLimits (args .«at» .limits)) (args .schema .now) (name .result) (found .result) (found .ensures)
+    (c .enum-told .given .1) in
+    no-entry (asLimits (args .«at» .limits)) (stepFits (asLimits (args .«at» .limits)) (length (args .work .now))) (args .schema .now) (args .n)
+    (args .types .now) (args .kept .now) (if1 .left) (name .result)
     (name .ensures .0) by-entries-missing
 
 mul-end : tie.Need-mul-end
@@ -48,7 +51,8 @@ mul-end c =
     let name = c .before .before .before .before .u16-at in
     let found = c .before .before .before .entity-entries in
     let given = c .before .start .given in
-    let entries = entries-from (asLimits (args .«at» .limits)) (args .schema .now) (name .result) (found .result) (found .ensures) (given .0 .0) (given .0 .1 .0) (given .1) in
+    let entries = entries-from (asLimits (args .«at» .limits)) (args .schema .now) (name .result) (found .result) (found .ensures) (given .0 .0)
+    (given .0 .1 .0) (given .1) in
     omega (arith, entries .0, entries .1)
 
 add-end : tie.Need-add-end
@@ -58,7 +62,8 @@ add-end c =
     let name = c .before .before .before .before .u16-at in
     let found = c .before .before .before .entity-entries in
     let given = c .before .start .given in
-    let entries = entries-from (asLimits (args .«at» .limits)) (args .schema .now) (name .result) (found .result) (found .ensures) (given .0 .0) (given .0 .1 .0) (given .1) in
+    let entries = entries-from (asLimits (args .«at» .limits)) (args .schema .now) (name .result) (found .result) (found .ensures) (given .0 .0)
+    (given .0 .1 .0) (given .1) in
     omega (arith, entries .0, entries .1)
 
 sub-kept-names : tie.Need-sub-kept-names
@@ -68,7 +73,8 @@ sub-kept-names c =
     let name = c .before .before .before .before .u16-at in
     let found = c .before .before .before .entity-entries in
     let given = c .before .start .given in
-    let entries = entries-from (asLimits (args .«at» .limits)) (args .schema .now) (name .result) (found .result) (found .ensures) (given .0 .0) (given .0 .1 .0) (given .1) in
+    let entries = entries-from (asLimits (args .«at» .limits)) (args .schema .now) (name .result) (found .result) (found .ensures) (given .0 .0)
+    (given .0 .1 .0) (given .1) in
     omega (arith, entries .0, entries .1)
 
 part-kept-names-start : tie.Need-part-kept-names-start
@@ -78,7 +84,8 @@ part-kept-names-start c =
     let name = c .before .before .before .before .u16-at in
     let found = c .before .before .before .entity-entries in
     let given = c .before .start .given in
-    let entries = entries-from (asLimits (args .«at» .limits)) (args .schema .now) (name .result) (found .result) (found .ensures) (given .0 .0) (given .0 .1 .0) (given .1) in
+    let entries = entries-from (asLimits (args .«at» .limits)) (args .schema .now) (name .result) (found .result) (found .ensures) (given .0 .0)
+    (given .0 .1 .0) (given .1) in
     omega (arith, entries .0, entries .1)
 
 part-kept-names-end : tie.Need-part-kept-names-end
@@ -88,7 +95,8 @@ part-kept-names-end c =
     let name = c .before .before .before .before .u16-at in
     let found = c .before .before .before .entity-entries in
     let given = c .before .start .given in
-    let entries = entries-from (asLimits (args .«at» .limits)) (args .schema .now) (name .result) (found .result) (found .ensures) (given .0 .0) (given .0 .1 .0) (given .1) in
+    let entries = entries-from (asLimits (args .«at» .limits)) (args .schema .now) (name .result) (found .result) (found .ensures) (given .0 .0)
+    (given .0 .1 .0) (given .1) in
     omega (arith, entries .0, entries .1)
 
 kept-names-requires : tie.Need-kept-names-requires
@@ -101,9 +109,11 @@ kept-names-requires c κs =
     let start = else1 .before .before .before .before .before .before in
     let args = start .args in
     let given = start-step .given in
-    let entries = entries-from (asLimits (args .«at» .limits)) (args .schema .now) (name .result) (found .result) (found .ensures) (given .0 .0) (given .0 .1 .0) (given .1) in
+    let entries = entries-from (asLimits (args .«at» .limits)) (args .schema .now) (name .result) (found .result) (found .ensures) (given .0 .0)
+    (given .0 .1 .0) (given .1) in
     let pre = start .pre in
-    let entered = entry-entered (asLimits (args .«at» .limits)) (stepFits (asLimits (args .«at» .limits)) (length (args .work .now))) (args .schema .now) (args .n) (args .types .now) (args .kept .now) (if1 .left)
+    let entered = entry-entered (asLimits (args .«at» .limits)) (stepFits (asLimits (args .«at» .limits)) (length (args .work .now))) (args .schema .now)
+    (args .n) (args .types .now) (args .kept .now) (if1 .left)
     (name .result) (name .ensures .0) (given .0 .0) (given .0 .1 .0) entries (pre .1 .1 .1 .0) (pre .1 .1 .1 .1) in
     (pre .0, (pre .1 .0, (pre .1 .1 .0, entered)))
 
@@ -127,8 +137,10 @@ returns-3 c =
     let start = after-start .before .before .before .before .before .before .before .before .before .before in
     let args = start .args in
     let given = start-step .given in
-    let entries = entries-from (asLimits (args .«at» .limits)) (args .schema .now) (name .result) (found .result) (found .ensures) (given .0 .0) (given .0 .1 .0) (given .1) in
-    let by-entry-keeps = entry-keeps (asLimits (args .«at» .limits)) (stepFits (asLimits (args .«at» .limits)) (length (args .work .now))) (args .schema .now) (args .n) (args .types .now) (args .kept .now)
+    let entries = entries-from (asLimits (args .«at» .limits)) (args .schema .now) (name .result) (found .result) (found .ensures) (given .0 .0)
+    (given .0 .1 .0) (given .1) in
+    let by-entry-keeps = entry-keeps (asLimits (args .«at» .limits)) (stepFits (asLimits (args .«at» .limits)) (length (args .work .now)))
+    (args .schema .now) (args .n) (args .types .now) (args .kept .now)
     (if1 .left) (name .result) (name .ensures .0) (given .0 .0) (given .0 .1 .0) entries in
     subst (λ (r : Result (List ℕ)). NamedBy r (args .kept .now) (kept .last .1 .1 .1 .1 .1 .1 .1 .1 .0) (kept .result)) by-entry-keeps (kept .ensures)
 

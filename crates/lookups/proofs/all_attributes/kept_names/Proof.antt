@@ -17,7 +17,8 @@ use Rattle.lookups.proofs.all_attributes.kept_names.Tie as tie
 abbrev Inv-loop : tie.InvT-loop
 Inv-loop schema sections types n es m last₀ work₀ kept₀ e₀ left₀ pos₀ last work kept e left pos =
     Keeping (λ (a : ℕ). lookupNames (stepFits (asLimits (sections .limits)) (length work₀)) (decS (asLimits (sections .limits)) schema) a (namesBy 2 n types))
-    (keepFound (λ (a : ℕ). lookupNames (stepFits (asLimits (sections .limits)) (length work₀)) (decS (asLimits (sections .limits)) schema) a (namesBy 2 n types)) (namesBy 5 m es)) left e kept₀ pos
+    (keepFound (λ (a : ℕ). lookupNames (stepFits (asLimits (sections .limits)) (length work₀)) (decS (asLimits (sections .limits)) schema) a
+    (namesBy 2 n types)) (namesBy 5 m es)) left e kept₀ pos
     kept × (length work ≡ length work₀) × (length last ≡ length last₀)
 
 abbrev μ-loop : tie.MeasureT-loop
@@ -27,7 +28,8 @@ loop-holds : tie.Need-loop-holds Inv-loop μ-loop
 loop-holds c =
     let start = c .before .before .before .before .before .before in
     let args = start .args in
-    let by-keeping-start = keeping-start (λ (a : ℕ). lookupNames (stepFits (asLimits (args .«at» .limits)) (length (args .work .now))) (decS (asLimits (args .«at» .limits)) (args .schema .now))
+    let by-keeping-start = keeping-start (λ (a : ℕ). lookupNames (stepFits (asLimits (args .«at» .limits)) (length (args .work .now))) (decS (asLimits
+    (args .«at» .limits)) (args .schema .now))
     a (namesBy 2 (args .n) (args .types .now))) (args .m) (args .es .now) (args .kept .now) (start .pre .1 .1 .1) in
     (by-keeping-start, refl, refl)
 
@@ -70,9 +72,11 @@ returns c =
     let loop-test = after-u16-at .before .loop-test in
     let loop = after-u16-at .before .before .loop in
     let args = after-u16-at .before .before .before .before .before .before .before .before .before .args in
-    keeping-too-long (loop .inv .0) (asLimits (args .«at» .limits)) (loop-test .taken) (u16-at .result) (u16-at .ensures .0) (look-up-types .last .1 .1 .1 .1 .1 .0) (look-up-types .result)
+    keeping-too-long (loop .inv .0) (asLimits (args .«at» .limits)) (loop-test .taken) (u16-at .result) (u16-at .ensures .0)
+    (look-up-types .last .1 .1 .1 .1 .1 .0) (look-up-types .result)
     (subst (λ (w : ℕ).
-    LookedUp (asLimits (args .«at» .limits)) (lookupNames (stepFits (asLimits (args .«at» .limits)) w) (decS (asLimits (args .«at» .limits)) (args .schema .now)) (u16-at .result) (namesBy 2 (args .n) (args .types .now)))
+    LookedUp (asLimits (args .«at» .limits)) (lookupNames (stepFits (asLimits (args .«at» .limits)) w) (decS (asLimits (args .«at» .limits))
+    (args .schema .now)) (u16-at .result) (namesBy 2 (args .n) (args .types .now)))
     (look-up-types .last .1 .1 .1 .1 .1 .0) (look-up-types .result)) (loop .inv .1) (look-up-types .ensures)) (too-long .result) (too-long .ensures)
     (c .if1 .taken)
 
@@ -136,10 +140,12 @@ loop-again c =
     let loop-test = after-look-up-types .before .before .before .before .loop-test in
     let loop = after-look-up-types .before .before .before .before .before .loop in
     let args = after-look-up-types .before .before .before .before .before .before .before .before .before .before .before .before .args in
-    let by-keeping-next = keeping-next (loop .inv .0) (asLimits (args .«at» .limits)) (loop-test .taken) (u16-at .result) (u16-at .ensures .0) (look-up-types .last .1 .1 .1 .1 .1 .0)
+    let by-keeping-next = keeping-next (loop .inv .0) (asLimits (args .«at» .limits)) (loop-test .taken) (u16-at .result) (u16-at .ensures .0)
+    (look-up-types .last .1 .1 .1 .1 .1 .0)
     (look-up-types .result)
     (subst (λ (w : ℕ).
-    LookedUp (asLimits (args .«at» .limits)) (lookupNames (stepFits (asLimits (args .«at» .limits)) w) (decS (asLimits (args .«at» .limits)) (args .schema .now)) (u16-at .result) (namesBy 2 (args .n) (args .types .now)))
+    LookedUp (asLimits (args .«at» .limits)) (lookupNames (stepFits (asLimits (args .«at» .limits)) w) (decS (asLimits (args .«at» .limits))
+    (args .schema .now)) (u16-at .result) (namesBy 2 (args .n) (args .types .now)))
     (look-up-types .last .1 .1 .1 .1 .1 .0) (look-up-types .result)) (loop .inv .1) (look-up-types .ensures)) (too-long .result)
     (too-long .ensures) (if1 .left) (keep-name .last .1 .1 .0) (keep-name .result) (keep-name .ensures) in
     (by-keeping-next, look-up-types .kept .1 .1 .1 .1 .1 .1 .0 ∙ loop .inv .1, look-up-types .kept .1 .1 .1 .1 .1 .0 ∙ loop .inv .2)

@@ -9,7 +9,7 @@ use Rattle.schemas.specs.SchemaBytes.{decS}
 use Rattle.forms.specs.TypeBytes.{dec, namesBy}
 use Rattle.forms.specs.Parts.{part}
 use Rattle.cedar.specs.Calls.{stepFits}
-use Rattle.cedar.specs.Attribute.{attrOf, foldAttr}
+use Rattle.cedar.specs.Attribute.{foldAttr}
 use Rattle.cedar.specs.Bound.{bound}
 use Rattle.forms.specs.Limits.{asLimits}
 use lib.ListN.{length}
@@ -28,7 +28,8 @@ use Rattle.forms.proofs.numbers.u16_at.Reads as u16-at-reads
 
 abbrev Inv-loop : tie.InvT-loop
 Inv-loop schema sections types n name first bytes last₀ work₀ parts len₀ required₀ second₀ e₀ left₀ last work len required second e left =
-    Folding (asLimits (sections .limits)) (length work₀) (decS (asLimits (sections .limits)) schema) name (foldAttr (stepFits (asLimits (sections .limits)) (length work₀)) (decS (asLimits (sections .limits)) schema)
+    Folding (asLimits (sections .limits)) (length work₀) (decS (asLimits (sections .limits)) schema) name (foldAttr (stepFits (asLimits (sections .limits))
+    (length work₀)) (decS (asLimits (sections .limits)) schema)
     name (first, dec (sections .limits .levels - 1) (part 0 bytes last₀)) (namesBy 2 n types)) len required last left e × (length work ≡ length work₀)
     × (length last ≡ length last₀)
 
@@ -73,7 +74,8 @@ returns c =
     let loop-test = c .before .before .before .loop-test in
     let loop = c .before .before .before .before .loop in
     let args = c .before .before .before .before .before .before .before .before .before .before .args in
-    let attribute-none-schema = attribute-none (asLimits (args .«at» .limits)) (args .schema .now) (u16-at .result) (args .name) (entity-attribute .result) (entity-attribute .ensures)
+    let attribute-none-schema = attribute-none (asLimits (args .«at» .limits)) (args .schema .now) (u16-at .result) (args .name) (entity-attribute .result)
+    (entity-attribute .ensures)
     (c .match .keys2) in
     folding-lacks (loop .inv .0) (loop-test .taken) (u16-at .result) (u16-at .ensures .0) attribute-none-schema
 
@@ -83,7 +85,8 @@ sub-t c =
     let entity-attribute = c .before .before .before .entity-attribute in
     let u16-at = c .before .before .before .before .u16-at in
     let args = c .before .before .before .before .before .before .before .before .before .before .before .before .args in
-    let here = attribute-at (asLimits (args .«at» .limits)) (args .schema .now) (u16-at .result) (args .name) (entity-attribute .result) (entity-attribute .ensures) (start-step .given .0 .0)
+    let here = attribute-at (asLimits (args .«at» .limits)) (args .schema .now) (u16-at .result) (args .name) (entity-attribute .result)
+    (entity-attribute .ensures) (start-step .given .0 .0)
     (start-step .given .0 .1 .0) (start-step .given .0 .1 .1 .0) (start-step .given .1) in
     omega (arith, here .0 .0, here .0 .1)
 
@@ -96,7 +99,8 @@ part-t-end c =
     let entity-attribute = c .before .before .before .entity-attribute in
     let u16-at = c .before .before .before .before .u16-at in
     let args = c .before .before .before .before .before .before .before .before .before .before .before .before .args in
-    let here = attribute-at (asLimits (args .«at» .limits)) (args .schema .now) (u16-at .result) (args .name) (entity-attribute .result) (entity-attribute .ensures) (start-step .given .0 .0)
+    let here = attribute-at (asLimits (args .«at» .limits)) (args .schema .now) (u16-at .result) (args .name) (entity-attribute .result)
+    (entity-attribute .ensures) (start-step .given .0 .0)
     (start-step .given .0 .1 .0) (start-step .given .0 .1 .1 .0) (start-step .given .1) in
     omega (arith, here .0 .0, here .0 .1)
 
@@ -108,7 +112,8 @@ join-step-requires c κs =
     let at-loop = c .before .before .before .before .before .before .before .before .before in
     let loop = at-loop .loop in
     let args = at-loop .before .before .before .before .before .before .args in
-    let here = attribute-at (asLimits (args .«at» .limits)) (args .schema .now) (u16-at .result) (args .name) (entity-attribute .result) (entity-attribute .ensures) (start-step .given .0 .0)
+    let here = attribute-at (asLimits (args .«at» .limits)) (args .schema .now) (u16-at .result) (args .name) (entity-attribute .result)
+    (entity-attribute .ensures) (start-step .given .0 .0)
     (start-step .given .0 .1 .0) (start-step .given .0 .1 .1 .0) (start-step .given .1) in
     (loop .inv .0 .held, here .0 .2)
 
@@ -143,12 +148,14 @@ returns-2 c =
     let loop-test = after-start .before .before .before .before .loop-test in
     let loop = after-start .before .before .before .before .before .loop in
     let args = after-start .before .before .before .before .before .before .before .before .before .before .before .args in
-    let here = attribute-at (asLimits (args .«at» .limits)) (args .schema .now) (u16-at .result) (args .name) (entity-attribute .result) (entity-attribute .ensures) (start-step .given .0 .0)
+    let here = attribute-at (asLimits (args .«at» .limits)) (args .schema .now) (u16-at .result) (args .name) (entity-attribute .result)
+    (entity-attribute .ensures) (start-step .given .0 .0)
     (start-step .given .0 .1 .0) (start-step .given .0 .1 .1 .0) (start-step .given .1) in
     let part-given = part (start-step .given .0 .0) (start-step .given .0 .1 .0) (args .schema .now) in
     folding-unbounded (loop .inv .0) (loop-test .taken) (u16-at .result) (u16-at .ensures .0) (start-step .given .0 .1 .1 .0) part-given (here .0 .3)
     (join-step .last .1 .0) (join-step .result)
-    (subst (λ (w : ℕ). Stepped (below (asLimits (args .«at» .limits))) (bound permissive (dec (args .«at» .limits .levels - 1) (part 0 (loop .len) (loop .last))) (dec (args .«at» .limits .levels - 1) part-given)) w (join-step .last .1 .0)
+    (subst (λ (w : ℕ). Stepped (below (asLimits (args .«at» .limits))) (bound permissive (dec (args .«at» .limits .levels - 1) (part 0 (loop .len)
+    (loop .last))) (dec (args .«at» .limits .levels - 1) part-given)) w (join-step .last .1 .0)
     (join-step .result)) (loop .inv .1) (join-step .ensures)) (c .enum-told .given .0 .0) (c .enum-told .given .1)
 
 enum-told-2 : tie.Need-enum-told-2 Inv-loop μ-loop
@@ -179,12 +186,14 @@ returns-3 c =
     let loop-test = after-start .before .before .before .before .loop-test in
     let loop = after-start .before .before .before .before .before .loop in
     let args = after-start .before .before .before .before .before .before .before .before .before .before .before .args in
-    let here = attribute-at (asLimits (args .«at» .limits)) (args .schema .now) (u16-at .result) (args .name) (entity-attribute .result) (entity-attribute .ensures) (start-step .given .0 .0)
+    let here = attribute-at (asLimits (args .«at» .limits)) (args .schema .now) (u16-at .result) (args .name) (entity-attribute .result)
+    (entity-attribute .ensures) (start-step .given .0 .0)
     (start-step .given .0 .1 .0) (start-step .given .0 .1 .1 .0) (start-step .given .1) in
     let part-given = part (start-step .given .0 .0) (start-step .given .0 .1 .0) (args .schema .now) in
     folding-too-long (loop .inv .0) (loop-test .taken) (u16-at .result) (u16-at .ensures .0) (start-step .given .0 .1 .1 .0) part-given (here .0 .3)
     (join-step .last .1 .0) (join-step .result)
-    (subst (λ (w : ℕ). Stepped (below (asLimits (args .«at» .limits))) (bound permissive (dec (args .«at» .limits .levels - 1) (part 0 (loop .len) (loop .last))) (dec (args .«at» .limits .levels - 1) part-given)) w (join-step .last .1 .0)
+    (subst (λ (w : ℕ). Stepped (below (asLimits (args .«at» .limits))) (bound permissive (dec (args .«at» .limits .levels - 1) (part 0 (loop .len)
+    (loop .last))) (dec (args .«at» .limits .levels - 1) part-given)) w (join-step .last .1 .0)
     (join-step .result)) (loop .inv .1) (join-step .ensures)) (c .enum-told2 .given .1)
 
 both-requires : tie.Need-both-requires Inv-loop μ-loop
@@ -224,12 +233,14 @@ loop-again c =
     let loop-test = in-loop .loop-test in
     let loop = in-loop .before .loop in
     let args = in-loop .before .before .before .before .before .before .before .args in
-    let here = attribute-at (asLimits (args .«at» .limits)) (args .schema .now) (u16-at .result) (args .name) (entity-attribute .result) (entity-attribute .ensures) (start-step .given .0 .0)
+    let here = attribute-at (asLimits (args .«at» .limits)) (args .schema .now) (u16-at .result) (args .name) (entity-attribute .result)
+    (entity-attribute .ensures) (start-step .given .0 .0)
     (start-step .given .0 .1 .0) (start-step .given .0 .1 .1 .0) (start-step .given .1) in
     let part-given = part (start-step .given .0 .0) (start-step .given .0 .1 .0) (args .schema .now) in
     let by-folding-next = folding-next (loop .inv .0) (loop-test .taken) (u16-at .result) (u16-at .ensures .0) (start-step .given .0 .1 .1 .0)
     part-given (here .0 .3) (join-step .last .1 .0) (join-step .result)
-    (subst (λ (w : ℕ). Stepped (below (asLimits (args .«at» .limits))) (bound permissive (dec (args .«at» .limits .levels - 1) (part 0 (loop .len) (loop .last))) (dec (args .«at» .limits .levels - 1) part-given)) w (join-step .last .1 .0)
+    (subst (λ (w : ℕ). Stepped (below (asLimits (args .«at» .limits))) (bound permissive (dec (args .«at» .limits .levels - 1) (part 0 (loop .len)
+    (loop .last))) (dec (args .«at» .limits .levels - 1) part-given)) w (join-step .last .1 .0)
     (join-step .result)) (loop .inv .1) (join-step .ensures)) (m .given .0 .0) (m .given .1) (both .result) (both .ensures) in
     (by-folding-next, join-step .kept .1 .1 .1 .1 .1 .1 .0 ∙ loop .inv .1, join-step .kept .1 .0 ∙ loop .inv .2)
 

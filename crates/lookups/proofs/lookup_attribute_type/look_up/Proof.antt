@@ -52,7 +52,8 @@ look-up-types-requires c κs =
     let start = c .before .before .before .before .before .before .before .before .before .before in
     let pre = start .pre in
     let args = start .args in
-    let by-entity-named = entity-named (stepFits (asLimits (args .«at» .limits)) (length (args .work .now))) (decS (asLimits (args .«at» .limits)) (args .schema .now)) (args .name) (args .«at» .limits .levels) (args .t .now)
+    let by-entity-named = entity-named (stepFits (asLimits (args .«at» .limits)) (length (args .work .now))) (decS (asLimits (args .«at» .limits))
+    (args .schema .now)) (args .name) (args .«at» .limits .levels) (args .t .now)
     (pre .1 .good) (if1 .taken) (u16-at .result) (u16-at .ensures .0) in
     (pre .0, (by-entity-named, pre .1 .room))
 
@@ -70,7 +71,8 @@ returns c =
     let if1 = then1 .if1 in
     let start = then1 .before .before .before .before .before .before in
     let args = start .args in
-    let by-entity-lookup = entity-lookup (stepFits (asLimits (args .«at» .limits)) (length (args .work .now))) (decS (asLimits (args .«at» .limits)) (args .schema .now)) (args .name) (args .«at» .limits .levels) (args .t .now)
+    let by-entity-lookup = entity-lookup (stepFits (asLimits (args .«at» .limits)) (length (args .work .now))) (decS (asLimits (args .«at» .limits))
+    (args .schema .now)) (args .name) (args .«at» .limits .levels) (args .t .now)
     (start .pre .1 .good) (if1 .taken) (u16-at .result) (u16-at .ensures .0) in
     subst (λ (o : Result (Option (Bool × Ty))). LookedUp (asLimits (args .«at» .limits)) o (look-up-types .last .1 .1 .1 .1 .1 .0) (look-up-types .result))
     by-entity-lookup (look-up-types .ensures)
@@ -90,9 +92,11 @@ returns-2 c =
     let if1 = c .before .before .before .if1 in
     let start = c .before .before .before .before .before .before .before .before .before in
     let args = start .args in
-    let by-place-none = place-none (args .«at» .limits .levels - 1) (args .t .now) (ownAttr (args .name) (dec (args .«at» .limits .levels) (args .t .now))) (own-attribute .result) (c .enum-told .given .1)
+    let by-place-none = place-none (args .«at» .limits .levels - 1) (args .t .now) (ownAttr (args .name) (dec (args .«at» .limits .levels) (args .t .now)))
+    (own-attribute .result) (c .enum-told .given .1)
     (own-attribute .ensures .0) in
-    own-none (stepFits (asLimits (args .«at» .limits)) (length (args .work .now))) (decS (asLimits (args .«at» .limits)) (args .schema .now)) (args .name) (args .«at» .limits .levels) (args .t .now) (start .pre .1 .good) (if1 .left)
+    own-none (stepFits (asLimits (args .«at» .limits)) (length (args .work .now))) (decS (asLimits (args .«at» .limits)) (args .schema .now)) (args .name)
+    (args .«at» .limits .levels) (args .t .now) (start .pre .1 .good) (if1 .left)
     by-place-none
 
 sub-copy : tie.Need-sub-copy
@@ -100,7 +104,8 @@ sub-copy c =
     let start-step = c .before .start in
     let own-attribute = c .before .before .before .own-attribute in
     let args = c .before .before .before .before .before .before .before .before .before .before .args in
-    let by-place-at = place-at (args .«at» .limits .levels - 1) (args .t .now) (ownAttr (args .name) (dec (args .«at» .limits .levels) (args .t .now))) (own-attribute .result) (start-step .given .0 .0)
+    let by-place-at = place-at (args .«at» .limits .levels - 1) (args .t .now) (ownAttr (args .name) (dec (args .«at» .limits .levels) (args .t .now)))
+    (own-attribute .result) (start-step .given .0 .0)
     (start-step .given .0 .1 .0) (start-step .given .0 .1 .1 .0) (start-step .given .1) (own-attribute .ensures .0) in
     omega (arith, by-place-at .0, by-place-at .1)
 
@@ -112,7 +117,8 @@ part-copy-end c =
     let start-step = c .before .start in
     let own-attribute = c .before .before .before .own-attribute in
     let args = c .before .before .before .before .before .before .before .before .before .before .args in
-    let by-place-at = place-at (args .«at» .limits .levels - 1) (args .t .now) (ownAttr (args .name) (dec (args .«at» .limits .levels) (args .t .now))) (own-attribute .result) (start-step .given .0 .0)
+    let by-place-at = place-at (args .«at» .limits .levels - 1) (args .t .now) (ownAttr (args .name) (dec (args .«at» .limits .levels) (args .t .now)))
+    (own-attribute .result) (start-step .given .0 .0)
     (start-step .given .0 .1 .0) (start-step .given .0 .1 .1 .0) (start-step .given .1) (own-attribute .ensures .0) in
     omega (arith, by-place-at .0, by-place-at .1)
 
@@ -122,7 +128,8 @@ copy-requires c κs =
     let own-attribute = c .before .before .before .before .before .own-attribute in
     let start = c .before .before .before .before .before .before .before .before .before .before .before .before in
     let args = start .args in
-    let by-place-at = place-at (args .«at» .limits .levels - 1) (args .t .now) (ownAttr (args .name) (dec (args .«at» .limits .levels) (args .t .now))) (own-attribute .result) (start-step .given .0 .0)
+    let by-place-at = place-at (args .«at» .limits .levels - 1) (args .t .now) (ownAttr (args .name) (dec (args .«at» .limits .levels) (args .t .now)))
+    (own-attribute .result) (start-step .given .0 .0)
     (start-step .given .0 .1 .0) (start-step .given .0 .1 .1 .0) (start-step .given .1) (own-attribute .ensures .0) in
     let by-length-part = length-part (start-step .given .0 .0) (start-step .given .0 .1 .0) (args .t .now) (by-place-at .1) in
     let l : length (part (start-step .given .0 .0) (start-step .given .0 .1 .0) (args .t .now)) ≤ length (args .last .now) = omega (
@@ -140,7 +147,8 @@ sub-t25 c =
     let after-own-attribute = c .before .before .before .before .before .before .before .before in
     let own-attribute = after-own-attribute .own-attribute in
     let args = after-own-attribute .before .before .before .before .before .before .before .args in
-    let by-place-at = place-at (args .«at» .limits .levels - 1) (args .t .now) (ownAttr (args .name) (dec (args .«at» .limits .levels) (args .t .now))) (own-attribute .result) (start-step .given .0 .0)
+    let by-place-at = place-at (args .«at» .limits .levels - 1) (args .t .now) (ownAttr (args .name) (dec (args .«at» .limits .levels) (args .t .now)))
+    (own-attribute .result) (start-step .given .0 .0)
     (start-step .given .0 .1 .0) (start-step .given .0 .1 .1 .0) (start-step .given .1) (own-attribute .ensures .0) in
     omega (arith, by-place-at .0)
 
@@ -158,14 +166,18 @@ returns-3 c =
     let start = else1 .before .before .before .before .before .before in
     let pre = start .pre in
     let args = start .args in
-    let by-place-at = place-at (args .«at» .limits .levels - 1) (args .t .now) (ownAttr (args .name) (dec (args .«at» .limits .levels) (args .t .now))) (own-attribute .result) (start-step .given .0 .0)
+    let by-place-at = place-at (args .«at» .limits .levels - 1) (args .t .now) (ownAttr (args .name) (dec (args .«at» .limits .levels) (args .t .now)))
+    (own-attribute .result) (start-step .given .0 .0)
     (start-step .given .0 .1 .0) (start-step .given .0 .1 .1 .0) (start-step .given .1) (own-attribute .ensures .0) in
     let by-Bytes-part = Bytes-part (start-step .given .0 .0) (start-step .given .0 .1 .0) (args .t .now)
     (Bytes-index (args .t .now) (λ i. omega (arith, shared-slice-known2 .given i))) in
-    let by-enc-dec = enc-dec (args .«at» .limits .levels - 1) (part (start-step .given .0 .0) (start-step .given .0 .1 .0) (args .t .now)) by-Bytes-part (by-place-at .2) in
-    let by-held-copy = held-copy (asLimits (args .«at» .limits)) (allowed-bytes (asLimits (args .«at» .limits)) (start .pre .0 .fair) .1) (args .t .now) (args .last .now) (copy .last .1 .0) (start-step .given .0 .0) (start-step .given .0 .1 .0) (by-place-at .0)
+    let by-enc-dec = enc-dec (args .«at» .limits .levels - 1) (part (start-step .given .0 .0) (start-step .given .0 .1 .0) (args .t .now)) by-Bytes-part
+    (by-place-at .2) in
+    let by-held-copy = held-copy (asLimits (args .«at» .limits)) (allowed-bytes (asLimits (args .«at» .limits)) (start .pre .0 .fair) .1) (args .t .now)
+    (args .last .now) (copy .last .1 .0) (start-step .given .0 .0) (start-step .given .0 .1 .0) (by-place-at .0)
     (by-place-at .1) (omega (arith, by-place-at .1, pre .1 .few)) (pre .1 .room) (copy .kept .1 .0) (by-place-at .2) by-enc-dec (copy .ensures) in
-    own-found (stepFits (asLimits (args .«at» .limits)) (length (args .work .now))) (decS (asLimits (args .«at» .limits)) (args .schema .now)) (args .name) (args .«at» .limits .levels) (args .t .now) (pre .1 .good) (if1 .left)
+    own-found (stepFits (asLimits (args .«at» .limits)) (length (args .work .now))) (decS (asLimits (args .«at» .limits)) (args .schema .now)) (args .name)
+    (args .«at» .limits .levels) (args .t .now) (pre .1 .good) (if1 .left)
     (asLimits (args .«at» .limits)) (start-step .given .0 .1 .1 .0) _ (by-place-at .3) (copy .last .1 .0) by-held-copy
 
 pub look-up-spec : {M : Type 1} → statement M

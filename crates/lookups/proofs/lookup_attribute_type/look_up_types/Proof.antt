@@ -10,7 +10,7 @@ use lib.ListN.{length}
 use Rattle.cedar.specs.Types.{Ty}
 use Rattle.forms.specs.Limits.{asLimits}
 use Rattle.cedar.specs.Result.{Result}
-use Rattle.cedar.specs.Attribute.{attrOf, foldAttr}
+use Rattle.cedar.specs.Attribute.{foldAttr}
 use Rattle.cedar.specs.Calls.{stepFits}
 use Rattle.forms.specs.Parts.{part, rest}
 use Rattle.forms.specs.TypeBytes.{dec, namesBy}
@@ -27,7 +27,8 @@ use Rattle.lookups.proofs.lookup_attribute_type.look_up_types.Tie as ti
 returns : tie.Need-returns
 returns c =
     let args = c .before .before .before .before .before .args in
-    types-none (stepFits (asLimits (args .«at» .limits)) (length (args .work .now))) (decS (asLimits (args .«at» .limits)) (args .schema .now)) (args .name) (args .n) (args .types .now) (c .if1 .taken)
+    types-none (stepFits (asLimits (args .«at» .limits)) (length (args .work .now))) (decS (asLimits (args .«at» .limits)) (args .schema .now)) (args .name)
+    (args .n) (args .types .now) (c .if1 .taken)
 
 u16-at-requires : tie.Need-u16-at-requires
 u16-at-requires c κs = search needs
@@ -44,9 +45,11 @@ returns-2 c =
     let u16-at = c .before .before .u16-at in
     let if1 = c .before .before .before .if1 in
     let args = c .before .before .before .before .before .before .before .before .args in
-    let attribute-none-schema = attribute-none (asLimits (args .«at» .limits)) (args .schema .now) (u16-at .result) (args .name) (entity-attribute .result) (entity-attribute .ensures)
+    let attribute-none-schema = attribute-none (asLimits (args .«at» .limits)) (args .schema .now) (u16-at .result) (args .name) (entity-attribute .result)
+    (entity-attribute .ensures)
     (c .match .keys2) in
-    types-lack (stepFits (asLimits (args .«at» .limits)) (length (args .work .now))) (decS (asLimits (args .«at» .limits)) (args .schema .now)) (args .name) (args .n) (args .types .now) (if1 .left)
+    types-lack (stepFits (asLimits (args .«at» .limits)) (length (args .work .now))) (decS (asLimits (args .«at» .limits)) (args .schema .now)) (args .name)
+    (args .n) (args .types .now) (if1 .left)
     (u16-at .result) (u16-at .ensures .0) attribute-none-schema
 
 sub-copy : tie.Need-sub-copy
@@ -55,7 +58,8 @@ sub-copy c =
     let entity-attribute = c .before .before .before .entity-attribute in
     let u16-at = c .before .before .before .before .u16-at in
     let args = c .before .before .before .before .before .before .before .before .before .before .args in
-    let by-attribute-at = attribute-at (asLimits (args .«at» .limits)) (args .schema .now) (u16-at .result) (args .name) (entity-attribute .result) (entity-attribute .ensures)
+    let by-attribute-at = attribute-at (asLimits (args .«at» .limits)) (args .schema .now) (u16-at .result) (args .name) (entity-attribute .result)
+    (entity-attribute .ensures)
     (start-step .given .0 .0) (start-step .given .0 .1 .0) (start-step .given .0 .1 .1 .0) (start-step .given .1) in
     omega (arith, by-attribute-at .0 .0, by-attribute-at .0 .1)
 
@@ -68,7 +72,8 @@ part-copy-end c =
     let entity-attribute = c .before .before .before .entity-attribute in
     let u16-at = c .before .before .before .before .u16-at in
     let args = c .before .before .before .before .before .before .before .before .before .before .args in
-    let by-attribute-at = attribute-at (asLimits (args .«at» .limits)) (args .schema .now) (u16-at .result) (args .name) (entity-attribute .result) (entity-attribute .ensures)
+    let by-attribute-at = attribute-at (asLimits (args .«at» .limits)) (args .schema .now) (u16-at .result) (args .name) (entity-attribute .result)
+    (entity-attribute .ensures)
     (start-step .given .0 .0) (start-step .given .0 .1 .0) (start-step .given .0 .1 .1 .0) (start-step .given .1) in
     omega (arith, by-attribute-at .0 .0, by-attribute-at .0 .1)
 
@@ -79,7 +84,8 @@ copy-requires c κs =
     let u16-at = c .before .before .before .before .before .before .u16-at in
     let start = c .before .before .before .before .before .before .before .before .before .before .before .before in
     let args = start .args in
-    let by-attribute-at = attribute-at (asLimits (args .«at» .limits)) (args .schema .now) (u16-at .result) (args .name) (entity-attribute .result) (entity-attribute .ensures)
+    let by-attribute-at = attribute-at (asLimits (args .«at» .limits)) (args .schema .now) (u16-at .result) (args .name) (entity-attribute .result)
+    (entity-attribute .ensures)
     (start-step .given .0 .0) (start-step .given .0 .1 .0) (start-step .given .0 .1 .1 .0) (start-step .given .1) in
     let by-length-part = length-part (start-step .given .0 .0) (start-step .given .0 .1 .0) (args .schema .now) (by-attribute-at .0 .1) in
     omega (arith, by-length-part, by-attribute-at .1, start .pre .1 .1)
@@ -103,7 +109,8 @@ sub-fold-attribute-3 c =
     let entity-attribute = after-entity-attribute .entity-attribute in
     let u16-at = after-entity-attribute .before .u16-at in
     let args = after-entity-attribute .before .before .before .before .before .before .before .args in
-    let by-attribute-at = attribute-at (asLimits (args .«at» .limits)) (args .schema .now) (u16-at .result) (args .name) (entity-attribute .result) (entity-attribute .ensures)
+    let by-attribute-at = attribute-at (asLimits (args .«at» .limits)) (args .schema .now) (u16-at .result) (args .name) (entity-attribute .result)
+    (entity-attribute .ensures)
     (start-step .given .0 .0) (start-step .given .0 .1 .0) (start-step .given .0 .1 .1 .0) (start-step .given .1) in
     omega (arith, by-attribute-at .0 .0)
 
@@ -118,12 +125,15 @@ fold-attribute-requires c κs =
     let start = after-start .before .before .before .before .before .before .before .before .before in
     let pre = start .pre in
     let args = start .args in
-    let by-attribute-at = attribute-at (asLimits (args .«at» .limits)) (args .schema .now) (u16-at .result) (args .name) (entity-attribute .result) (entity-attribute .ensures)
+    let by-attribute-at = attribute-at (asLimits (args .«at» .limits)) (args .schema .now) (u16-at .result) (args .name) (entity-attribute .result)
+    (entity-attribute .ensures)
     (start-step .given .0 .0) (start-step .given .0 .1 .0) (start-step .given .0 .1 .1 .0) (start-step .given .1) in
     let by-Bytes-index = Bytes-index (args .schema .now) (λ i. omega (arith, shared-slice-known .given i)) in
     let by-Bytes-part = Bytes-part (start-step .given .0 .0) (start-step .given .0 .1 .0) (args .schema .now) by-Bytes-index in
-    let by-enc-dec = enc-dec (args .«at» .limits .levels - 1) (part (start-step .given .0 .0) (start-step .given .0 .1 .0) (args .schema .now)) by-Bytes-part (by-attribute-at .0 .2) in
-    let by-held-copy = held-copy (asLimits (args .«at» .limits)) (allowed-bytes (asLimits (args .«at» .limits)) (start .pre .0 .fair) .1) (args .schema .now) (args .last .now) (copy .last .1 .0) (start-step .given .0 .0) (start-step .given .0 .1 .0)
+    let by-enc-dec = enc-dec (args .«at» .limits .levels - 1) (part (start-step .given .0 .0) (start-step .given .0 .1 .0)
+    (args .schema .now)) by-Bytes-part (by-attribute-at .0 .2) in
+    let by-held-copy = held-copy (asLimits (args .«at» .limits)) (allowed-bytes (asLimits (args .«at» .limits)) (start .pre .0 .fair) .1)
+    (args .schema .now) (args .last .now) (copy .last .1 .0) (start-step .given .0 .0) (start-step .given .0 .1 .0)
     (by-attribute-at .0 .0) (by-attribute-at .0 .1) (by-attribute-at .1) (pre .1 .1) (copy .kept .1 .0) (by-attribute-at .0 .2) by-enc-dec
     (copy .ensures) in
     (pre .0, (types-rest (args .n) (args .types .now) (pre .1 .0), by-held-copy .1))
@@ -147,17 +157,25 @@ returns-3 c =
     let shared-slice-known = after-shared-slice-known .shared-slice-known in
     let start = after-shared-slice-known .before in
     let args = start .args in
-    let by-attribute-at = attribute-at (asLimits (args .«at» .limits)) (args .schema .now) (u16-at .result) (args .name) (entity-attribute .result) (entity-attribute .ensures)
+    let by-attribute-at = attribute-at (asLimits (args .«at» .limits)) (args .schema .now) (u16-at .result) (args .name) (entity-attribute .result)
+    (entity-attribute .ensures)
     (start-step .given .0 .0) (start-step .given .0 .1 .0) (start-step .given .0 .1 .1 .0) (start-step .given .1) in
     let stepFits-value = stepFits (asLimits (args .«at» .limits)) (length (args .work .now)) in
     let by-Bytes-index = Bytes-index (args .schema .now) (λ i. omega (arith, shared-slice-known .given i)) in
     let by-Bytes-part = Bytes-part (start-step .given .0 .0) (start-step .given .0 .1 .0) (args .schema .now) by-Bytes-index in
-    let by-enc-dec = enc-dec (args .«at» .limits .levels - 1) (part (start-step .given .0 .0) (start-step .given .0 .1 .0) (args .schema .now)) by-Bytes-part (by-attribute-at .0 .2) in
-    let by-held-copy = held-copy (asLimits (args .«at» .limits)) (allowed-bytes (asLimits (args .«at» .limits)) (start .pre .0 .fair) .1) (args .schema .now) (args .last .now) (copy .last .1 .0) (start-step .given .0 .0) (start-step .given .0 .1 .0)
+    let by-enc-dec = enc-dec (args .«at» .limits .levels - 1) (part (start-step .given .0 .0) (start-step .given .0 .1 .0)
+    (args .schema .now)) by-Bytes-part (by-attribute-at .0 .2) in
+    let by-held-copy = held-copy (asLimits (args .«at» .limits)) (allowed-bytes (asLimits (args .«at» .limits)) (start .pre .0 .fair) .1)
+    (args .schema .now) (args .last .now) (copy .last .1 .0) (start-step .given .0 .0) (start-step .given .0 .1 .0)
     (by-attribute-at .0 .0) (by-attribute-at .0 .1) (by-attribute-at .1) (start .pre .1 .1) (copy .kept .1 .0) (by-attribute-at .0 .2) by-enc-dec
     (copy .ensures) in
-    subst (λ (o : Result (Option (Bool × Ty))). LookedUp (asLimits (args .«at» .limits)) o (fold-attribute .last .1 .1 .1 .1 .1 .1 .1 .0) (fold-attribute .result))
-    (ap (λ (z : List ℕ). foldAttr stepFits-value (decS (asLimits (args .«at» .limits)) (args .schema .now)) (args .name) (start-step .given .0 .1 .1 .0, dec (args .«at» .limits .levels - 1) z)
+    subst (λ (o : Result (Option (Bool × Ty))). LookedUp (asLimits (args .«at» .limits)) o (fold-attribute .last .1 .1 .1 .1 .1 .1 .1 .0)
+    (fold-attribute .result))
+    (ap (λ (z : List ℕ). foldAttr stepFits-value (decS (asLimits (args .«at» .limits)) (args .schema .now)) (args .name) (
+      start-step .given .0 .1 .1 .0,
+      dec
+          (args .«at» .limits .levels - 1) z,
+    )
     (namesBy 2 (args .n - 1) (rest 2 (args .types .now)))) (by-held-copy .0) ∙
     types-fold stepFits-value (decS (asLimits (args .«at» .limits)) (args .schema .now)) (args .name) (args .n) (args .types .now) (if1 .left) (u16-at .result)
     (u16-at .ensures .0) (start-step .given .0 .1 .1 .0) _ (by-attribute-at .0 .3)) (fold-attribute .ensures)

@@ -19,7 +19,8 @@ returns : tie.Need-returns
 returns c =
     let type-names = c .before .before .type-names in
     let start = c .before .before .before .before .before in
-    disjoint-first (dec (start .args .levels) (start .args .t0 .now)) (dec (start .args .levels) (start .args .t1 .now)) (found-nothing (type-names .ensures) (c .enum-told .given .1))
+    disjoint-first (dec (start .args .levels) (start .args .t0 .now)) (dec (start .args .levels) (start .args .t1 .now)) (found-nothing
+    (type-names .ensures) (c .enum-told .given .1))
 
 type-names-requires-2 : tie.Need-type-names-requires-2
 type-names-requires-2 c κs = search needs
@@ -89,7 +90,8 @@ returns-3 c =
     let b = after-b .b .given in
     let by-found-from = found-from (after-type-names .type-names .ensures) (a .0 .0) (a .0 .1 .0) (a .1) in
     let by-found-from-2 = found-from (after-type-names2 .type-names2 .ensures) (b .0 .0) (b .0 .1 .0) (b .1) in
-    disjoint-both (dec (start .args .levels) (start .args .t0 .now)) (dec (start .args .levels) (start .args .t1 .now)) _ _ (c .names-share .result) by-found-from by-found-from-2
+    disjoint-both (dec (start .args .levels) (start .args .t0 .now)) (dec (start .args .levels) (start .args .t1 .now)) _ _
+    (c .names-share .result) by-found-from by-found-from-2
     (c .names-share .ensures)
 
 pub are-types-disjoint-spec : {M : Type 1} → statement M

@@ -12,14 +12,16 @@ returns : tie.Need-returns
 returns c =
     let after-whole-type = c .before in
     let start = after-whole-type .before .before in
-    body-unfit (asLimits (start .args .limits)) (start .args .b .now) (after-whole-type .whole-type .result) (after-whole-type .whole-type .ensures) (start .args .closed)
+    body-unfit (asLimits (start .args .limits)) (start .args .b .now) (after-whole-type .whole-type .result) (after-whole-type .whole-type .ensures)
+    (start .args .closed)
     (c .if1 .taken)
 
 shared-slice-read-if2 : tie.Need-shared-slice-read-if2
 shared-slice-read-if2 c =
     let after-whole-type = c .before .before in
     let start = after-whole-type .before .before in
-    let by-body-some = body-some (asLimits (start .args .limits)) (start .args .b .now) (after-whole-type .whole-type .result) (after-whole-type .whole-type .ensures)
+    let by-body-some = body-some (asLimits (start .args .limits)) (start .args .b .now) (after-whole-type .whole-type .result)
+    (after-whole-type .whole-type .ensures)
     (c .before .if1 .left) in
     omega (arith, by-body-some)
 
@@ -28,7 +30,8 @@ returns-2 c =
     let else1 = c .before .before in
     let after-whole-type = else1 .before in
     let start = after-whole-type .before .before in
-    body-other (asLimits (start .args .limits)) (start .args .b .now) (after-whole-type .whole-type .result) (after-whole-type .whole-type .ensures) (else1 .if1 .left)
+    body-other (asLimits (start .args .limits)) (start .args .b .now) (after-whole-type .whole-type .result) (after-whole-type .whole-type .ensures)
+    (else1 .if1 .left)
     (start .args .closed) (c .if2 .taken)
 
 shared-slice-read-result : tie.Need-shared-slice-read-result
@@ -37,7 +40,8 @@ shared-slice-read-result c =
     let else1 = else2 .before .before in
     let after-whole-type = else1 .before in
     let start = after-whole-type .before .before in
-    let by-body-two = body-two (asLimits (start .args .limits)) (start .args .b .now) (after-whole-type .whole-type .result) (after-whole-type .whole-type .ensures) (else1 .if1 .left)
+    let by-body-two = body-two (asLimits (start .args .limits)) (start .args .b .now) (after-whole-type .whole-type .result)
+    (after-whole-type .whole-type .ensures) (else1 .if1 .left)
     (else2 .if2 .left) in
     omega (arith, by-body-two)
 
@@ -47,7 +51,8 @@ returns-3 c =
     let else1 = else2 .before .before in
     let after-whole-type = else1 .before in
     let start = after-whole-type .before .before in
-    body-closed (asLimits (start .args .limits)) (start .args .b .now) (after-whole-type .whole-type .result) (after-whole-type .whole-type .ensures) (else1 .if1 .left)
+    body-closed (asLimits (start .args .limits)) (start .args .b .now) (after-whole-type .whole-type .result) (after-whole-type .whole-type .ensures)
+    (else1 .if1 .left)
     (else2 .if2 .left) (start .args .closed) (c .before .if3 .taken)
 
 returns-4 : tie.Need-returns-4
@@ -55,7 +60,8 @@ returns-4 c =
     let else1 = c .before .before .before in
     let after-whole-type = else1 .before in
     let start = after-whole-type .before .before in
-    body-open (asLimits (start .args .limits)) (start .args .b .now) (after-whole-type .whole-type .result) (after-whole-type .whole-type .ensures) (else1 .if1 .left)
+    body-open (asLimits (start .args .limits)) (start .args .b .now) (after-whole-type .whole-type .result) (after-whole-type .whole-type .ensures)
+    (else1 .if1 .left)
     (c .before .if2 .left) (start .args .closed) (c .if3 .left)
 
 pub body-within-spec : {M : Type 1} → statement M

@@ -6,7 +6,8 @@ use Rattle.schemas.proofs.sections.section_within.Statement.{statement}
 use Rattle.schemas.proofs.sections.section_within.Tie as tie
 
 abbrev Inv-loop : tie.InvT-loop
-Inv-loop s kind limits width start bodies e₀ b₀ left₀ low₀ e b left low = WalkLeft (asLimits limits) kind (record { count = left₀; entries = start; bodies = bodies }) s left low e b
+Inv-loop s kind limits width start bodies e₀ b₀ left₀ low₀ e b left low = WalkLeft (asLimits limits) kind
+    (record { count = left₀; entries = start; bodies = bodies }) s left low e b
 
 abbrev μ-loop : tie.MeasureT-loop
 μ-loop s kind limits width start bodies e₀ b₀ left₀ low₀ e b left low = left

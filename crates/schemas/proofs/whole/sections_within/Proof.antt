@@ -71,7 +71,8 @@ one c =
     let w = after-section-within .section-within in
     past (all (entered₀ c .before)) (x .result) (x .ensures) (w .result) (w .ensures) (after-second .second .given .0 .0) (after-second .second .given .1)
 
-two : (c : tie.After-known-told2) → Past (limits₂ c) (bytes₂ c) Actions (Functions ∷ []) (entered₁ c .before .before .second .given .0 .0) (c .before .third .given .0 .0)
+two : (c : tie.After-known-told2) →
+    Past (limits₂ c) (bytes₂ c) Actions (Functions ∷ []) (entered₁ c .before .before .second .given .0 .0) (c .before .third .given .0 .0)
 two c =
     let after-third = c .before in
     let after-section-within2 = after-third .before .before in

@@ -31,7 +31,8 @@ returns c =
     let start = check .before .before .before .before .before in
     let args = start .args in
     checked-under (args .limits) (args .schema .now) (check .check-schema .result) (check .check-schema .ensures)
-    (λ (lim : Limits). AnsweredIn (namesCall lim (args .schema .now) (args .t .now) (length (args .out .now)) (length (args .work .now))) (args .out .now) (call .all-attributes-checked .last .1 .1 .1 .0) (args .work .now)
+    (λ (lim : Limits). AnsweredIn (namesCall lim (args .schema .now) (args .t .now) (length (args .out .now)) (length (args .work .now))) (args .out .now)
+    (call .all-attributes-checked .last .1 .1 .1 .0) (args .work .now)
     (call .all-attributes-checked .last .1 .1 .1 .1 .0) (call .all-attributes-checked .result)) (call .all-attributes-checked .ensures)
 
 pub all-attributes-spec : {M : Type 1} → statement M

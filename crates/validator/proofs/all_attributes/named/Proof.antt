@@ -1,6 +1,5 @@
 -- `validator::all_attributes::named` meets its contract. Assumes nothing.
 use Rattle.forms.specs.Limits.{asLimits}
-use mathlib.Core.Path.{refl}
 use native.Mathlib.Omega.{arith}
 use lib.ListN.{length}
 use Rattle.validator.specs.Laws.Questions.{type-missing, type-there, type-whole, type-few}
@@ -19,8 +18,10 @@ returns c =
     let start = at-whole-type .before .before .before .before .before .before .before .before in
     let args = start .args in
     let by-checked-there = sectioned-there (args .schema .now) (args .«at») (start .pre .0) in
-    let by-type-missing = type-missing (asLimits (args .«at» .limits)) (args .t .now) (at-whole-type .whole-type .result) (at-whole-type .whole-type .ensures) (c .if1 .taken) in
-    names-no-type (asLimits (args .«at» .limits)) (start .pre .0 .fair) (args .schema .now) (args .t .now) (args .out .now) (length (args .work .now)) _ by-checked-there by-type-missing
+    let by-type-missing = type-missing (asLimits (args .«at» .limits)) (args .t .now) (at-whole-type .whole-type .result)
+    (at-whole-type .whole-type .ensures) (c .if1 .taken) in
+    names-no-type (asLimits (args .«at» .limits)) (start .pre .0 .fair) (args .schema .now) (args .t .now) (args .out .now) (length
+    (args .work .now)) _ by-checked-there by-type-missing
 
 all-names-requires : tie.Need-all-names-requires
 all-names-requires c κs =
@@ -31,8 +32,10 @@ all-names-requires c κs =
       start .pre .0,
       (
         record {
-          good = type-whole (asLimits (args .«at» .limits)) (args .t .now) (at-whole-type .whole-type .result) (at-whole-type .whole-type .ensures) (else1 .if1 .left);
-          few = type-few (asLimits (args .«at» .limits)) (args .t .now) (at-whole-type .whole-type .result) (at-whole-type .whole-type .ensures) (else1 .if1 .left);
+          good = type-whole (asLimits (args .«at» .limits)) (args .t .now) (at-whole-type .whole-type .result) (at-whole-type .whole-type .ensures)
+              (else1 .if1 .left);
+          few = type-few (asLimits (args .«at» .limits)) (args .t .now) (at-whole-type .whole-type .result) (at-whole-type .whole-type .ensures)
+              (else1 .if1 .left);
           room = start .pre .1 .0;
         },
         start .pre .1 .1,
@@ -62,8 +65,10 @@ returns-2 c =
     let start = at-whole-type .before .before .before .before .before .before .before .before in
     let args = start .args in
     let by-checked-there = sectioned-there (args .schema .now) (args .«at») (start .pre .0) in
-    let by-type-there = type-there (asLimits (args .«at» .limits)) (args .t .now) (at-whole-type .whole-type .result) (at-whole-type .whole-type .ensures) (else1 .if1 .left) in
-    names-too-long (asLimits (args .«at» .limits)) (start .pre .0 .fair) (args .schema .now) (args .t .now) (args .out .now) (length (args .work .now)) _ by-checked-there _ by-type-there _
+    let by-type-there = type-there (asLimits (args .«at» .limits)) (args .t .now) (at-whole-type .whole-type .result) (at-whole-type .whole-type .ensures)
+    (else1 .if1 .left) in
+    names-too-long (asLimits (args .«at» .limits)) (start .pre .0 .fair) (args .schema .now) (args .t .now) (args .out .now) (length
+    (args .work .now)) _ by-checked-there _ by-type-there _
     (all-names .all-names .last .1 .1 .1 .1 .1 .0) (all-names .all-names .result) (all-names .all-names .ensures) (c .enum-told .given .1)
 
 answer-fits-requires : tie.Need-answer-fits-requires
@@ -88,8 +93,10 @@ returns-3 c =
     let start = at-whole-type .before .before .before .before .before .before .before .before in
     let args = start .args in
     let by-checked-there = sectioned-there (args .schema .now) (args .«at») (start .pre .0) in
-    let by-type-there = type-there (asLimits (args .«at» .limits)) (args .t .now) (at-whole-type .whole-type .result) (at-whole-type .whole-type .ensures) (else1 .if1 .left) in
-    names-over (asLimits (args .«at» .limits)) (start .pre .0 .fair) (args .schema .now) (args .t .now) (args .out .now) (length (args .work .now)) _ by-checked-there _ by-type-there _
+    let by-type-there = type-there (asLimits (args .«at» .limits)) (args .t .now) (at-whole-type .whole-type .result) (at-whole-type .whole-type .ensures)
+    (else1 .if1 .left) in
+    names-over (asLimits (args .«at» .limits)) (start .pre .0 .fair) (args .schema .now) (args .t .now) (args .out .now) (length
+    (args .work .now)) _ by-checked-there _ by-type-there _
     (all-names .all-names .last .1 .1 .1 .1 .1 .0) (all-names .all-names .result) (all-names .all-names .ensures) (n .n .given .0 .0) (n .n .given .1)
     (answer-fits .answer-fits .result) (answer-fits .answer-fits .ensures) (c .if2 .taken)
 
@@ -110,10 +117,12 @@ part-copy-end c =
     let start = at-whole-type .before .before .before .before .before .before .before .before in
     let args = start .args in
     let by-checked-there = sectioned-there (args .schema .now) (args .«at») (start .pre .0) in
-    let by-type-there = type-there (asLimits (args .«at» .limits)) (args .t .now) (at-whole-type .whole-type .result) (at-whole-type .whole-type .ensures) (else1 .if1 .left) in
+    let by-type-there = type-there (asLimits (args .«at» .limits)) (args .t .now) (at-whole-type .whole-type .result) (at-whole-type .whole-type .ensures)
+    (else1 .if1 .left) in
     omega (
       arith,
-      names-small (asLimits (args .«at» .limits)) (start .pre .0 .fair) (args .schema .now) (args .t .now) (args .out .now) (length (args .work .now)) _ by-checked-there _ by-type-there _
+      names-small (asLimits (args .«at» .limits)) (start .pre .0 .fair) (args .schema .now) (args .t .now) (args .out .now) (length
+          (args .work .now)) _ by-checked-there _ by-type-there _
           (all-names .all-names .last .1 .1 .1 .1 .1 .0) (all-names .all-names .result) (all-names .all-names .ensures) (n .n .given .0 .0) (n .n .given .1)
           (answer-fits .answer-fits .result) (answer-fits .answer-fits .ensures) (else2 .if2 .left),
       all-names .all-names .kept .1 .1 .1 .1 .1 .0,
@@ -130,8 +139,10 @@ copy-requires c κs =
     let start = at-whole-type .before .before .before .before .before .before .before .before in
     let args = start .args in
     let by-checked-there = sectioned-there (args .schema .now) (args .«at») (start .pre .0) in
-    let by-type-there = type-there (asLimits (args .«at» .limits)) (args .t .now) (at-whole-type .whole-type .result) (at-whole-type .whole-type .ensures) (else1 .if1 .left) in
-    names-fit (asLimits (args .«at» .limits)) (start .pre .0 .fair) (args .schema .now) (args .t .now) (args .out .now) (length (args .work .now)) _ by-checked-there _ by-type-there _
+    let by-type-there = type-there (asLimits (args .«at» .limits)) (args .t .now) (at-whole-type .whole-type .result) (at-whole-type .whole-type .ensures)
+    (else1 .if1 .left) in
+    names-fit (asLimits (args .«at» .limits)) (start .pre .0 .fair) (args .schema .now) (args .t .now) (args .out .now) (length
+    (args .work .now)) _ by-checked-there _ by-type-there _
     (all-names .all-names .last .1 .1 .1 .1 .1 .0) (all-names .all-names .result) (all-names .all-names .ensures) (n .n .given .0 .0) (n .n .given .1)
     (answer-fits .answer-fits .result) (answer-fits .answer-fits .ensures) (else2 .if2 .left)
 
@@ -159,8 +170,10 @@ returns-4 c =
     let start = at-whole-type .before .before .before .before .before .before .before .before in
     let args = start .args in
     let by-checked-there = sectioned-there (args .schema .now) (args .«at») (start .pre .0) in
-    let by-type-there = type-there (asLimits (args .«at» .limits)) (args .t .now) (at-whole-type .whole-type .result) (at-whole-type .whole-type .ensures) (else1 .if1 .left) in
-    names-write (asLimits (args .«at» .limits)) (start .pre .0 .fair) (args .schema .now) (args .t .now) (args .out .now) (length (args .work .now)) _ by-checked-there _ by-type-there _
+    let by-type-there = type-there (asLimits (args .«at» .limits)) (args .t .now) (at-whole-type .whole-type .result) (at-whole-type .whole-type .ensures)
+    (else1 .if1 .left) in
+    names-write (asLimits (args .«at» .limits)) (start .pre .0 .fair) (args .schema .now) (args .t .now) (args .out .now) (length
+    (args .work .now)) _ by-checked-there _ by-type-there _
     (all-names .all-names .last .1 .1 .1 .1 .1 .0) (all-names .all-names .result) (all-names .all-names .ensures) (n .n .given .0 .0) (n .n .given .1)
     (answer-fits .answer-fits .result) (answer-fits .answer-fits .ensures) (else2 .if2 .left) (copy .copy .last .1 .0) (copy .copy .ensures)
 

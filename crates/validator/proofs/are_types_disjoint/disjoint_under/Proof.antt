@@ -21,10 +21,12 @@ returns : tie.Need-returns
 returns c =
     let after-whole-type = c .before in
     let start = after-whole-type .before .before .before in
-    let by-missing = missing (wholeType (asLimits (start .args .limits)) (start .args .t0 .now)) (after-whole-type .whole-type .result) (after-whole-type .whole-type .ensures)
+    let by-missing = missing (wholeType (asLimits (start .args .limits)) (start .args .t0 .now)) (after-whole-type .whole-type .result)
+    (after-whole-type .whole-type .ensures)
     (c .if1 .taken) in
     within-limits (asLimits (start .args .limits)) (start .pre) _
-    (ask-no badFirst (λ (a : Ty). ask badSecond (wholeType (asLimits (start .args .limits)) (start .args .t1 .now)) (λ (b : Ty). said (disjoint a b))) by-missing)
+    (ask-no badFirst (λ (a : Ty). ask badSecond (wholeType (asLimits (start .args .limits)) (start .args .t1 .now)) (λ (b : Ty). said
+    (disjoint a b))) by-missing)
 
 whole-type-requires-2 : tie.Need-whole-type-requires-2
 whole-type-requires-2 c κs = search needs
@@ -36,12 +38,15 @@ returns-2 c =
     let after-whole-type = after-whole-type2 .before .before in
     let start = after-whole-type .before .before .before in
     let args = start .args in
-    let by-missing = missing (wholeType (asLimits (args .limits)) (args .t1 .now)) (after-whole-type2 .whole-type2 .result) (after-whole-type2 .whole-type2 .ensures)
+    let by-missing = missing (wholeType (asLimits (args .limits)) (args .t1 .now)) (after-whole-type2 .whole-type2 .result)
+    (after-whole-type2 .whole-type2 .ensures)
     (c .if2 .taken) in
     let by-ask-no = ask-no badSecond (λ (b : Ty). said (disjoint (dec (args .limits .levels) (args .t0 .now)) b)) by-missing in
-    let by-type-there = type-there (asLimits (args .limits)) (args .t0 .now) (after-whole-type .whole-type .result) (after-whole-type .whole-type .ensures) (if1 .left) in
+    let by-type-there = type-there (asLimits (args .limits)) (args .t0 .now) (after-whole-type .whole-type .result) (after-whole-type .whole-type .ensures)
+    (if1 .left) in
     within-limits (asLimits (start .args .limits)) (start .pre) _
-    (ask-on badFirst (λ (a : Ty). ask badSecond (wholeType (asLimits (args .limits)) (args .t1 .now)) (λ (b : Ty). said (disjoint a b))) by-type-there by-ask-no)
+    (ask-on badFirst (λ (a : Ty). ask badSecond (wholeType (asLimits (args .limits)) (args .t1 .now)) (λ (b : Ty). said
+    (disjoint a b))) by-type-there by-ask-no)
 
 are-types-disjoint-requires : tie.Need-are-types-disjoint-requires
 are-types-disjoint-requires c κs =
@@ -49,8 +54,12 @@ are-types-disjoint-requires c κs =
     let if1 = after-whole-type2 .before .if1 in
     let after-whole-type = after-whole-type2 .before .before in
     let start = after-whole-type .before .before .before in
-    let by-type-whole = type-whole (asLimits (start .args .limits)) (start .args .t0 .now) (after-whole-type .whole-type .result) (after-whole-type .whole-type .ensures) (if1 .left) in
-    (by-type-whole, type-whole (asLimits (start .args .limits)) (start .args .t1 .now) (after-whole-type2 .whole-type2 .result) (after-whole-type2 .whole-type2 .ensures) (c .if2 .left))
+    let by-type-whole = type-whole (asLimits (start .args .limits)) (start .args .t0 .now) (after-whole-type .whole-type .result)
+    (after-whole-type .whole-type .ensures) (if1 .left) in (
+      by-type-whole,
+      type-whole (asLimits (start .args .limits)) (start .args .t1 .now) (after-whole-type2 .whole-type2 .result)
+          (after-whole-type2 .whole-type2 .ensures) (c .if2 .left),
+    )
 
 yes-or-no-requires : tie.Need-yes-or-no-requires
 yes-or-no-requires c κs = search needs
@@ -63,12 +72,15 @@ returns-3 c =
     let after-whole-type = else1 .before in
     let start = after-whole-type .before .before .before in
     let args = start .args in
-    let by-type-there = type-there (asLimits (args .limits)) (args .t1 .now) (after-whole-type2 .whole-type2 .result) (after-whole-type2 .whole-type2 .ensures) (if2 .left) in
+    let by-type-there = type-there (asLimits (args .limits)) (args .t1 .now) (after-whole-type2 .whole-type2 .result)
+    (after-whole-type2 .whole-type2 .ensures) (if2 .left) in
     let by-ask-on = ask-on badSecond (λ (b : Ty). said (disjoint (dec (args .limits .levels) (args .t0 .now)) b)) by-type-there
     (c .yes-or-no .ensures ∙ ap (λ x. answerOf (said x)) (c .before .are-types-disjoint .ensures)) in
-    let by-type-there-2 = type-there (asLimits (args .limits)) (args .t0 .now) (after-whole-type .whole-type .result) (after-whole-type .whole-type .ensures) (else1 .if1 .left) in
+    let by-type-there-2 = type-there (asLimits (args .limits)) (args .t0 .now) (after-whole-type .whole-type .result)
+    (after-whole-type .whole-type .ensures) (else1 .if1 .left) in
     within-limits (asLimits (start .args .limits)) (start .pre) _
-    (ask-on badFirst (λ (a : Ty). ask badSecond (wholeType (asLimits (args .limits)) (args .t1 .now)) (λ (b : Ty). said (disjoint a b))) by-type-there-2 by-ask-on)
+    (ask-on badFirst (λ (a : Ty). ask badSecond (wholeType (asLimits (args .limits)) (args .t1 .now)) (λ (b : Ty). said
+    (disjoint a b))) by-type-there-2 by-ask-on)
 
 pub disjoint-under-spec : {M : Type 1} → statement M
 disjoint-under-spec =

@@ -1,6 +1,5 @@
 use Rattle.forms.specs.Limits.{asLimits}
 use Rattle.cedar.specs.Laws.Limits.{allowed-bytes}
-use mathlib.Core.Path.{_∙_}
 use lib.ListN.{length}
 use Rattle.forms.specs.TypeBytes.{dec}
 use Rattle.conversions.specs.CoreTypes.{core}
@@ -24,7 +23,8 @@ returns c =
     let whole-type = c .before .whole-type in
     let start = c .before .before .before .before in
     let args = start .args in
-    refuses 3 (convert-not (asLimits (args .limits)) (start .pre) (args .t .now) _ (type-not (asLimits (args .limits)) (args .t .now) (whole-type .result) (whole-type .ensures) (c .if1 .taken)))
+    refuses 3 (convert-not (asLimits (args .limits)) (start .pre) (args .t .now) _ (type-not (asLimits (args .limits)) (args .t .now) (whole-type .result)
+    (whole-type .ensures) (c .if1 .taken)))
 
 core-length-requires : tie.Need-core-length-requires
 core-length-requires c κs =
@@ -50,7 +50,8 @@ returns-2 c =
     let args = start .args in
     let by-convert-whole = convert-whole (asLimits (args .limits)) (start .pre) (args .t .now) (length (args .out .now))
     (type-is (asLimits (args .limits)) (args .t .now) (whole-type .result) (whole-type .ensures) (if1 .left) .0) in
-    writes-over (asLimits (args .limits)) (allowed-bytes (asLimits (args .limits)) (start .pre) .1) (core (dec (args .limits .levels) (args .t .now))) (args .out .now) _ by-convert-whole (core-length .result) (core-length .ensures) (n .given .0 .0) (n .given .1)
+    writes-over (asLimits (args .limits)) (allowed-bytes (asLimits (args .limits)) (start .pre) .1) (core (dec (args .limits .levels) (args .t .now)))
+    (args .out .now) _ by-convert-whole (core-length .result) (core-length .ensures) (n .given .0 .0) (n .given .1)
     (answer-fits .result) (answer-fits .ensures) (c .if2 .taken)
 
 write-core-requires : tie.Need-write-core-requires
@@ -64,7 +65,8 @@ write-core-requires c κs =
     let args = start .args in
     let by-type-is = type-is (asLimits (args .limits)) (args .t .now) (whole-type .result) (whole-type .ensures) (if1 .left) in (
       by-type-is .1,
-      writes-ready (asLimits (args .limits)) (allowed-bytes (asLimits (args .limits)) (start .pre) .1) (core (dec (args .limits .levels) (args .t .now))) (args .out .now) _ (convert-whole (asLimits (args .limits)) (start .pre) (args .t .now) (length (args .out .now)) (by-type-is .0))
+      writes-ready (asLimits (args .limits)) (allowed-bytes (asLimits (args .limits)) (start .pre) .1) (core (dec (args .limits .levels) (args .t .now)))
+          (args .out .now) _ (convert-whole (asLimits (args .limits)) (start .pre) (args .t .now) (length (args .out .now)) (by-type-is .0))
           (core-length .result) (core-length .ensures) (n .given .0 .0) (n .given .1) (answer-fits .result) (answer-fits .ensures) (c .before .if2 .left),
     )
 
@@ -88,7 +90,8 @@ returns-3 c =
     let args = start .args in
     let by-convert-whole = convert-whole (asLimits (args .limits)) (start .pre) (args .t .now) (length (args .out .now))
     (type-is (asLimits (args .limits)) (args .t .now) (whole-type .result) (whole-type .ensures) (if1 .left) .0) in
-    writes (asLimits (args .limits)) (allowed-bytes (asLimits (args .limits)) (start .pre) .1) (core (dec (args .limits .levels) (args .t .now))) (args .out .now) _ by-convert-whole (core-length .result) (core-length .ensures) (n .given .0 .0) (n .given .1)
+    writes (asLimits (args .limits)) (allowed-bytes (asLimits (args .limits)) (start .pre) .1) (core (dec (args .limits .levels) (args .t .now)))
+    (args .out .now) _ by-convert-whole (core-length .result) (core-length .ensures) (n .given .0 .0) (n .given .1)
     (answer-fits .result) (answer-fits .ensures) (if2 .left) (write-core .last .1 .1 .0) (write-core .result) (write-core .ensures)
 
 returns-4 : tie.Need-returns-4
@@ -101,7 +104,8 @@ returns-4 c =
     let args = start .args in
     let by-convert-whole = convert-whole (asLimits (args .limits)) (start .pre) (args .t .now) (length (args .out .now))
     (type-is (asLimits (args .limits)) (args .t .now) (whole-type .result) (whole-type .ensures) (if1 .left) .0) in
-    writes-not (asLimits (args .limits)) (allowed-bytes (asLimits (args .limits)) (start .pre) .1) (core (dec (args .limits .levels) (args .t .now))) (args .out .now) _ by-convert-whole (core-length .result) (core-length .ensures) (e .given .0 .0) (e .given .1)
+    writes-not (asLimits (args .limits)) (allowed-bytes (asLimits (args .limits)) (start .pre) .1) (core (dec (args .limits .levels) (args .t .now)))
+    (args .out .now) _ by-convert-whole (core-length .result) (core-length .ensures) (e .given .0 .0) (e .given .1)
 
 pub convert-under-spec : {M : Type 1} → statement M
 convert-under-spec =

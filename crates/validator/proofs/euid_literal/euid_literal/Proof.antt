@@ -1,5 +1,4 @@
 -- `validator::euid_literal::euid_literal` meets its contract. Assumes nothing.
-use mathlib.Core.Path.{_≡_}
 use lib.ListN.{length}
 use Rattle.cedar.specs.Calls.{literalCall}
 use Rattle.validator.specs.Answers.{Answered}
@@ -29,7 +28,8 @@ returns c =
     let start = check .before .before .before .before in
     let args = start .args in
     checked-under (args .limits) (args .schema .now) (check .check-schema .result) (check .check-schema .ensures)
-    (λ (lim : Limits). Answered (literalCall lim (args .schema .now) (args .v .now) (length (args .out .now))) (args .out .now) (call .euid-literal-checked .last .1 .1 .1 .0) (call .euid-literal-checked .result)) (call .euid-literal-checked .ensures)
+    (λ (lim : Limits). Answered (literalCall lim (args .schema .now) (args .v .now) (length (args .out .now))) (args .out .now)
+    (call .euid-literal-checked .last .1 .1 .1 .0) (call .euid-literal-checked .result)) (call .euid-literal-checked .ensures)
 
 pub euid-literal-spec : {M : Type 1} → statement M
 euid-literal-spec =

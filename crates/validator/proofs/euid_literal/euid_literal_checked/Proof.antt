@@ -64,7 +64,8 @@ returns-3 c =
     let start = check .before .before .before .before .before .before .before .before in
     let args = start .args in
     kept-under (args .schema .now) (args .check) (start .pre) (check .check .given .0 .0) (check .check .given .1)
-    (λ (lim : Limits). Answered (literalCall lim (args .schema .now) (args .v .now) (length (args .out .now))) (args .out .now) (under .literal-under .last .1 .1 .1 .0) (under .literal-under .result)) (under .literal-under .ensures)
+    (λ (lim : Limits). Answered (literalCall lim (args .schema .now) (args .v .now) (length (args .out .now))) (args .out .now)
+    (under .literal-under .last .1 .1 .1 .0) (under .literal-under .result)) (under .literal-under .ensures)
 
 pub euid-literal-checked-spec : {M : Type 1} → statement M
 euid-literal-checked-spec =

@@ -18,21 +18,30 @@ returns c =
     let start = whole-uid .before .before .before .before .before in
     let args = start .args in
     let by-checked-there = sectioned-there (args .schema .now) (args .«at») (start .pre) in
-    let by-uid-missing = uid-missing (asLimits (args .«at» .limits)) (args .v .now) (whole-uid .whole-uid .result) (whole-uid .whole-uid .ensures) (c .if1 .taken) in
+    let by-uid-missing = uid-missing (asLimits (args .«at» .limits)) (args .v .now) (whole-uid .whole-uid .result) (whole-uid .whole-uid .ensures)
+    (c .if1 .taken) in
     literal-no-uid (asLimits (args .«at» .limits)) (start .pre .fair) (args .schema .now) (args .v .now) (args .out .now) by-checked-there by-uid-missing
 
 u16-at-requires : tie.Need-u16-at-requires
 u16-at-requires c κs =
     let start = c .before .before .before .before .before .before in
     let whole-uid = c .before in
-    omega (arith, uid-there (asLimits (start .args .«at» .limits)) (start .args .v .now) (whole-uid .whole-uid .result) (whole-uid .whole-uid .ensures) (c .if1 .left) .0)
+    omega (
+      arith,
+      uid-there (asLimits (start .args .«at» .limits)) (start .args .v .now) (whole-uid .whole-uid .result) (whole-uid .whole-uid .ensures)
+          (c .if1 .left) .0,
+    )
 
 u16-at-requires-2 : tie.Need-u16-at-requires-2
 u16-at-requires-2 c κs =
     let start = c .before .before .before .before .before .before .before in
     let whole-uid = c .before .before in
     let else1 = c .before in
-    omega (arith, uid-there (asLimits (start .args .«at» .limits)) (start .args .v .now) (whole-uid .whole-uid .result) (whole-uid .whole-uid .ensures) (else1 .if1 .left) .0)
+    omega (
+      arith,
+      uid-there (asLimits (start .args .«at» .limits)) (start .args .v .now) (whole-uid .whole-uid .result) (whole-uid .whole-uid .ensures)
+          (else1 .if1 .left) .0,
+    )
 
 find-literal-requires : tie.Need-find-literal-requires
 find-literal-requires c κs =
@@ -53,11 +62,13 @@ returns-2 c =
     let shared-slice-known = whole-uid .before .before .before .before in
     let start = shared-slice-known .before in
     let args = start .args in
-    let by-uid-read = uid-read (asLimits (args .«at» .limits)) (args .v .now) (whole-uid .whole-uid .result) (whole-uid .whole-uid .ensures) (else1 .if1 .left) (u16-at .u16-at .result)
+    let by-uid-read = uid-read (asLimits (args .«at» .limits)) (args .v .now) (whole-uid .whole-uid .result) (whole-uid .whole-uid .ensures)
+    (else1 .if1 .left) (u16-at .u16-at .result)
     (u16-at2 .u16-at2 .result) (u16-at .u16-at .ensures .0) (u16-at2 .u16-at2 .ensures .0) in
     let by-checked-there = sectioned-there (args .schema .now) (args .«at») (start .pre) in
     let by-Bytes-index = Bytes-index (args .schema .now) (λ i. omega (arith, shared-slice-known .shared-slice-known .given i)) in
-    literal-nothing (asLimits (args .«at» .limits)) (start .pre .fair) (args .schema .now) (args .v .now) (args .out .now) by-checked-there (u16-at .u16-at .result) (u16-at2 .u16-at2 .result)
+    literal-nothing (asLimits (args .«at» .limits)) (start .pre .fair) (args .schema .now) (args .v .now) (args .out .now) by-checked-there
+    (u16-at .u16-at .result) (u16-at2 .u16-at2 .result)
     by-uid-read (find-literal .find-literal .result) (find-literal .find-literal .ensures) by-Bytes-index (literal-length .literal-length .result)
     (literal-length .literal-length .ensures) (c .if2 .taken)
 
@@ -77,11 +88,13 @@ returns-3 c =
     let shared-slice-known = whole-uid .before .before .before .before in
     let start = shared-slice-known .before in
     let args = start .args in
-    let by-uid-read = uid-read (asLimits (args .«at» .limits)) (args .v .now) (whole-uid .whole-uid .result) (whole-uid .whole-uid .ensures) (else1 .if1 .left) (u16-at .u16-at .result)
+    let by-uid-read = uid-read (asLimits (args .«at» .limits)) (args .v .now) (whole-uid .whole-uid .result) (whole-uid .whole-uid .ensures)
+    (else1 .if1 .left) (u16-at .u16-at .result)
     (u16-at2 .u16-at2 .result) (u16-at .u16-at .ensures .0) (u16-at2 .u16-at2 .ensures .0) in
     let by-checked-there = sectioned-there (args .schema .now) (args .«at») (start .pre) in
     let by-Bytes-index = Bytes-index (args .schema .now) (λ i. omega (arith, shared-slice-known .shared-slice-known .given i)) in
-    literal-over (asLimits (args .«at» .limits)) (start .pre .fair) (args .schema .now) (args .v .now) (args .out .now) by-checked-there (u16-at .u16-at .result) (u16-at2 .u16-at2 .result)
+    literal-over (asLimits (args .«at» .limits)) (start .pre .fair) (args .schema .now) (args .v .now) (args .out .now) by-checked-there
+    (u16-at .u16-at .result) (u16-at2 .u16-at2 .result)
     by-uid-read (find-literal .find-literal .result) (find-literal .find-literal .ensures) by-Bytes-index (literal-length .literal-length .result)
     (literal-length .literal-length .ensures) (else2 .if2 .left) (answer-fits .answer-fits .result) (answer-fits .answer-fits .ensures) (c .if3 .taken)
 
@@ -99,11 +112,13 @@ write-literal-requires c κs =
     let shared-slice-known = whole-uid .before .before .before .before in
     let start = shared-slice-known .before in
     let args = start .args in
-    let by-uid-read = uid-read (asLimits (args .«at» .limits)) (args .v .now) (whole-uid .whole-uid .result) (whole-uid .whole-uid .ensures) (else1 .if1 .left) (u16-at .u16-at .result)
+    let by-uid-read = uid-read (asLimits (args .«at» .limits)) (args .v .now) (whole-uid .whole-uid .result) (whole-uid .whole-uid .ensures)
+    (else1 .if1 .left) (u16-at .u16-at .result)
     (u16-at2 .u16-at2 .result) (u16-at .u16-at .ensures .0) (u16-at2 .u16-at2 .ensures .0) in
     let by-checked-there = sectioned-there (args .schema .now) (args .«at») (start .pre) in
     let by-Bytes-index = Bytes-index (args .schema .now) (λ i. omega (arith, shared-slice-known .shared-slice-known .given i)) in
-    let by-literal-room = literal-room (asLimits (args .«at» .limits)) (start .pre .fair) (args .schema .now) (args .v .now) (args .out .now) by-checked-there (u16-at .u16-at .result) (u16-at2 .u16-at2 .result)
+    let by-literal-room = literal-room (asLimits (args .«at» .limits)) (start .pre .fair) (args .schema .now) (args .v .now)
+    (args .out .now) by-checked-there (u16-at .u16-at .result) (u16-at2 .u16-at2 .result)
     by-uid-read (find-literal .find-literal .result) (find-literal .find-literal .ensures) by-Bytes-index (literal-length .literal-length .result)
     (literal-length .literal-length .ensures) (else2 .if2 .left) (answer-fits .answer-fits .result) (answer-fits .answer-fits .ensures)
     (else3 .if3 .left) in
@@ -127,11 +142,13 @@ returns-4 c =
     let shared-slice-known = whole-uid .before .before .before .before in
     let start = shared-slice-known .before in
     let args = start .args in
-    let by-uid-read = uid-read (asLimits (args .«at» .limits)) (args .v .now) (whole-uid .whole-uid .result) (whole-uid .whole-uid .ensures) (else1 .if1 .left) (u16-at .u16-at .result)
+    let by-uid-read = uid-read (asLimits (args .«at» .limits)) (args .v .now) (whole-uid .whole-uid .result) (whole-uid .whole-uid .ensures)
+    (else1 .if1 .left) (u16-at .u16-at .result)
     (u16-at2 .u16-at2 .result) (u16-at .u16-at .ensures .0) (u16-at2 .u16-at2 .ensures .0) in
     let by-checked-there = sectioned-there (args .schema .now) (args .«at») (start .pre) in
     let by-Bytes-index = Bytes-index (args .schema .now) (λ i. omega (arith, shared-slice-known .shared-slice-known .given i)) in
-    literal-writes (asLimits (args .«at» .limits)) (start .pre .fair) (args .schema .now) (args .v .now) (args .out .now) by-checked-there (u16-at .u16-at .result) (u16-at2 .u16-at2 .result)
+    literal-writes (asLimits (args .«at» .limits)) (start .pre .fair) (args .schema .now) (args .v .now) (args .out .now) by-checked-there
+    (u16-at .u16-at .result) (u16-at2 .u16-at2 .result)
     by-uid-read (find-literal .find-literal .result) (find-literal .find-literal .ensures) by-Bytes-index (literal-length .literal-length .result)
     (literal-length .literal-length .ensures) (else2 .if2 .left) (answer-fits .answer-fits .result) (answer-fits .answer-fits .ensures)
     (else3 .if3 .left) (write-literal .write-literal .last .1 .1 .1 .0) (write-literal .write-literal .ensures)

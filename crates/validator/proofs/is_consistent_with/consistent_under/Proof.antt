@@ -22,11 +22,13 @@ returns : tie.Need-returns
 returns c =
     let after-whole-type = c .before in
     let start = after-whole-type .before .before .before in
-    let by-missing = missing (wholeType (asLimits (start .args .limits)) (start .args .t0 .now)) (after-whole-type .whole-type .result) (after-whole-type .whole-type .ensures)
+    let by-missing = missing (wholeType (asLimits (start .args .limits)) (start .args .t0 .now)) (after-whole-type .whole-type .result)
+    (after-whole-type .whole-type .ensures)
     (c .if1 .taken) in
     within-limits (asLimits (start .args .limits)) (start .pre) _
     (ask-no badFirst
-    (λ (t : Ty). ask badSecond (wholeType (asLimits (start .args .limits)) (start .args .t1 .now)) (λ (u : Ty). ask notPlain (guard (plain u)) (λ _. said (consistent t u))))
+    (λ (t : Ty). ask badSecond (wholeType (asLimits (start .args .limits)) (start .args .t1 .now)) (λ (u : Ty). ask notPlain (guard (plain u)) (λ _. said
+    (consistent t u))))
     by-missing)
 
 whole-type-requires-2 : tie.Need-whole-type-requires-2
@@ -39,11 +41,14 @@ returns-2 c =
     let after-whole-type = after-whole-type2 .before .before in
     let start = after-whole-type .before .before .before in
     let args = start .args in
-    let by-type-there = type-there (asLimits (args .limits)) (args .t0 .now) (after-whole-type .whole-type .result) (after-whole-type .whole-type .ensures) (if1 .left) in
-    let by-missing = missing (wholeType (asLimits (args .limits)) (args .t1 .now)) (after-whole-type2 .whole-type2 .result) (after-whole-type2 .whole-type2 .ensures)
+    let by-type-there = type-there (asLimits (args .limits)) (args .t0 .now) (after-whole-type .whole-type .result) (after-whole-type .whole-type .ensures)
+    (if1 .left) in
+    let by-missing = missing (wholeType (asLimits (args .limits)) (args .t1 .now)) (after-whole-type2 .whole-type2 .result)
+    (after-whole-type2 .whole-type2 .ensures)
     (c .if2 .taken) in
     within-limits (asLimits (start .args .limits)) (start .pre) _
-    (ask-on badFirst (λ (t : Ty). ask badSecond (wholeType (asLimits (args .limits)) (args .t1 .now)) (λ (u : Ty). ask notPlain (guard (plain u)) (λ _. said (consistent t u))))
+    (ask-on badFirst (λ (t : Ty). ask badSecond (wholeType (asLimits (args .limits)) (args .t1 .now)) (λ (u : Ty). ask notPlain (guard (plain u)) (λ _. said
+    (consistent t u))))
     by-type-there (ask-no badSecond (λ (u : Ty). ask notPlain (guard (plain u)) (λ _. said (consistent (dec (args .limits .levels) (args .t0 .now)) u)))
     by-missing))
 
@@ -51,7 +56,8 @@ is-plain-requires : tie.Need-is-plain-requires
 is-plain-requires c κs =
     let start = c .before .before .before .before .before .before in
     let after-whole-type2 = c .before in
-    type-whole (asLimits (start .args .limits)) (start .args .t1 .now) (after-whole-type2 .whole-type2 .result) (after-whole-type2 .whole-type2 .ensures) (c .if2 .left)
+    type-whole (asLimits (start .args .limits)) (start .args .t1 .now) (after-whole-type2 .whole-type2 .result) (after-whole-type2 .whole-type2 .ensures)
+    (c .if2 .left)
 
 returns-3 : tie.Need-returns-3
 returns-3 c =
@@ -62,12 +68,15 @@ returns-3 c =
     let after-whole-type = else1 .before in
     let start = after-whole-type .before .before .before in
     let args = start .args in
-    let by-type-there = type-there (asLimits (args .limits)) (args .t0 .now) (after-whole-type .whole-type .result) (after-whole-type .whole-type .ensures) (else1 .if1 .left) in
-    let by-type-there-2 = type-there (asLimits (args .limits)) (args .t1 .now) (after-whole-type2 .whole-type2 .result) (after-whole-type2 .whole-type2 .ensures) (if2 .left) in
+    let by-type-there = type-there (asLimits (args .limits)) (args .t0 .now) (after-whole-type .whole-type .result) (after-whole-type .whole-type .ensures)
+    (else1 .if1 .left) in
+    let by-type-there-2 = type-there (asLimits (args .limits)) (args .t1 .now) (after-whole-type2 .whole-type2 .result)
+    (after-whole-type2 .whole-type2 .ensures) (if2 .left) in
     let by-guard-no = guard-no (plain (dec (args .limits .levels) (args .t1 .now))) (after-is-plain .is-plain .result) (after-is-plain .is-plain .ensures)
     (c .if3 .taken) in
     within-limits (asLimits (start .args .limits)) (start .pre) _
-    (ask-on badFirst (λ (t : Ty). ask badSecond (wholeType (asLimits (args .limits)) (args .t1 .now)) (λ (u : Ty). ask notPlain (guard (plain u)) (λ _. said (consistent t u))))
+    (ask-on badFirst (λ (t : Ty). ask badSecond (wholeType (asLimits (args .limits)) (args .t1 .now)) (λ (u : Ty). ask notPlain (guard (plain u)) (λ _. said
+    (consistent t u))))
     by-type-there (ask-on badSecond (λ (u : Ty). ask notPlain (guard (plain u)) (λ _. said (consistent (dec (args .limits .levels) (args .t0 .now)) u)))
     by-type-there-2 (ask-no notPlain
     (λ (_ : Unit {0}). said (consistent (dec (args .limits .levels) (args .t0 .now)) (dec (args .limits .levels) (args .t1 .now)))) by-guard-no)))
@@ -79,8 +88,12 @@ is-consistent-with-requires c κs =
     let else1 = after-whole-type2 .before in
     let after-whole-type = else1 .before in
     let start = after-whole-type .before .before .before in
-    let by-type-whole = type-whole (asLimits (start .args .limits)) (start .args .t0 .now) (after-whole-type .whole-type .result) (after-whole-type .whole-type .ensures) (else1 .if1 .left) in
-    (by-type-whole, type-whole (asLimits (start .args .limits)) (start .args .t1 .now) (after-whole-type2 .whole-type2 .result) (after-whole-type2 .whole-type2 .ensures) (if2 .left))
+    let by-type-whole = type-whole (asLimits (start .args .limits)) (start .args .t0 .now) (after-whole-type .whole-type .result)
+    (after-whole-type .whole-type .ensures) (else1 .if1 .left) in (
+      by-type-whole,
+      type-whole (asLimits (start .args .limits)) (start .args .t1 .now) (after-whole-type2 .whole-type2 .result)
+          (after-whole-type2 .whole-type2 .ensures) (if2 .left),
+    )
 
 yes-or-no-requires : tie.Need-yes-or-no-requires
 yes-or-no-requires c κs = search needs
@@ -95,12 +108,15 @@ returns-4 c =
     let after-whole-type = else1 .before in
     let start = after-whole-type .before .before .before in
     let args = start .args in
-    let by-type-there = type-there (asLimits (args .limits)) (args .t0 .now) (after-whole-type .whole-type .result) (after-whole-type .whole-type .ensures) (else1 .if1 .left) in
-    let by-type-there-2 = type-there (asLimits (args .limits)) (args .t1 .now) (after-whole-type2 .whole-type2 .result) (after-whole-type2 .whole-type2 .ensures) (else2 .if2 .left) in
+    let by-type-there = type-there (asLimits (args .limits)) (args .t0 .now) (after-whole-type .whole-type .result) (after-whole-type .whole-type .ensures)
+    (else1 .if1 .left) in
+    let by-type-there-2 = type-there (asLimits (args .limits)) (args .t1 .now) (after-whole-type2 .whole-type2 .result)
+    (after-whole-type2 .whole-type2 .ensures) (else2 .if2 .left) in
     let by-guard-yes = guard-yes (plain (dec (args .limits .levels) (args .t1 .now))) (after-is-plain .is-plain .result) (after-is-plain .is-plain .ensures)
     (if3 .left) in
     within-limits (asLimits (start .args .limits)) (start .pre) _
-    (ask-on badFirst (λ (t : Ty). ask badSecond (wholeType (asLimits (args .limits)) (args .t1 .now)) (λ (u : Ty). ask notPlain (guard (plain u)) (λ _. said (consistent t u))))
+    (ask-on badFirst (λ (t : Ty). ask badSecond (wholeType (asLimits (args .limits)) (args .t1 .now)) (λ (u : Ty). ask notPlain (guard (plain u)) (λ _. said
+    (consistent t u))))
     by-type-there (ask-on badSecond (λ (u : Ty). ask notPlain (guard (plain u)) (λ _. said (consistent (dec (args .limits .levels) (args .t0 .now)) u)))
     by-type-there-2 (ask-on notPlain
     (λ (_ : Unit {0}). said (consistent (dec (args .limits .levels) (args .t0 .now)) (dec (args .limits .levels) (args .t1 .now))))

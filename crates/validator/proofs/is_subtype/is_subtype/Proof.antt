@@ -23,7 +23,8 @@ returns c =
     let start = check .before .before .before .before in
     let args = start .args in
     checked-under (args .limits) (args .schema .now) (check .check-schema .result) (check .check-schema .ensures)
-    (λ (lim : Limits). c .is-subtype-checked .result ≡ answerOf (subtypeCall lim (args .mode) (args .schema .now) (args .t0 .now) (args .t1 .now))) (c .is-subtype-checked .ensures)
+    (λ (lim : Limits). c .is-subtype-checked .result ≡ answerOf (subtypeCall lim (args .mode) (args .schema .now) (args .t0 .now) (args .t1 .now)))
+    (c .is-subtype-checked .ensures)
 
 pub is-subtype-spec : {M : Type 1} → statement M
 is-subtype-spec =

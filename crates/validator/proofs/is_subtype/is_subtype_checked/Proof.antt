@@ -45,7 +45,8 @@ returns-2 c =
     let limits = c .before .before .before in
     let start = limits .before .before .before .before in
     let args = start .args in
-    subst (λ (l : LimitsStruct). c .is-subtype-under .result ≡ answerOf (subtypeCall (asLimits l) (args .mode) (args .schema .now) (args .t0 .now) (args .t1 .now)))
+    subst (λ (l : LimitsStruct). c .is-subtype-under .result ≡ answerOf (subtypeCall (asLimits l) (args .mode) (args .schema .now) (args .t0 .now)
+    (args .t1 .now)))
     (limits .limits .ensures) (c .is-subtype-under .ensures)
 
 pub is-subtype-checked-spec : {M : Type 1} → statement M

@@ -38,7 +38,8 @@ returns-2 c =
     let start = from .before .before .before .before in
     let args = start .args in
     let by-mode-known = mode-known (args .mode) (from .from-number .result) (from .from-number .ensures) (known .m .given .0 .0) (known .m .given .1) in
-    let by-checked-missing = checked-missing (args .limits) (args .schema .now) (args .check) (start .pre .1) (start .pre .0) (c .enum-told3 .given .0 .0) (c .enum-told3 .given .1) in
+    let by-checked-missing = checked-missing (args .limits) (args .schema .now) (args .check) (start .pre .1) (start .pre .0) (c .enum-told3 .given .0 .0)
+    (c .enum-told3 .given .1) in
     subtype-schema (asLimits (args .limits)) (start .pre .0) (args .mode) (args .schema .now) (args .t0 .now) (args .t1 .now) _ by-mode-known by-checked-missing
 
 whole-type-requires : tie.Need-whole-type-requires
@@ -55,8 +56,10 @@ returns-3 c =
     let by-mode-known = mode-known (args .mode) (from .from-number .result) (from .from-number .ensures) (known .m .given .0 .0) (known .m .given .1) in
     let by-checked-there = checked-there (args .limits) (args .schema .now) (args .check) (start .pre .1) (at-enum-told .enum-told2 .given .0 .0)
     (at-enum-told .enum-told2 .given .1) in
-    let by-type-missing = type-missing (asLimits (args .limits)) (args .t0 .now) (whole-type .whole-type .result) (whole-type .whole-type .ensures) (c .if1 .taken) in
-    subtype-first (asLimits (args .limits)) (start .pre .0) (args .mode) (args .schema .now) (args .t0 .now) (args .t1 .now) _ by-mode-known _ by-checked-there by-type-missing
+    let by-type-missing = type-missing (asLimits (args .limits)) (args .t0 .now) (whole-type .whole-type .result) (whole-type .whole-type .ensures)
+    (c .if1 .taken) in
+    subtype-first (asLimits (args .limits)) (start .pre .0) (args .mode) (args .schema .now) (args .t0 .now)
+    (args .t1 .now) _ by-mode-known _ by-checked-there by-type-missing
 
 whole-type-requires-2 : tie.Need-whole-type-requires-2
 whole-type-requires-2 c κs = search needs
@@ -74,9 +77,12 @@ returns-4 c =
     let by-mode-known = mode-known (args .mode) (from .from-number .result) (from .from-number .ensures) (known .m .given .0 .0) (known .m .given .1) in
     let by-checked-there = checked-there (args .limits) (args .schema .now) (args .check) (start .pre .1) (at-enum-told .enum-told2 .given .0 .0)
     (at-enum-told .enum-told2 .given .1) in
-    let by-type-there = type-there (asLimits (args .limits)) (args .t0 .now) (whole-type .whole-type .result) (whole-type .whole-type .ensures) (else2 .if1 .left) in
-    let by-type-missing = type-missing (asLimits (args .limits)) (args .t1 .now) (whole-type2 .whole-type2 .result) (whole-type2 .whole-type2 .ensures) (c .if2 .taken) in
-    subtype-second (asLimits (args .limits)) (start .pre .0) (args .mode) (args .schema .now) (args .t0 .now) (args .t1 .now) _ by-mode-known _ by-checked-there _ by-type-there by-type-missing
+    let by-type-there = type-there (asLimits (args .limits)) (args .t0 .now) (whole-type .whole-type .result) (whole-type .whole-type .ensures)
+    (else2 .if1 .left) in
+    let by-type-missing = type-missing (asLimits (args .limits)) (args .t1 .now) (whole-type2 .whole-type2 .result) (whole-type2 .whole-type2 .ensures)
+    (c .if2 .taken) in
+    subtype-second (asLimits (args .limits)) (start .pre .0) (args .mode) (args .schema .now) (args .t0 .now)
+    (args .t1 .now) _ by-mode-known _ by-checked-there _ by-type-there by-type-missing
 
 is-subtype-requires : tie.Need-is-subtype-requires
 is-subtype-requires c κs =
@@ -84,8 +90,12 @@ is-subtype-requires c κs =
     let else2 = whole-type2 .before in
     let whole-type = else2 .before in
     let start = whole-type .before .before .before .before .before .before .before .before .before .before in
-    let by-type-whole = type-whole (asLimits (start .args .limits)) (start .args .t0 .now) (whole-type .whole-type .result) (whole-type .whole-type .ensures) (else2 .if1 .left) in
-    (by-type-whole, type-whole (asLimits (start .args .limits)) (start .args .t1 .now) (whole-type2 .whole-type2 .result) (whole-type2 .whole-type2 .ensures) (c .if2 .left))
+    let by-type-whole = type-whole (asLimits (start .args .limits)) (start .args .t0 .now) (whole-type .whole-type .result)
+    (whole-type .whole-type .ensures) (else2 .if1 .left) in (
+      by-type-whole,
+      type-whole (asLimits (start .args .limits)) (start .args .t1 .now) (whole-type2 .whole-type2 .result)
+          (whole-type2 .whole-type2 .ensures) (c .if2 .left),
+    )
 
 yes-or-no-requires : tie.Need-yes-or-no-requires
 yes-or-no-requires c κs = search needs
@@ -105,9 +115,12 @@ returns-5 c =
     let by-mode-known = mode-known (args .mode) (from .from-number .result) (from .from-number .ensures) (known .m .given .0 .0) (known .m .given .1) in
     let by-checked-there = checked-there (args .limits) (args .schema .now) (args .check) (start .pre .1) (at-enum-told .enum-told2 .given .0 .0)
     (at-enum-told .enum-told2 .given .1) in
-    let by-type-there = type-there (asLimits (args .limits)) (args .t0 .now) (whole-type .whole-type .result) (whole-type .whole-type .ensures) (else2 .if1 .left) in
-    let by-type-there-2 = type-there (asLimits (args .limits)) (args .t1 .now) (whole-type2 .whole-type2 .result) (whole-type2 .whole-type2 .ensures) (else3 .if2 .left) in
-    subtype-said (asLimits (args .limits)) (start .pre .0) (args .mode) (args .schema .now) (args .t0 .now) (args .t1 .now) _ by-mode-known _ by-checked-there _ by-type-there _ by-type-there-2
+    let by-type-there = type-there (asLimits (args .limits)) (args .t0 .now) (whole-type .whole-type .result) (whole-type .whole-type .ensures)
+    (else2 .if1 .left) in
+    let by-type-there-2 = type-there (asLimits (args .limits)) (args .t1 .now) (whole-type2 .whole-type2 .result) (whole-type2 .whole-type2 .ensures)
+    (else3 .if2 .left) in
+    subtype-said (asLimits (args .limits)) (start .pre .0) (args .mode) (args .schema .now) (args .t0 .now)
+    (args .t1 .now) _ by-mode-known _ by-checked-there _ by-type-there _ by-type-there-2
     (c .yes-or-no .result) (is-subtype .is-subtype .result) (c .yes-or-no .ensures) (is-subtype .is-subtype .ensures)
 
 pub is-subtype-under-spec : {M : Type 1} → statement M

@@ -1,5 +1,4 @@
 -- `validator::least_upper_bound::least_upper_bound` meets its contract. Assumes nothing.
-use mathlib.Core.Path.{_≡_}
 use lib.ListN.{length}
 use Rattle.cedar.specs.Calls.{boundCall}
 use Rattle.validator.specs.Answers.{Answered}
@@ -29,7 +28,8 @@ returns c =
     let start = check .before .before .before .before .before in
     let args = start .args in
     checked-under (args .limits) (args .schema .now) (check .check-schema .result) (check .check-schema .ensures)
-    (λ (lim : Limits). Answered (boundCall lim (args .mode) (args .schema .now) (args .t0 .now) (args .t1 .now) (length (args .out .now))) (args .out .now) (call .least-upper-bound-checked .last .1 .1 .1 .1 .1 .0) (call .least-upper-bound-checked .result)) (call .least-upper-bound-checked .ensures)
+    (λ (lim : Limits). Answered (boundCall lim (args .mode) (args .schema .now) (args .t0 .now) (args .t1 .now) (length (args .out .now))) (args .out .now)
+    (call .least-upper-bound-checked .last .1 .1 .1 .1 .1 .0) (call .least-upper-bound-checked .result)) (call .least-upper-bound-checked .ensures)
 
 pub least-upper-bound-spec : {M : Type 1} → statement M
 least-upper-bound-spec =

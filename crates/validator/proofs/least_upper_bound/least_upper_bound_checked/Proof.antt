@@ -1,5 +1,5 @@
 -- `validator::least_upper_bound::least_upper_bound_checked` meets its contract. Assumes nothing.
-use mathlib.Core.Path.{_≡_, sym, subst, _∙_}
+use mathlib.Core.Path.{sym, subst, _∙_}
 use lib.ListN.{length}
 use borrow.Author.Tests.{not-false}
 use Rattle.cedar.specs.Calls.{boundCall}
@@ -28,7 +28,8 @@ returns c =
     let args = start .args in
     let bad = kept-refused (args .schema .now) (args .check) (start .pre) (limits .limits .result) (limits .limits .ensures) (allowed .are-allowed .result)
     (allowed .are-allowed .ensures) (c .if1 .taken) in
-    refuses 20 (bound-refused (asLimits (limitsOf (args .check))) bad (args .mode) (args .schema .now) (args .t0 .now) (args .t1 .now) (length (args .out .now)))
+    refuses 20 (bound-refused (asLimits (limitsOf (args .check))) bad (args .mode) (args .schema .now) (args .t0 .now) (args .t1 .now) (length
+    (args .out .now)))
 
 least-upper-bound-under-requires : tie.Need-least-upper-bound-under-requires
 least-upper-bound-under-requires c κs =
@@ -52,7 +53,8 @@ returns-2 c =
     let limits = under .before .before .before .before in
     let start = limits .before .before .before .before .before in
     let args = start .args in
-    subst (λ (l : LimitsStruct). Answered (boundCall (asLimits l) (args .mode) (args .schema .now) (args .t0 .now) (args .t1 .now) (length (args .out .now))) (args .out .now) (under .least-upper-bound-under .last .1 .1 .1 .1 .1 .1 .0) (under .least-upper-bound-under .result))
+    subst (λ (l : LimitsStruct). Answered (boundCall (asLimits l) (args .mode) (args .schema .now) (args .t0 .now) (args .t1 .now) (length
+    (args .out .now))) (args .out .now) (under .least-upper-bound-under .last .1 .1 .1 .1 .1 .1 .0) (under .least-upper-bound-under .result))
     (limits .limits .ensures) (under .least-upper-bound-under .ensures)
 
 pub least-upper-bound-checked-spec : {M : Type 1} → statement M

@@ -32,7 +32,8 @@ returns c =
     let start = from .before .before .before .before .before in
     let args = start .args in
     let by-mode-none = mode-none (args .mode) (from .from-number .result) (from .from-number .ensures) (c .enum-told .given .1) in
-    let by-bound-mode = bound-mode (asLimits (args .limits)) (start .pre .0) (args .mode) (args .schema .now) (args .t0 .now) (args .t1 .now) (length (args .out .now)) by-mode-none in
+    let by-bound-mode = bound-mode (asLimits (args .limits)) (start .pre .0) (args .mode) (args .schema .now) (args .t0 .now) (args .t1 .now) (length
+    (args .out .now)) by-mode-none in
     refuses 1 by-bound-mode
 
 enum-told-2 : tie.Need-enum-told-2
@@ -48,8 +49,10 @@ returns-2 c =
     let start = from .before .before .before .before .before in
     let args = start .args in
     let by-mode-known = mode-known (args .mode) (from .from-number .result) (from .from-number .ensures) (known .m .given .0 .0) (known .m .given .1) in
-    let by-checked-missing = checked-missing (args .limits) (args .schema .now) (args .check) (start .pre .1) (start .pre .0) (c .enum-told3 .given .0 .0) (c .enum-told3 .given .1) in
-    refuses 2 (bound-schema (asLimits (args .limits)) (start .pre .0) (args .mode) (args .schema .now) (args .t0 .now) (args .t1 .now) (length (args .out .now)) _ by-mode-known by-checked-missing)
+    let by-checked-missing = checked-missing (args .limits) (args .schema .now) (args .check) (start .pre .1) (start .pre .0) (c .enum-told3 .given .0 .0)
+    (c .enum-told3 .given .1) in
+    refuses 2 (bound-schema (asLimits (args .limits)) (start .pre .0) (args .mode) (args .schema .now) (args .t0 .now) (args .t1 .now) (length
+    (args .out .now)) _ by-mode-known by-checked-missing)
 
 whole-type-requires : tie.Need-whole-type-requires
 whole-type-requires c κs = search needs
@@ -65,8 +68,10 @@ returns-3 c =
     let by-mode-known = mode-known (args .mode) (from .from-number .result) (from .from-number .ensures) (known .m .given .0 .0) (known .m .given .1) in
     let by-checked-there = checked-there (args .limits) (args .schema .now) (args .check) (start .pre .1) (at-enum-told .enum-told2 .given .0 .0)
     (at-enum-told .enum-told2 .given .1) in
-    let by-type-missing = type-missing (asLimits (args .limits)) (args .t0 .now) (whole-type .whole-type .result) (whole-type .whole-type .ensures) (c .if1 .taken) in
-    refuses 3 (bound-first (asLimits (args .limits)) (start .pre .0) (args .mode) (args .schema .now) (args .t0 .now) (args .t1 .now) (length (args .out .now)) _ by-mode-known _ by-checked-there
+    let by-type-missing = type-missing (asLimits (args .limits)) (args .t0 .now) (whole-type .whole-type .result) (whole-type .whole-type .ensures)
+    (c .if1 .taken) in
+    refuses 3 (bound-first (asLimits (args .limits)) (start .pre .0) (args .mode) (args .schema .now) (args .t0 .now) (args .t1 .now) (length
+    (args .out .now)) _ by-mode-known _ by-checked-there
     by-type-missing)
 
 whole-type-requires-2 : tie.Need-whole-type-requires-2
@@ -85,9 +90,12 @@ returns-4 c =
     let by-mode-known = mode-known (args .mode) (from .from-number .result) (from .from-number .ensures) (known .m .given .0 .0) (known .m .given .1) in
     let by-checked-there = checked-there (args .limits) (args .schema .now) (args .check) (start .pre .1) (at-enum-told .enum-told2 .given .0 .0)
     (at-enum-told .enum-told2 .given .1) in
-    let by-type-there = type-there (asLimits (args .limits)) (args .t0 .now) (whole-type .whole-type .result) (whole-type .whole-type .ensures) (else2 .if1 .left) in
-    let by-type-missing = type-missing (asLimits (args .limits)) (args .t1 .now) (whole-type2 .whole-type2 .result) (whole-type2 .whole-type2 .ensures) (c .if2 .taken) in
-    refuses 4 (bound-second (asLimits (args .limits)) (start .pre .0) (args .mode) (args .schema .now) (args .t0 .now) (args .t1 .now) (length (args .out .now)) _ by-mode-known _ by-checked-there
+    let by-type-there = type-there (asLimits (args .limits)) (args .t0 .now) (whole-type .whole-type .result) (whole-type .whole-type .ensures)
+    (else2 .if1 .left) in
+    let by-type-missing = type-missing (asLimits (args .limits)) (args .t1 .now) (whole-type2 .whole-type2 .result) (whole-type2 .whole-type2 .ensures)
+    (c .if2 .taken) in
+    refuses 4 (bound-second (asLimits (args .limits)) (start .pre .0) (args .mode) (args .schema .now) (args .t0 .now) (args .t1 .now) (length
+    (args .out .now)) _ by-mode-known _ by-checked-there
     by-type-there by-type-missing)
 
 bound-length-requires : tie.Need-bound-length-requires
@@ -96,8 +104,12 @@ bound-length-requires c κs =
     let else2 = whole-type2 .before in
     let whole-type = else2 .before in
     let start = whole-type .before .before .before .before .before .before .before .before .before .before .before in
-    let by-type-whole = type-whole (asLimits (start .args .limits)) (start .args .t0 .now) (whole-type .whole-type .result) (whole-type .whole-type .ensures) (else2 .if1 .left) in
-    (by-type-whole, type-whole (asLimits (start .args .limits)) (start .args .t1 .now) (whole-type2 .whole-type2 .result) (whole-type2 .whole-type2 .ensures) (c .if2 .left))
+    let by-type-whole = type-whole (asLimits (start .args .limits)) (start .args .t0 .now) (whole-type .whole-type .result)
+    (whole-type .whole-type .ensures) (else2 .if1 .left) in (
+      by-type-whole,
+      type-whole (asLimits (start .args .limits)) (start .args .t1 .now) (whole-type2 .whole-type2 .result)
+          (whole-type2 .whole-type2 .ensures) (c .if2 .left),
+    )
 
 enum-known-n : tie.Need-enum-known-n
 enum-known-n c = search needs
@@ -125,10 +137,13 @@ returns-5 c =
     let by-mode-known = mode-known (args .mode) (from .from-number .result) (from .from-number .ensures) (known .m .given .0 .0) (known .m .given .1) in
     let by-checked-there = checked-there (args .limits) (args .schema .now) (args .check) (start .pre .1) (at-enum-told .enum-told2 .given .0 .0)
     (at-enum-told .enum-told2 .given .1) in
-    let by-type-there = type-there (asLimits (args .limits)) (args .t0 .now) (whole-type .whole-type .result) (whole-type .whole-type .ensures) (else2 .if1 .left) in
-    let by-type-there-2 = type-there (asLimits (args .limits)) (args .t1 .now) (whole-type2 .whole-type2 .result) (whole-type2 .whole-type2 .ensures) (else3 .if2 .left) in
+    let by-type-there = type-there (asLimits (args .limits)) (args .t0 .now) (whole-type .whole-type .result) (whole-type .whole-type .ensures)
+    (else2 .if1 .left) in
+    let by-type-there-2 = type-there (asLimits (args .limits)) (args .t1 .now) (whole-type2 .whole-type2 .result) (whole-type2 .whole-type2 .ensures)
+    (else3 .if2 .left) in
     writes-over (asLimits (args .limits)) (allowed-bytes (asLimits (args .limits)) (start .pre .0) .1) by-direct (args .out .now)
-    _ (bound-direct (asLimits (args .limits)) (start .pre .0) (args .mode) (args .schema .now) (args .t0 .now) (args .t1 .now) (length (args .out .now)) _ by-mode-known _ by-checked-there
+    _ (bound-direct (asLimits (args .limits)) (start .pre .0) (args .mode) (args .schema .now) (args .t0 .now) (args .t1 .now) (length
+    (args .out .now)) _ by-mode-known _ by-checked-there
     by-type-there (λ i. shared-slice-known2 .shared-slice-known2 .given i .fits) (λ i. shared-slice-known3 .shared-slice-known3 .given i .fits)
     by-type-there-2) (bound-length .bound-length .result) (bound-length .bound-length .ensures) (n .n .given .0 .0) (n .n .given .1)
     (answer-fits .answer-fits .result) (answer-fits .answer-fits .ensures) (c .if3 .taken)
@@ -146,16 +161,20 @@ write-bound-requires c κs =
     let known = whole-type .before .before .before .before in
     let start = known .before .before .before .before .before .before .before in
     let args = start .args in
-    let by-type-whole = type-whole (asLimits (args .limits)) (args .t0 .now) (whole-type .whole-type .result) (whole-type .whole-type .ensures) (else2 .if1 .left) in
-    let by-type-whole-2 = type-whole (asLimits (args .limits)) (args .t1 .now) (whole-type2 .whole-type2 .result) (whole-type2 .whole-type2 .ensures) (else3 .if2 .left) in
+    let by-type-whole = type-whole (asLimits (args .limits)) (args .t0 .now) (whole-type .whole-type .result) (whole-type .whole-type .ensures)
+    (else2 .if1 .left) in
+    let by-type-whole-2 = type-whole (asLimits (args .limits)) (args .t1 .now) (whole-type2 .whole-type2 .result) (whole-type2 .whole-type2 .ensures)
+    (else3 .if2 .left) in
     let by-direct = direct (asMode (known .m .given .0 .0)) (dec (args .limits .levels) (args .t0 .now)) (dec (args .limits .levels) (args .t1 .now)) in (
       by-type-whole,
       (
         by-type-whole-2,
         (
-          writes-ready (asLimits (args .limits)) (allowed-bytes (asLimits (args .limits)) (start .pre .0) .1) by-direct (args .out .now) _ refl (bound-length .bound-length .result) (bound-length .bound-length .ensures)
+          writes-ready (asLimits (args .limits)) (allowed-bytes (asLimits (args .limits)) (start .pre .0) .1) by-direct (args .out .now) _ refl
+              (bound-length .bound-length .result) (bound-length .bound-length .ensures)
               (n .n .given .0 .0) (n .n .given .1) (answer-fits .answer-fits .result) (answer-fits .answer-fits .ensures) (else4 .if3 .left),
-          λ p. writes-length (asLimits (args .limits)) (allowed-bytes (asLimits (args .limits)) (start .pre .0) .1) by-direct (args .out .now) _ refl (bound-length .bound-length .result) (bound-length .bound-length .ensures)
+          λ p. writes-length (asLimits (args .limits)) (allowed-bytes (asLimits (args .limits)) (start .pre .0) .1) by-direct (args .out .now) _ refl
+              (bound-length .bound-length .result) (bound-length .bound-length .ensures)
               (n .n .given .0 .0) (n .n .given .1) (answer-fits .answer-fits .result) (answer-fits .answer-fits .ensures) (else4 .if3 .left),
         ),
       ),
@@ -189,9 +208,12 @@ returns-6 c =
     let by-mode-known = mode-known (args .mode) (from .from-number .result) (from .from-number .ensures) (known .m .given .0 .0) (known .m .given .1) in
     let by-checked-there = checked-there (args .limits) (args .schema .now) (args .check) (start .pre .1) (at-enum-told .enum-told2 .given .0 .0)
     (at-enum-told .enum-told2 .given .1) in
-    let by-type-there = type-there (asLimits (args .limits)) (args .t0 .now) (whole-type .whole-type .result) (whole-type .whole-type .ensures) (else2 .if1 .left) in
-    let by-type-there-2 = type-there (asLimits (args .limits)) (args .t1 .now) (whole-type2 .whole-type2 .result) (whole-type2 .whole-type2 .ensures) (else3 .if2 .left) in
-    writes (asLimits (args .limits)) (allowed-bytes (asLimits (args .limits)) (start .pre .0) .1) by-direct (args .out .now) _ (bound-direct (asLimits (args .limits)) (start .pre .0) (args .mode) (args .schema .now) (args .t0 .now) (args .t1 .now) (length (args .out .now)) _ by-mode-known
+    let by-type-there = type-there (asLimits (args .limits)) (args .t0 .now) (whole-type .whole-type .result) (whole-type .whole-type .ensures)
+    (else2 .if1 .left) in
+    let by-type-there-2 = type-there (asLimits (args .limits)) (args .t1 .now) (whole-type2 .whole-type2 .result) (whole-type2 .whole-type2 .ensures)
+    (else3 .if2 .left) in
+    writes (asLimits (args .limits)) (allowed-bytes (asLimits (args .limits)) (start .pre .0) .1) by-direct (args .out .now) _ (bound-direct (asLimits
+    (args .limits)) (start .pre .0) (args .mode) (args .schema .now) (args .t0 .now) (args .t1 .now) (length (args .out .now)) _ by-mode-known
     _ by-checked-there by-type-there (λ i. shared-slice-known2 .shared-slice-known2 .given i .fits)
     (λ i. shared-slice-known3 .shared-slice-known3 .given i .fits) by-type-there-2) (bound-length .bound-length .result)
     (bound-length .bound-length .ensures) (n .n .given .0 .0) (n .n .given .1) (answer-fits .answer-fits .result)
@@ -217,10 +239,13 @@ returns-7 c =
     let by-mode-known = mode-known (args .mode) (from .from-number .result) (from .from-number .ensures) (known .m .given .0 .0) (known .m .given .1) in
     let by-checked-there = checked-there (args .limits) (args .schema .now) (args .check) (start .pre .1) (at-enum-told .enum-told2 .given .0 .0)
     (at-enum-told .enum-told2 .given .1) in
-    let by-type-there = type-there (asLimits (args .limits)) (args .t0 .now) (whole-type .whole-type .result) (whole-type .whole-type .ensures) (else2 .if1 .left) in
-    let by-type-there-2 = type-there (asLimits (args .limits)) (args .t1 .now) (whole-type2 .whole-type2 .result) (whole-type2 .whole-type2 .ensures) (else3 .if2 .left) in
+    let by-type-there = type-there (asLimits (args .limits)) (args .t0 .now) (whole-type .whole-type .result) (whole-type .whole-type .ensures)
+    (else2 .if1 .left) in
+    let by-type-there-2 = type-there (asLimits (args .limits)) (args .t1 .now) (whole-type2 .whole-type2 .result) (whole-type2 .whole-type2 .ensures)
+    (else3 .if2 .left) in
     writes-not (asLimits (args .limits)) (allowed-bytes (asLimits (args .limits)) (start .pre .0) .1) by-direct (args .out .now)
-    _ (bound-direct (asLimits (args .limits)) (start .pre .0) (args .mode) (args .schema .now) (args .t0 .now) (args .t1 .now) (length (args .out .now)) _ by-mode-known _ by-checked-there
+    _ (bound-direct (asLimits (args .limits)) (start .pre .0) (args .mode) (args .schema .now) (args .t0 .now) (args .t1 .now) (length
+    (args .out .now)) _ by-mode-known _ by-checked-there
     by-type-there (λ i. shared-slice-known2 .shared-slice-known2 .given i .fits) (λ i. shared-slice-known3 .shared-slice-known3 .given i .fits)
     by-type-there-2) (bound-length .bound-length .result) (bound-length .bound-length .ensures) (e .e .given .0 .0) (e .e .given .1)
 

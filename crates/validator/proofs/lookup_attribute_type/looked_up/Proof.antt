@@ -1,6 +1,5 @@
 -- `validator::lookup_attribute_type::looked_up` meets its contract. Assumes nothing.
 use Rattle.forms.specs.Limits.{asLimits}
-use mathlib.Core.Path.{refl}
 use Rattle.validator.specs.Laws.Lookup.{small, lookup-no-type, lookup-nothing, lookup-too-long, lookup-over, lookup-room, lookup-writes}
 use native.Mathlib.Omega.{arith}
 use lib.ListN.{length}
@@ -19,8 +18,10 @@ returns c =
     let start = at-whole-type .before .before .before .before .before .before .before in
     let args = start .args in
     let by-checked-there = sectioned-there (args .schema .now) (args .«at») (start .pre .0) in
-    let by-type-missing = type-missing (asLimits (args .«at» .limits)) (args .t .now) (at-whole-type .whole-type .result) (at-whole-type .whole-type .ensures) (c .if1 .taken) in
-    lookup-no-type (asLimits (args .«at» .limits)) (start .pre .0 .fair) (args .schema .now) (args .attr) (args .t .now) (args .out .now) (length (args .work .now)) _ by-checked-there by-type-missing
+    let by-type-missing = type-missing (asLimits (args .«at» .limits)) (args .t .now) (at-whole-type .whole-type .result)
+    (at-whole-type .whole-type .ensures) (c .if1 .taken) in
+    lookup-no-type (asLimits (args .«at» .limits)) (start .pre .0 .fair) (args .schema .now) (args .attr) (args .t .now) (args .out .now) (length
+    (args .work .now)) _ by-checked-there by-type-missing
 
 look-up-requires : tie.Need-look-up-requires
 look-up-requires c κs =
@@ -30,8 +31,10 @@ look-up-requires c κs =
     let args = start .args in (
       start .pre .0,
       record {
-        good = type-whole (asLimits (args .«at» .limits)) (args .t .now) (at-whole-type .whole-type .result) (at-whole-type .whole-type .ensures) (else1 .if1 .left);
-        few = type-few (asLimits (args .«at» .limits)) (args .t .now) (at-whole-type .whole-type .result) (at-whole-type .whole-type .ensures) (else1 .if1 .left);
+        good = type-whole (asLimits (args .«at» .limits)) (args .t .now) (at-whole-type .whole-type .result) (at-whole-type .whole-type .ensures)
+            (else1 .if1 .left);
+        few = type-few (asLimits (args .«at» .limits)) (args .t .now) (at-whole-type .whole-type .result) (at-whole-type .whole-type .ensures)
+            (else1 .if1 .left);
         room = start .pre .1;
       },
     )
@@ -58,10 +61,13 @@ returns-2 c =
     let start = at-whole-type .before .before .before .before .before .before .before in
     let args = start .args in
     let by-checked-there = sectioned-there (args .schema .now) (args .«at») (start .pre .0) in
-    let by-type-there = type-there (asLimits (args .«at» .limits)) (args .t .now) (at-whole-type .whole-type .result) (at-whole-type .whole-type .ensures) (else1 .if1 .left) in
-    lookup-over (asLimits (args .«at» .limits)) (start .pre .0 .fair) (args .schema .now) (args .attr) (args .t .now) (args .out .now) (length (args .work .now)) _ by-checked-there _ by-type-there
+    let by-type-there = type-there (asLimits (args .«at» .limits)) (args .t .now) (at-whole-type .whole-type .result) (at-whole-type .whole-type .ensures)
+    (else1 .if1 .left) in
+    lookup-over (asLimits (args .«at» .limits)) (start .pre .0 .fair) (args .schema .now) (args .attr) (args .t .now) (args .out .now) (length
+    (args .work .now)) _ by-checked-there _ by-type-there
     (look-up .look-up .last .1 .1 .1 .1 .0) (look-up .look-up .result) (look-up .look-up .ensures) (required .required .given .0 .0)
-    (required .required .given .0 .1 .0) (required .required .given .1) (omega (arith, look-up .look-up .kept .1 .1 .1 .1 .0, start .pre .1)) (answer-fits .answer-fits .result)
+    (required .required .given .0 .1 .0) (required .required .given .1) (omega (arith, look-up .look-up .kept .1 .1 .1 .1 .0, start .pre .1))
+    (answer-fits .answer-fits .result)
     (answer-fits .answer-fits .ensures) (c .if2 .taken)
 
 sub-copy : tie.Need-sub-copy
@@ -79,10 +85,12 @@ part-copy-end c =
     let start = at-whole-type .before .before .before .before .before .before .before in
     let args = start .args in
     let by-checked-there = sectioned-there (args .schema .now) (args .«at») (start .pre .0) in
-    let by-type-there = type-there (asLimits (args .«at» .limits)) (args .t .now) (at-whole-type .whole-type .result) (at-whole-type .whole-type .ensures) (else1 .if1 .left) in
+    let by-type-there = type-there (asLimits (args .«at» .limits)) (args .t .now) (at-whole-type .whole-type .result) (at-whole-type .whole-type .ensures)
+    (else1 .if1 .left) in
     omega (
       arith,
-      small (asLimits (args .«at» .limits)) (start .pre .0 .fair) (args .schema .now) (args .attr) (args .t .now) (args .out .now) (length (args .work .now)) _ by-checked-there _ by-type-there
+      small (asLimits (args .«at» .limits)) (start .pre .0 .fair) (args .schema .now) (args .attr) (args .t .now) (args .out .now) (length
+          (args .work .now)) _ by-checked-there _ by-type-there
           (look-up .look-up .last .1 .1 .1 .1 .0) (look-up .look-up .result) (look-up .look-up .ensures) (required .required .given .0 .0)
           (required .required .given .0 .1 .0) (required .required .given .1) (omega (arith, look-up .look-up .kept .1 .1 .1 .1 .0, start .pre .1)),
       look-up .look-up .kept .1 .1 .1 .1 .0,
@@ -99,10 +107,13 @@ copy-requires c κs =
     let start = at-whole-type .before .before .before .before .before .before .before in
     let args = start .args in
     let by-checked-there = sectioned-there (args .schema .now) (args .«at») (start .pre .0) in
-    let by-type-there = type-there (asLimits (args .«at» .limits)) (args .t .now) (at-whole-type .whole-type .result) (at-whole-type .whole-type .ensures) (else1 .if1 .left) in
-    lookup-room (asLimits (args .«at» .limits)) (start .pre .0 .fair) (args .schema .now) (args .attr) (args .t .now) (args .out .now) (length (args .work .now)) _ by-checked-there _ by-type-there
+    let by-type-there = type-there (asLimits (args .«at» .limits)) (args .t .now) (at-whole-type .whole-type .result) (at-whole-type .whole-type .ensures)
+    (else1 .if1 .left) in
+    lookup-room (asLimits (args .«at» .limits)) (start .pre .0 .fair) (args .schema .now) (args .attr) (args .t .now) (args .out .now) (length
+    (args .work .now)) _ by-checked-there _ by-type-there
     (look-up .look-up .last .1 .1 .1 .1 .0) (look-up .look-up .result) (look-up .look-up .ensures) (required .required .given .0 .0)
-    (required .required .given .0 .1 .0) (required .required .given .1) (omega (arith, look-up .look-up .kept .1 .1 .1 .1 .0, start .pre .1)) (answer-fits .answer-fits .result)
+    (required .required .given .0 .1 .0) (required .required .given .1) (omega (arith, look-up .look-up .kept .1 .1 .1 .1 .0, start .pre .1))
+    (answer-fits .answer-fits .result)
     (answer-fits .answer-fits .ensures) (else2 .if2 .left)
 
 enum-told : tie.Need-enum-told
@@ -132,10 +143,13 @@ returns-3 c =
     let start = at-whole-type .before .before .before .before .before .before .before in
     let args = start .args in
     let by-checked-there = sectioned-there (args .schema .now) (args .«at») (start .pre .0) in
-    let by-type-there = type-there (asLimits (args .«at» .limits)) (args .t .now) (at-whole-type .whole-type .result) (at-whole-type .whole-type .ensures) (else1 .if1 .left) in
-    lookup-writes (asLimits (args .«at» .limits)) (start .pre .0 .fair) (args .schema .now) (args .attr) (args .t .now) (args .out .now) (length (args .work .now)) _ by-checked-there _ by-type-there
+    let by-type-there = type-there (asLimits (args .«at» .limits)) (args .t .now) (at-whole-type .whole-type .result) (at-whole-type .whole-type .ensures)
+    (else1 .if1 .left) in
+    lookup-writes (asLimits (args .«at» .limits)) (start .pre .0 .fair) (args .schema .now) (args .attr) (args .t .now) (args .out .now) (length
+    (args .work .now)) _ by-checked-there _ by-type-there
     (look-up .look-up .last .1 .1 .1 .1 .0) (look-up .look-up .result) (look-up .look-up .ensures) (required .required .given .0 .0)
-    (required .required .given .0 .1 .0) (required .required .given .1) (omega (arith, look-up .look-up .kept .1 .1 .1 .1 .0, start .pre .1)) (answer-fits .answer-fits .result)
+    (required .required .given .0 .1 .0) (required .required .given .1) (omega (arith, look-up .look-up .kept .1 .1 .1 .1 .0, start .pre .1))
+    (answer-fits .answer-fits .result)
     (answer-fits .answer-fits .ensures) (else2 .if2 .left) (copy .copy .last .1 .0) (copy .copy .ensures)
 
 same-length-6 : tie.Need-same-length-6
@@ -152,8 +166,10 @@ returns-4 c =
     let start = at-whole-type .before .before .before .before .before .before .before in
     let args = start .args in
     let by-checked-there = sectioned-there (args .schema .now) (args .«at») (start .pre .0) in
-    let by-type-there = type-there (asLimits (args .«at» .limits)) (args .t .now) (at-whole-type .whole-type .result) (at-whole-type .whole-type .ensures) (else1 .if1 .left) in
-    lookup-nothing (asLimits (args .«at» .limits)) (start .pre .0 .fair) (args .schema .now) (args .attr) (args .t .now) (args .out .now) (length (args .work .now)) _ by-checked-there _ by-type-there
+    let by-type-there = type-there (asLimits (args .«at» .limits)) (args .t .now) (at-whole-type .whole-type .result) (at-whole-type .whole-type .ensures)
+    (else1 .if1 .left) in
+    lookup-nothing (asLimits (args .«at» .limits)) (start .pre .0 .fair) (args .schema .now) (args .attr) (args .t .now) (args .out .now) (length
+    (args .work .now)) _ by-checked-there _ by-type-there
     (look-up .look-up .last .1 .1 .1 .1 .0) (look-up .look-up .result) (look-up .look-up .ensures) (c .enum-told .given .1)
 
 same-length-8 : tie.Need-same-length-8
@@ -170,8 +186,10 @@ returns-5 c =
     let start = at-whole-type .before .before .before .before .before .before .before in
     let args = start .args in
     let by-checked-there = sectioned-there (args .schema .now) (args .«at») (start .pre .0) in
-    let by-type-there = type-there (asLimits (args .«at» .limits)) (args .t .now) (at-whole-type .whole-type .result) (at-whole-type .whole-type .ensures) (else1 .if1 .left) in
-    lookup-too-long (asLimits (args .«at» .limits)) (start .pre .0 .fair) (args .schema .now) (args .attr) (args .t .now) (args .out .now) (length (args .work .now)) _ by-checked-there _ by-type-there
+    let by-type-there = type-there (asLimits (args .«at» .limits)) (args .t .now) (at-whole-type .whole-type .result) (at-whole-type .whole-type .ensures)
+    (else1 .if1 .left) in
+    lookup-too-long (asLimits (args .«at» .limits)) (start .pre .0 .fair) (args .schema .now) (args .attr) (args .t .now) (args .out .now) (length
+    (args .work .now)) _ by-checked-there _ by-type-there
     (look-up .look-up .last .1 .1 .1 .1 .0) (look-up .look-up .result) (look-up .look-up .ensures) (c .enum-told2 .given .1)
 
 pub looked-up-spec : {M : Type 1} → statement M

@@ -1,6 +1,5 @@
 -- `validator::lookup_attribute_type::looked_up_under` meets its contract. Assumes nothing.
 use lib.ListN.{length}
-use native.Mathlib.Omega.{arith}
 use Rattle.cedar.specs.Limits.{Limits}
 use Rattle.cedar.specs.Calls.{lookupCall}
 use Rattle.cedar.specs.Laws.Limits.{allowed-bytes, lookup-refused}
@@ -28,7 +27,8 @@ returns c =
     let args = start .args in
     let bad = kept-refused (args .schema .now) (args .check) (start .pre) (limits .limits .result) (limits .limits .ensures) (allowed .are-allowed .result)
     (allowed .are-allowed .ensures) (c .if1 .taken) in
-    refuses 20 (lookup-refused (asLimits (limitsOf (args .check))) bad (args .schema .now) (args .attr) (args .t .now) (length (args .out .now)) (length (args .work .now)))
+    refuses 20 (lookup-refused (asLimits (limitsOf (args .check))) bad (args .schema .now) (args .attr) (args .t .now) (length (args .out .now)) (length
+    (args .work .now)))
 
 enum-known-check : tie.Need-enum-known-check
 enum-known-check c = search needs
@@ -73,7 +73,8 @@ returns-3 c =
     let start = check .before .before .before .before .before .before .before .before .before in
     let args = start .args in
     kept-under (args .schema .now) (args .check) (start .pre) (check .check .given .0 .0) (check .check .given .1)
-    (λ (lim : Limits). Answered (lookupCall lim (args .schema .now) (args .attr) (args .t .now) (length (args .out .now)) (length (args .work .now))) (args .out .now)
+    (λ (lim : Limits). Answered (lookupCall lim (args .schema .now) (args .attr) (args .t .now) (length (args .out .now)) (length (args .work .now)))
+    (args .out .now)
     (under .looked-up .last .1 .1 .1 .1 .1 .0) (under .looked-up .result)) (under .looked-up .ensures)
 
 slice-aggregate-looked-up-2 : tie.Need-slice-aggregate-looked-up-2
@@ -101,7 +102,8 @@ returns-4 c =
     let start = check .before .before .before .before .before .before .before .before .before in
     let args = start .args in
     kept-under (args .schema .now) (args .check) (start .pre) (check .check .given .0 .0) (check .check .given .1)
-    (λ (lim : Limits). Answered (lookupCall lim (args .schema .now) (args .attr) (args .t .now) (length (args .out .now)) (length (args .work .now))) (args .out .now)
+    (λ (lim : Limits). Answered (lookupCall lim (args .schema .now) (args .attr) (args .t .now) (length (args .out .now)) (length (args .work .now)))
+    (args .out .now)
     (under .looked-up2 .last .1 .1 .1 .1 .1 .0) (under .looked-up2 .result)) (under .looked-up2 .ensures)
 
 pub looked-up-under-spec : {M : Type 1} → statement M

@@ -31,7 +31,8 @@ returns c =
     let start = check .before .before .before .before .before in
     let args = start .args in
     checked-under (args .limits) (args .schema .now) (check .check-schema .result) (check .check-schema .ensures)
-    (λ (lim : Limits). AnsweredIn (lookupCall lim (args .schema .now) (args .attr) (args .t .now) (length (args .out .now)) (length (args .work .now))) (args .out .now) (call .lookup-attribute-type-checked .last .1 .1 .1 .1 .0) (args .work .now)
+    (λ (lim : Limits). AnsweredIn (lookupCall lim (args .schema .now) (args .attr) (args .t .now) (length (args .out .now)) (length (args .work .now)))
+    (args .out .now) (call .lookup-attribute-type-checked .last .1 .1 .1 .1 .0) (args .work .now)
     (call .lookup-attribute-type-checked .last .1 .1 .1 .1 .1 .0) (call .lookup-attribute-type-checked .result)) (call .lookup-attribute-type-checked .ensures)
 
 pub lookup-attribute-type-spec : {M : Type 1} → statement M

@@ -23,7 +23,8 @@ returns c =
     let start = check .before .before .before in
     let args = start .args in
     checked-under (args .limits) (args .schema .now) (check .check-schema .result) (check .check-schema .ensures)
-    (λ (lim : Limits). c .may-have-attr-checked .result ≡ answerOf (mayHaveCall lim (args .schema .now) (args .attr) (args .t .now))) (c .may-have-attr-checked .ensures)
+    (λ (lim : Limits). c .may-have-attr-checked .result ≡ answerOf (mayHaveCall lim (args .schema .now) (args .attr) (args .t .now)))
+    (c .may-have-attr-checked .ensures)
 
 pub may-have-attr-spec : {M : Type 1} → statement M
 may-have-attr-spec =

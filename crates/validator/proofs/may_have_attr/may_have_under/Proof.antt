@@ -16,7 +16,8 @@ returns c =
     let start = whole-type .before .before .before .before in
     let args = start .args in
     let by-checked-there = sectioned-there (args .schema .now) (args .«at») (start .pre) in
-    let by-type-missing = type-missing (asLimits (args .«at» .limits)) (args .t .now) (whole-type .whole-type .result) (whole-type .whole-type .ensures) (c .if1 .taken) in
+    let by-type-missing = type-missing (asLimits (args .«at» .limits)) (args .t .now) (whole-type .whole-type .result) (whole-type .whole-type .ensures)
+    (c .if1 .taken) in
     may-have-no-type (asLimits (args .«at» .limits)) (start .pre .fair) (args .attr) (args .schema .now) (args .t .now) _ by-checked-there by-type-missing
 
 may-have-attr-requires : tie.Need-may-have-attr-requires
@@ -37,8 +38,10 @@ returns-2 c =
     let start = whole-type .before .before .before .before in
     let args = start .args in
     let by-checked-there = sectioned-there (args .schema .now) (args .«at») (start .pre) in
-    let by-type-there = type-there (asLimits (args .«at» .limits)) (args .t .now) (whole-type .whole-type .result) (whole-type .whole-type .ensures) (else1 .if1 .left) in
-    may-have-said (asLimits (args .«at» .limits)) (start .pre .fair) (args .attr) (args .schema .now) (args .t .now) _ by-checked-there _ by-type-there (c .yes-or-no .result)
+    let by-type-there = type-there (asLimits (args .«at» .limits)) (args .t .now) (whole-type .whole-type .result) (whole-type .whole-type .ensures)
+    (else1 .if1 .left) in
+    may-have-said (asLimits (args .«at» .limits)) (start .pre .fair) (args .attr) (args .schema .now) (args .t .now) _ by-checked-there _ by-type-there
+    (c .yes-or-no .result)
     (may-have-attr .may-have-attr .result) (c .yes-or-no .ensures) (may-have-attr .may-have-attr .ensures)
 
 pub may-have-under-spec : {M : Type 1} → statement M

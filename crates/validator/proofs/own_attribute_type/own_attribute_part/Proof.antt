@@ -24,7 +24,8 @@ returns c =
     let start = check .before .before .before in
     let args = start .args in
     checked-under (args .limits) (args .schema .now) (check .check-schema .result) (check .check-schema .ensures)
-    (λ (lim : Limits). c .own-attribute-part-checked .result ≡ partOf (ownAttributeCall lim (args .schema .now) (args .attr) (args .t .now)) (bodyIn lim (args .attr) (args .t .now))) (c .own-attribute-part-checked .ensures)
+    (λ (lim : Limits). c .own-attribute-part-checked .result ≡ partOf (ownAttributeCall lim (args .schema .now) (args .attr) (args .t .now)) (bodyIn lim
+    (args .attr) (args .t .now))) (c .own-attribute-part-checked .ensures)
 
 pub own-attribute-part-spec : {M : Type 1} → statement M
 own-attribute-part-spec =

@@ -28,7 +28,8 @@ returns c =
     let args = start .args in
     let bad = kept-refused (args .schema .now) (args .check) (start .pre) (limits .limits .result) (limits .limits .ensures) (allowed .are-allowed .result)
     (allowed .are-allowed .ensures) (c .if1 .taken) in
-    sym (ap (λ (o : Outcome). partOf o (bodyIn (asLimits (limitsOf (args .check))) (args .attr) (args .t .now))) (own-attribute-refused (asLimits (limitsOf (args .check))) bad (args .schema .now) (args .attr) (args .t .now)))
+    sym (ap (λ (o : Outcome). partOf o (bodyIn (asLimits (limitsOf (args .check))) (args .attr) (args .t .now))) (own-attribute-refused (asLimits (limitsOf
+    (args .check))) bad (args .schema .now) (args .attr) (args .t .now)))
 
 enum-known-check : tie.Need-enum-known-check
 enum-known-check c = search needs
@@ -61,7 +62,8 @@ returns-3 c =
     let start = check .before .before .before .before .before .before .before in
     let args = start .args in
     kept-under (args .schema .now) (args .check) (start .pre) (check .check .given .0 .0) (check .check .given .1)
-    (λ (lim : Limits). c .own-part-under .result ≡ partOf (ownAttributeCall lim (args .schema .now) (args .attr) (args .t .now)) (bodyIn lim (args .attr) (args .t .now))) (c .own-part-under .ensures)
+    (λ (lim : Limits). c .own-part-under .result ≡ partOf (ownAttributeCall lim (args .schema .now) (args .attr) (args .t .now)) (bodyIn lim (args .attr)
+    (args .t .now))) (c .own-part-under .ensures)
 
 pub own-attribute-part-checked-spec : {M : Type 1} → statement M
 own-attribute-part-checked-spec =

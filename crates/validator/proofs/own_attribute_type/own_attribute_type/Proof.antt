@@ -1,5 +1,4 @@
 -- `validator::own_attribute_type::own_attribute_type` meets its contract. Assumes nothing.
-use mathlib.Core.Path.{_≡_}
 use Rattle.cedar.specs.BodyPlace.{bodyIn}
 use Rattle.cedar.specs.Calls.{ownAttributeCall}
 use Rattle.validator.specs.Handed.{Handed}

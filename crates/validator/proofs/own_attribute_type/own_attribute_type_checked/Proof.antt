@@ -101,7 +101,8 @@ returns-2 c =
     let known = part .before in
     let start = known .before .before in
     let args = start .args in
-    here-refused (asLimits (limitsOf (args .check))) (args .schema .now) (args .attr) (args .t) (λ i. omega (arith, known .shared-slice-known2 .given i)) (part .own-attribute-part-checked .result)
+    here-refused (asLimits (limitsOf (args .check))) (args .schema .now) (args .attr) (args .t) (λ i. omega (arith, known .shared-slice-known2 .given i))
+    (part .own-attribute-part-checked .result)
     (part .own-attribute-part-checked .ensures) (at-e .e .given .0 .0) (at-e .e .given .1) _ refl refl
 
 returns-3 : tie.Need-returns-3
@@ -111,7 +112,8 @@ returns-3 c =
     let known = part .before in
     let start = known .before .before in
     let args = start .args in
-    here-nothing (asLimits (limitsOf (args .check))) (args .schema .now) (args .attr) (args .t) (λ i. omega (arith, known .shared-slice-known2 .given i)) (part .own-attribute-part-checked .result)
+    here-nothing (asLimits (limitsOf (args .check))) (args .schema .now) (args .attr) (args .t) (λ i. omega (arith, known .shared-slice-known2 .given i))
+    (part .own-attribute-part-checked .result)
     (part .own-attribute-part-checked .ensures) (at-enum-told .enum-told .given .1) _ refl refl
 
 returns-4 : tie.Need-returns-4

@@ -22,7 +22,8 @@ returns c =
     let start = whole-type .before .before .before .before in
     let args = start .args in
     let there = sectioned-there (args .schema .now) (args .«at») (start .pre) in
-    let by-type-missing = type-missing (asLimits (args .«at» .limits)) (args .t .now) (whole-type .whole-type .result) (whole-type .whole-type .ensures) (c .if1 .taken) in
+    let by-type-missing = type-missing (asLimits (args .«at» .limits)) (args .t .now) (whole-type .whole-type .result) (whole-type .whole-type .ensures)
+    (c .if1 .taken) in
     part-no-type (asLimits (args .«at» .limits)) (start .pre .fair) (args .schema .now) (args .attr) (args .t .now) _ there by-type-missing
 
 own-attribute-requires : tie.Need-own-attribute-requires
@@ -45,8 +46,10 @@ returns-2 c =
     let start = whole-type .before .before .before .before in
     let args = start .args in
     let there = sectioned-there (args .schema .now) (args .«at») (start .pre) in
-    let whole = type-there (asLimits (args .«at» .limits)) (args .t .now) (whole-type .whole-type .result) (whole-type .whole-type .ensures) (else1 .if1 .left) in
-    let lacks = place-none (args .«at» .limits .levels - 1) (args .t .now) (ownAttr (args .attr) (dec (args .«at» .limits .levels) (args .t .now))) (own-attribute .own-attribute .result) (c .enum-told .given .1)
+    let whole = type-there (asLimits (args .«at» .limits)) (args .t .now) (whole-type .whole-type .result) (whole-type .whole-type .ensures)
+    (else1 .if1 .left) in
+    let lacks = place-none (args .«at» .limits .levels - 1) (args .t .now) (ownAttr (args .attr) (dec (args .«at» .limits .levels) (args .t .now)))
+    (own-attribute .own-attribute .result) (c .enum-told .given .1)
     (own-attribute .own-attribute .ensures .0) in
     part-nothing (asLimits (args .«at» .limits)) (start .pre .fair) (args .schema .now) (args .attr) (args .t .now) _ there _ whole lacks
 
@@ -59,13 +62,16 @@ returns-3 c =
     let start = whole-type .before .before .before .before in
     let args = start .args in
     let there = sectioned-there (args .schema .now) (args .«at») (start .pre) in
-    let whole = type-there (asLimits (args .«at» .limits)) (args .t .now) (whole-type .whole-type .result) (whole-type .whole-type .ensures) (else1 .if1 .left) in
+    let whole = type-there (asLimits (args .«at» .limits)) (args .t .now) (whole-type .whole-type .result) (whole-type .whole-type .ensures)
+    (else1 .if1 .left) in
     let s = place .start .given .0 .0 in
     let e = place .start .given .0 .1 .0 in
     let q = place .start .given .0 .1 .1 .0 in
-    let placed = place-at (args .«at» .limits .levels - 1) (args .t .now) (ownAttr (args .attr) (dec (args .«at» .limits .levels) (args .t .now))) (own-attribute .own-attribute .result) s e q (place .start .given .1)
+    let placed = place-at (args .«at» .limits .levels - 1) (args .t .now) (ownAttr (args .attr) (dec (args .«at» .limits .levels) (args .t .now)))
+    (own-attribute .own-attribute .result) s e q (place .start .given .1)
     (own-attribute .own-attribute .ensures .0) in
-    part-at (asLimits (args .«at» .limits)) (start .pre .fair) (args .schema .now) (args .attr) (args .t .now) _ there _ whole q _ (placed .3) (own-attribute .own-attribute .result) s e (place .start .given .1)
+    part-at (asLimits (args .«at» .limits)) (start .pre .fair) (args .schema .now) (args .attr) (args .t .now) _ there _ whole q _ (placed .3)
+    (own-attribute .own-attribute .result) s e (place .start .given .1)
     (own-attribute .own-attribute .ensures .1)
 
 pub own-part-under-spec : {M : Type 1} → statement M

@@ -31,8 +31,10 @@ returns c =
     let start = check .before .before .before .before .before in
     let args = start .args in
     checked-under (args .limits) (args .schema .now) (check .check-schema .result) (check .check-schema .ensures)
-    (λ (lim : Limits). AnsweredIn (foldCall lim (args .mode) (args .schema .now) (args .list .now) (length (args .out .now)) (length (args .work .now))) (args .out .now) (call .reduce-to-least-upper-bound-checked .last .1 .1 .1 .1 .0) (args .work .now)
-    (call .reduce-to-least-upper-bound-checked .last .1 .1 .1 .1 .1 .0) (call .reduce-to-least-upper-bound-checked .result)) (call .reduce-to-least-upper-bound-checked .ensures)
+    (λ (lim : Limits). AnsweredIn (foldCall lim (args .mode) (args .schema .now) (args .list .now) (length (args .out .now)) (length (args .work .now)))
+    (args .out .now) (call .reduce-to-least-upper-bound-checked .last .1 .1 .1 .1 .0) (args .work .now)
+    (call .reduce-to-least-upper-bound-checked .last .1 .1 .1 .1 .1 .0) (call .reduce-to-least-upper-bound-checked .result))
+    (call .reduce-to-least-upper-bound-checked .ensures)
 
 pub reduce-to-least-upper-bound-spec : {M : Type 1} → statement M
 reduce-to-least-upper-bound-spec =

@@ -11,7 +11,6 @@ use Rattle.cedar.specs.Fold.{foldTypes}
 use Rattle.cedar.specs.Whole.{wholeList}
 use lib.ListN.{length}
 use native.Mathlib.Omega.{arith}
-use mathlib.Core.Path.{refl}
 use borrow.Author.Needs.{needs}
 use Rattle.validator.proofs.reduce_to_least_upper_bound.reduced.Statement.{statement}
 use Rattle.validator.proofs.reduce_to_least_upper_bound.reduced.Tie as tie
@@ -37,7 +36,8 @@ returns c =
     let start = from .before .before .before .before .before .before in
     let args = start .args in
     let by-mode-none = mode-none (args .mode) (from .from-number .result) (from .from-number .ensures) (c .enum-told .given .1) in
-    fold-mode (asLimits (args .limits)) (start .pre .0) (args .mode) (args .schema .now) (args .list .now) (args .out .now) (length (args .work .now)) by-mode-none
+    fold-mode (asLimits (args .limits)) (start .pre .0) (args .mode) (args .schema .now) (args .list .now) (args .out .now) (length
+    (args .work .now)) by-mode-none
 
 enum-told-2 : tie.Need-enum-told-2
 enum-told-2 c = search needs
@@ -52,8 +52,10 @@ returns-2 c =
     let start = from .before .before .before .before .before .before in
     let args = start .args in
     let by-mode-known = mode-known (args .mode) (from .from-number .result) (from .from-number .ensures) (known .m .given .0 .0) (known .m .given .1) in
-    let by-checked-missing = checked-missing (args .limits) (args .schema .now) (args .check) (start .pre .1 .0) (start .pre .0) (c .enum-told3 .given .0 .0) (c .enum-told3 .given .1) in
-    fold-schema (asLimits (args .limits)) (start .pre .0) (args .mode) (args .schema .now) (args .list .now) (args .out .now) (length (args .work .now)) _ by-mode-known by-checked-missing
+    let by-checked-missing = checked-missing (args .limits) (args .schema .now) (args .check) (start .pre .1 .0) (start .pre .0)
+    (c .enum-told3 .given .0 .0) (c .enum-told3 .given .1) in
+    fold-schema (asLimits (args .limits)) (start .pre .0) (args .mode) (args .schema .now) (args .list .now) (args .out .now) (length
+    (args .work .now)) _ by-mode-known by-checked-missing
 
 whole-list-requires : tie.Need-whole-list-requires
 whole-list-requires c κs = search needs
@@ -69,7 +71,8 @@ returns-3 c =
     let by-mode-known = mode-known (args .mode) (from .from-number .result) (from .from-number .ensures) (known .m .given .0 .0) (known .m .given .1) in
     let by-checked-there = checked-there (args .limits) (args .schema .now) (args .check) (start .pre .1 .0) (enum-told2 .given .0 .0) (enum-told2 .given .1) in
     let by-missing = missing (wholeList (asLimits (args .limits)) (args .list .now)) (whole-list .result) (whole-list .ensures) (c .if1 .taken) in
-    fold-list (asLimits (args .limits)) (start .pre .0) (args .mode) (args .schema .now) (args .list .now) (args .out .now) (length (args .work .now)) _ by-mode-known _ by-checked-there by-missing
+    fold-list (asLimits (args .limits)) (start .pre .0) (args .mode) (args .schema .now) (args .list .now) (args .out .now) (length
+    (args .work .now)) _ by-mode-known _ by-checked-there by-missing
 
 fold-types-requires : tie.Need-fold-types-requires
 fold-types-requires c κs =
@@ -105,13 +108,16 @@ returns-4 c =
     let from = known .before .before in
     let start = from .before .before .before .before .before .before in
     let args = start .args in
-    let f = foldTypes (stepFits (asLimits (args .limits)) (length (args .work .now))) (asMode (known .m .given .0 .0)) (listOf (args .limits .levels) (args .list .now)) in
+    let f = foldTypes (stepFits (asLimits (args .limits)) (length (args .work .now))) (asMode (known .m .given .0 .0)) (listOf (args .limits .levels)
+    (args .list .now)) in
     let by-mode-known = mode-known (args .mode) (from .from-number .result) (from .from-number .ensures) (known .m .given .0 .0) (known .m .given .1) in
-    let by-folds-over = folds-over (asLimits (args .limits)) f (args .out .now) (fold-types .last .1 .1 .1 .0) (fold-types .result) (fold-types .ensures) (n .given .0 .0) (n .given .1)
+    let by-folds-over = folds-over (asLimits (args .limits)) f (args .out .now) (fold-types .last .1 .1 .1 .0) (fold-types .result) (fold-types .ensures)
+    (n .given .0 .0) (n .given .1)
     (answer-fits .result) (answer-fits .ensures) (c .if2 .taken) in
     let by-checked-there = checked-there (args .limits) (args .schema .now) (args .check) (start .pre .1 .0) (enum-told2 .given .0 .0) (enum-told2 .given .1) in
     let by-list-there = list-there (asLimits (args .limits)) (args .list .now) (whole-list .result) (whole-list .ensures) (if1 .left) in
-    fold-refused (asLimits (args .limits)) (start .pre .0) (args .mode) (args .schema .now) (args .list .now) (args .out .now) (length (args .work .now)) _ by-mode-known _ by-checked-there by-list-there
+    fold-refused (asLimits (args .limits)) (start .pre .0) (args .mode) (args .schema .now) (args .list .now) (args .out .now) (length
+    (args .work .now)) _ by-mode-known _ by-checked-there by-list-there
     10 by-folds-over
 
 sub-copy : tie.Need-sub-copy
@@ -128,8 +134,13 @@ part-copy-end c =
     let known = after-fold-types .before .before .before .before .before .before .before .before in
     let start = known .before .before .before .before .before .before .before .before in
     let args = start .args in
-    let f = foldTypes (stepFits (asLimits (args .limits)) (length (args .work .now))) (asMode (known .m .given .0 .0)) (listOf (args .limits .levels) (args .list .now)) in
-    omega (arith, folds-small (asLimits (args .limits)) f (args .out .now) (fold-types .last .1 .1 .1 .0) (fold-types .result) (fold-types .ensures) (n .given .0 .0) (n .given .1))
+    let f = foldTypes (stepFits (asLimits (args .limits)) (length (args .work .now))) (asMode (known .m .given .0 .0)) (listOf (args .limits .levels)
+    (args .list .now)) in
+    omega (
+      arith,
+      folds-small (asLimits (args .limits)) f (args .out .now) (fold-types .last .1 .1 .1 .0) (fold-types .result) (fold-types .ensures)
+          (n .given .0 .0) (n .given .1),
+    )
 
 copy-requires : tie.Need-copy-requires
 copy-requires c κs =
@@ -141,8 +152,10 @@ copy-requires c κs =
     let known = after-fold-types .before .before .before .before .before .before .before .before in
     let start = known .before .before .before .before .before .before .before .before in
     let args = start .args in
-    let f = foldTypes (stepFits (asLimits (args .limits)) (length (args .work .now))) (asMode (known .m .given .0 .0)) (listOf (args .limits .levels) (args .list .now)) in
-    let by-folds-room = folds-room (asLimits (args .limits)) f (args .out .now) (fold-types .last .1 .1 .1 .0) (fold-types .result) (fold-types .ensures) (n .given .0 .0) (n .given .1)
+    let f = foldTypes (stepFits (asLimits (args .limits)) (length (args .work .now))) (asMode (known .m .given .0 .0)) (listOf (args .limits .levels)
+    (args .list .now)) in
+    let by-folds-room = folds-room (asLimits (args .limits)) f (args .out .now) (fold-types .last .1 .1 .1 .0) (fold-types .result) (fold-types .ensures)
+    (n .given .0 .0) (n .given .1)
     (answer-fits .result) (answer-fits .ensures) (if2 .left) in
     omega (arith, by-folds-room)
 
@@ -174,16 +187,21 @@ returns-5 c =
     let from = known .before .before in
     let start = from .before .before .before .before .before .before in
     let args = start .args in
-    let f = foldTypes (stepFits (asLimits (args .limits)) (length (args .work .now))) (asMode (known .m .given .0 .0)) (listOf (args .limits .levels) (args .list .now)) in
+    let f = foldTypes (stepFits (asLimits (args .limits)) (length (args .work .now))) (asMode (known .m .given .0 .0)) (listOf (args .limits .levels)
+    (args .list .now)) in
     let by-mode-known = mode-known (args .mode) (from .from-number .result) (from .from-number .ensures) (known .m .given .0 .0) (known .m .given .1) in
-    let by-folds-typed = folds-typed (asLimits (args .limits)) f (args .out .now) (fold-types .last .1 .1 .1 .0) (fold-types .result) (fold-types .ensures) (n .given .0 .0) (n .given .1)
+    let by-folds-typed = folds-typed (asLimits (args .limits)) f (args .out .now) (fold-types .last .1 .1 .1 .0) (fold-types .result) (fold-types .ensures)
+    (n .given .0 .0) (n .given .1)
     (answer-fits .result) (answer-fits .ensures) (if2 .left) in
     let by-checked-there = checked-there (args .limits) (args .schema .now) (args .check) (start .pre .1 .0) (enum-told2 .given .0 .0) (enum-told2 .given .1) in
     let by-list-there = list-there (asLimits (args .limits)) (args .list .now) (whole-list .result) (whole-list .ensures) (if1 .left) in
-    let by-folds-exact = folds-exact (asLimits (args .limits)) f (args .out .now) (fold-types .last .1 .1 .1 .0) (fold-types .result) (fold-types .ensures) (n .given .0 .0) (n .given .1) in
-    let by-folds-length = folds-length (asLimits (args .limits)) f (args .out .now) (fold-types .last .1 .1 .1 .0) (fold-types .result) (fold-types .ensures) (n .given .0 .0)
+    let by-folds-exact = folds-exact (asLimits (args .limits)) f (args .out .now) (fold-types .last .1 .1 .1 .0) (fold-types .result) (fold-types .ensures)
+    (n .given .0 .0) (n .given .1) in
+    let by-folds-length = folds-length (asLimits (args .limits)) f (args .out .now) (fold-types .last .1 .1 .1 .0) (fold-types .result)
+    (fold-types .ensures) (n .given .0 .0)
     (n .given .1) in
-    fold-writes (asLimits (args .limits)) (start .pre .0) (args .mode) (args .schema .now) (args .list .now) (args .out .now) (length (args .work .now)) _ by-mode-known _ by-checked-there by-list-there
+    fold-writes (asLimits (args .limits)) (start .pre .0) (args .mode) (args .schema .now) (args .list .now) (args .out .now) (length
+    (args .work .now)) _ by-mode-known _ by-checked-there by-list-there
     (n .given .0 .0) (fold-types .last .1 .1 .1 .0) by-folds-typed by-folds-exact by-folds-length (copy .last .1 .0) (copy .ensures)
 
 same-length-6 : tie.Need-same-length-6
@@ -204,12 +222,15 @@ returns-6 c =
     let from = known .before .before in
     let start = from .before .before .before .before .before .before in
     let args = start .args in
-    let f = foldTypes (stepFits (asLimits (args .limits)) (length (args .work .now))) (asMode (known .m .given .0 .0)) (listOf (args .limits .levels) (args .list .now)) in
+    let f = foldTypes (stepFits (asLimits (args .limits)) (length (args .work .now))) (asMode (known .m .given .0 .0)) (listOf (args .limits .levels)
+    (args .list .now)) in
     let by-mode-known = mode-known (args .mode) (from .from-number .result) (from .from-number .ensures) (known .m .given .0 .0) (known .m .given .1) in
     let by-checked-there = checked-there (args .limits) (args .schema .now) (args .check) (start .pre .1 .0) (enum-told2 .given .0 .0) (enum-told2 .given .1) in
     let by-list-there = list-there (asLimits (args .limits)) (args .list .now) (whole-list .result) (whole-list .ensures) (if1 .left) in
-    let by-folds-not = folds-not (asLimits (args .limits)) f (args .out .now) (fold-types .last .1 .1 .1 .0) (fold-types .result) (fold-types .ensures) (e .given .0 .0) (e .given .1) in
-    fold-refused (asLimits (args .limits)) (start .pre .0) (args .mode) (args .schema .now) (args .list .now) (args .out .now) (length (args .work .now)) _ by-mode-known _ by-checked-there by-list-there
+    let by-folds-not = folds-not (asLimits (args .limits)) f (args .out .now) (fold-types .last .1 .1 .1 .0) (fold-types .result) (fold-types .ensures)
+    (e .given .0 .0) (e .given .1) in
+    fold-refused (asLimits (args .limits)) (start .pre .0) (args .mode) (args .schema .now) (args .list .now) (args .out .now) (length
+    (args .work .now)) _ by-mode-known _ by-checked-there by-list-there
     (e .given .0 .0) by-folds-not
 
 pub reduced-spec : {M : Type 1} → statement M

@@ -28,7 +28,8 @@ returns c =
     let args = start .args in
     let bad = kept-refused (args .schema .now) (args .check) (start .pre) (limits .limits .result) (limits .limits .ensures) (allowed .are-allowed .result)
     (allowed .are-allowed .ensures) (c .if1 .taken) in
-    refuses 20 (fold-refused (asLimits (limitsOf (args .check))) bad (args .mode) (args .schema .now) (args .list .now) (length (args .out .now)) (length (args .work .now)))
+    refuses 20 (fold-refused (asLimits (limitsOf (args .check))) bad (args .mode) (args .schema .now) (args .list .now) (length (args .out .now)) (length
+    (args .work .now)))
 
 slice-aggregate-reduced : tie.Need-slice-aggregate-reduced
 slice-aggregate-reduced c = search needs
@@ -61,7 +62,8 @@ returns-2 c =
     let limits = under .before .before .before .before .before .before .before .before in
     let start = limits .before .before .before .before .before in
     let args = start .args in
-    subst (λ (l : LimitsStruct). Answered (foldCall (asLimits l) (args .mode) (args .schema .now) (args .list .now) (length (args .out .now)) (length (args .work .now))) (args .out .now)
+    subst (λ (l : LimitsStruct). Answered (foldCall (asLimits l) (args .mode) (args .schema .now) (args .list .now) (length (args .out .now)) (length
+    (args .work .now))) (args .out .now)
     (under .reduced .last .1 .1 .1 .1 .1 .1 .0) (under .reduced .result))
     (limits .limits .ensures) (under .reduced .ensures)
 
@@ -96,7 +98,8 @@ returns-3 c =
     let limits = under .before .before .before .before .before .before .before .before in
     let start = limits .before .before .before .before .before in
     let args = start .args in
-    subst (λ (l : LimitsStruct). Answered (foldCall (asLimits l) (args .mode) (args .schema .now) (args .list .now) (length (args .out .now)) (length (args .work .now))) (args .out .now)
+    subst (λ (l : LimitsStruct). Answered (foldCall (asLimits l) (args .mode) (args .schema .now) (args .list .now) (length (args .out .now)) (length
+    (args .work .now))) (args .out .now)
     (under .reduced2 .last .1 .1 .1 .1 .1 .1 .0) (under .reduced2 .result))
     (limits .limits .ensures) (under .reduced2 .ensures)
 

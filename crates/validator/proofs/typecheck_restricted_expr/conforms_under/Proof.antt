@@ -22,7 +22,8 @@ returns c =
     let z = c .before .whole-type in
     let start = c .before .before .before .before .before .before in
     let s = start .args in
-    conforms-no-type (asLimits (s .«at» .limits)) (start .pre .fair) (s .schema .now) (s .t .now) (s .v .now) (decS (asLimits (s .«at» .limits)) (s .schema .now))
+    conforms-no-type (asLimits (s .«at» .limits)) (start .pre .fair) (s .schema .now) (s .t .now) (s .v .now) (decS (asLimits (s .«at» .limits))
+    (s .schema .now))
     (sectioned-there (s .schema .now) (s .«at») (start .pre)) (type-missing (asLimits (s .«at» .limits)) (s .t .now) (z .result) (z .ensures) (c .if1 .taken))
 
 whole-value-requires : tie.Need-whole-value-requires
@@ -35,9 +36,11 @@ returns-2 c =
     let z = else1 .before .whole-type in
     let start = else1 .before .before .before .before .before .before in
     let s = start .args in
-    conforms-no-value (asLimits (s .«at» .limits)) (start .pre .fair) (s .schema .now) (s .t .now) (s .v .now) (decS (asLimits (s .«at» .limits)) (s .schema .now))
+    conforms-no-value (asLimits (s .«at» .limits)) (start .pre .fair) (s .schema .now) (s .t .now) (s .v .now) (decS (asLimits (s .«at» .limits))
+    (s .schema .now))
     (sectioned-there (s .schema .now) (s .«at») (start .pre)) (dec (s .«at» .limits .levels) (s .t .now))
-    (type-there (asLimits (s .«at» .limits)) (s .t .now) (z .result) (z .ensures) (else1 .if1 .left)) (value-missing (asLimits (s .«at» .limits)) (s .v .now) (w .result) (w .ensures) (c .if2 .taken))
+    (type-there (asLimits (s .«at» .limits)) (s .t .now) (z .result) (z .ensures) (else1 .if1 .left)) (value-missing (asLimits (s .«at» .limits))
+    (s .v .now) (w .result) (w .ensures) (c .if2 .taken))
 
 conforms-requires : tie.Need-conforms-requires
 conforms-requires c κs =
@@ -47,7 +50,11 @@ conforms-requires c κs =
     let start = else1 .before .before .before .before .before .before in
     let s = start .args in (
       start .pre,
-      (type-whole (asLimits (s .«at» .limits)) (s .t .now) (z .result) (z .ensures) (else1 .if1 .left), value-whole (asLimits (s .«at» .limits)) (s .v .now) (w .result) (w .ensures) (c .if2 .left)),
+      (
+        type-whole (asLimits (s .«at» .limits)) (s .t .now) (z .result) (z .ensures) (else1 .if1 .left),
+        value-whole (asLimits (s .«at» .limits)) (s .v .now)
+            (w .result) (w .ensures) (c .if2 .left),
+      ),
     )
 
 enum-told : tie.Need-enum-told
@@ -102,7 +109,8 @@ returns-5 c =
     conforms-said (asLimits (s .«at» .limits)) (start .pre .fair) (s .schema .now) (s .t .now) (s .v .now) (decS (asLimits (s .«at» .limits)) (s .schema .now))
     (sectioned-there (s .schema .now) (s .«at») (start .pre)) (dec (s .«at» .limits .levels) (s .t .now))
     (type-there (asLimits (s .«at» .limits)) (s .t .now) (z .result) (z .ensures) (else1 .if1 .left)) (decV (s .«at» .limits .levels) (s .v .now))
-    (value-there (asLimits (s .«at» .limits)) (s .v .now) (w .result) (w .ensures) (else2 .if2 .left)) (d .result) (d .ensures) FailsInside (c .enum-told3 .given .1)
+    (value-there (asLimits (s .«at» .limits)) (s .v .now) (w .result) (w .ensures) (else2 .if2 .left)) (d .result) (d .ensures) FailsInside
+    (c .enum-told3 .given .1)
 
 returns-6 : tie.Need-returns-6
 returns-6 c =
@@ -116,7 +124,8 @@ returns-6 c =
     conforms-said (asLimits (s .«at» .limits)) (start .pre .fair) (s .schema .now) (s .t .now) (s .v .now) (decS (asLimits (s .«at» .limits)) (s .schema .now))
     (sectioned-there (s .schema .now) (s .«at») (start .pre)) (dec (s .«at» .limits .levels) (s .t .now))
     (type-there (asLimits (s .«at» .limits)) (s .t .now) (z .result) (z .ensures) (else1 .if1 .left)) (decV (s .«at» .limits .levels) (s .v .now))
-    (value-there (asLimits (s .«at» .limits)) (s .v .now) (w .result) (w .ensures) (else2 .if2 .left)) (d .result) (d .ensures) Unknown (c .enum-told4 .given .1)
+    (value-there (asLimits (s .«at» .limits)) (s .v .now) (w .result) (w .ensures) (else2 .if2 .left)) (d .result) (d .ensures) Unknown
+    (c .enum-told4 .given .1)
 
 pub conforms-under-spec : {M : Type 1} → statement M
 conforms-under-spec =

@@ -23,7 +23,8 @@ returns c =
     let start = check .before .before .before .before in
     let args = start .args in
     checked-under (args .limits) (args .schema .now) (check .check-schema .result) (check .check-schema .ensures)
-    (λ (lim : Limits). c .typecheck-restricted-expr-checked .result ≡ answerOf (conformsCall lim (args .schema .now) (args .t .now) (args .v .now))) (c .typecheck-restricted-expr-checked .ensures)
+    (λ (lim : Limits). c .typecheck-restricted-expr-checked .result ≡ answerOf (conformsCall lim (args .schema .now) (args .t .now) (args .v .now)))
+    (c .typecheck-restricted-expr-checked .ensures)
 
 pub typecheck-restricted-expr-spec : {M : Type 1} → statement M
 typecheck-restricted-expr-spec =

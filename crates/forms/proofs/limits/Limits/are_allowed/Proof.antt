@@ -2,7 +2,7 @@
 use native.Mathlib.Omega.{arith}
 use mathlib.Core.Path.{refl}
 use borrow.Author.Tests.{le-leb, lt-leb}
-use Rattle.cedar.specs.Limits.{mostLevels, fewestBytes, mostBytes}
+use Rattle.cedar.specs.Limits.{mostLevels, fewestBytes}
 use Rattle.forms.proofs.limits.Limits.are_allowed.Statement.{statement}
 use Rattle.forms.proofs.limits.Limits.are_allowed.Tie as tie
 

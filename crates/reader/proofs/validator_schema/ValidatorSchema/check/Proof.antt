@@ -1,5 +1,5 @@
 -- `reader::validator_schema::ValidatorSchema::check` meets its contract: a walk of its MIR, by hand. The struct is taken apart, and `check_at` is
--- called on the block and the three numbers. All that the proof knows of `check_at` is that it meets its contract.
+-- called on the block, the limits and the three numbers. All that the proof knows of `check_at` is that it meets its contract.
 -- Assumes nothing.
 use mathlib.Core.Path.{_≡_, refl}
 use mathlib.Core.List.{[], _∷_}
@@ -74,7 +74,7 @@ module _ {M : Type 1} (𝓤 : URA M) (H : Heap 𝓤) (A : Atoms 𝓤) (W : Given
 
   -- what the contract says of the result
   abbrev Said : Checked → Type 0
-  Said r = r ≡ checked (now (d .block))
+  Said r = r ≡ checked (d .limits) (now (d .block))
 
   -- of the callee's `ensured`, the clause alone: it has no `&mut`, so what is said of last values is dropped
   said : (r : Checked) → ent 𝓤 (ensured 𝓤 H A callee.ended (callee.clauses 𝓤 H A mem run) (κ, tt) (values κ d) tt r) (fact 𝓤 (Said r))
@@ -90,30 +90,32 @@ module _ {M : Type 1} (𝓤 : URA M) (H : Heap 𝓤) (A : Atoms 𝓤) (W : Given
     walk : Is (B κ) d (mach d ∷ []) → ent 𝓤 Entry (WpFn 𝓤 H C Λ code.function (mach d ∷ []) Post)
     walk is =
         qed W (raw Entry ∷ []) ∵ enter ! C Λ code.function (mach d ∷ []) _ $
-        alloc1 ! (λ l₀. alloc1 ! (λ l₁. alloc1 ! (λ l₂. alloc1 ! (λ l₃. alloc1 ! (λ l₄. alloc1 ! (λ l₅. alloc0 ! $ params1 ! $
-        pass1 ! (init ! 8 refl (typed κ d 𝓤 H A W is)) $ pass0 ! $
-        assigns ! (of-opd ! (load ! (from ! (fld ! refl (stop !))) (look-in ! 8 (sub ! 0 refl (whole !))))) (from ! (stop !))
-        (init ! 6 refl (tt, typed κ d 𝓤 H A W is .1 .0)) $
-        assigns ! (of-opd ! (load ! (from ! (fld ! refl (stop !))) (look-in ! 8 (sub ! 1 refl (whole !))))) (from ! (stop !))
-        (init ! 4 refl (tt, typed κ d 𝓤 H A W is .1 .1 .0)) $
-        assigns ! (of-opd ! (load ! (from ! (fld ! refl (stop !))) (look-in ! 8 (sub ! 2 refl (whole !))))) (from ! (stop !))
-        (init ! 2 refl (tt, typed κ d 𝓤 H A W is .1 .1 .1 .0)) $
-        assigns ! (of-opd ! (load ! (from ! (fld ! refl (stop !))) (look-in ! 8 (sub ! 3 refl (whole !))))) (from ! (stop !))
-        (init ! 0 refl (tt, typed κ d 𝓤 H A W is .1 .1 .1 .1 .0)) $
-        move ! (12 ∷ []) $ use1 W (raw (Callee 𝓤 H A mem run .pre to)) asked $
-        -- [what the callee asks; _5; …; _4; …; _3; …; _2; …; _1; …; room for _0; …]
-        calls-at ! fm (Callee 𝓤 H A mem run) known to (and-then ! (load ! (from ! (stop !)) (look ! 7 refl))
-        (and-then ! (load ! (from ! (stop !)) (look ! 5 refl)) (and-then ! (load ! (from ! (stop !)) (look ! 3 refl))
-        (and-then ! (load ! (from ! (stop !)) (look ! 1 refl)) (no-more !))))) (λ u.
+        alloc1 ! (λ l₀. alloc1 ! (λ l₁. alloc1 ! (λ l₂. alloc1 ! (λ l₃. alloc1 ! (λ l₄. alloc1 ! (λ l₅. alloc1 ! (λ l₆. alloc0 ! $ params1 ! $
+        pass1 ! (init ! 10 refl (typed κ d 𝓤 H A W is)) $ pass0 ! $
+        assigns ! (of-opd ! (load ! (from ! (fld ! refl (stop !))) (look-in ! 10 (sub ! 0 refl (whole !))))) (from ! (stop !))
+        (init ! 8 refl (tt, typed κ d 𝓤 H A W is .1 .0)) $
+        assigns ! (of-opd ! (load ! (from ! (fld ! refl (stop !))) (look-in ! 10 (sub ! 1 refl (whole !))))) (from ! (stop !))
+        (init ! 6 refl (tt, typed κ d 𝓤 H A W is .1 .1 .0)) $
+        assigns ! (of-opd ! (load ! (from ! (fld ! refl (stop !))) (look-in ! 10 (sub ! 2 refl (whole !))))) (from ! (stop !))
+        (init ! 4 refl (tt, typed κ d 𝓤 H A W is .1 .1 .1 .0)) $
+        assigns ! (of-opd ! (load ! (from ! (fld ! refl (stop !))) (look-in ! 10 (sub ! 3 refl (whole !))))) (from ! (stop !))
+        (init ! 2 refl (tt, typed κ d 𝓤 H A W is .1 .1 .1 .1 .0)) $
+        assigns ! (of-opd ! (load ! (from ! (fld ! refl (stop !))) (look-in ! 10 (sub ! 4 refl (whole !))))) (from ! (stop !))
+        (init ! 0 refl (tt, typed κ d 𝓤 H A W is .1 .1 .1 .1 .1 .0)) $
+        move ! (14 ∷ []) $ use1 W (raw (Callee 𝓤 H A mem run .pre to)) asked $
+        -- [what the callee asks; _6; …; _5; …; _4; …; _3; …; _2; …; _1; …; room for _0; …]
+        calls-at ! fm (Callee 𝓤 H A mem run) known to (and-then ! (load ! (from ! (stop !)) (look ! 9 refl))
+        (and-then ! (load ! (from ! (stop !)) (look ! 7 refl)) (and-then ! (load ! (from ! (stop !)) (look ! 5 refl))
+        (and-then ! (load ! (from ! (stop !)) (look ! 3 refl)) (and-then ! (load ! (from ! (stop !)) (look ! 1 refl)) (no-more !)))))) (λ u.
         use1 W (later (some (λ (r : Checked). ((‵ (flft κ q) ⊛ ‵ ftrue) ⊛ ‵ (K.the-row .own r (u ∷ [])))
         ⊛ raw (ensured 𝓤 H A callee.ended (callee.clauses 𝓤 H A mem run) (κ, tt) (values κ d) tt r)))) (id⊢ 𝓤 _) $ await ! tt $ pick ! (λ r.
         split ! $ move ! (1 ∷ []) $ use1 W (raw (fact 𝓤 (Said r))) (said r) $ heard ! (Said r) (λ e. split ! $ move ! (1 ∷ []) $
-        -- [the result; the token; _5; …; _4; …; _3; …; _2; …; _1; …; room for _0; …]
+        -- [the result; the token; _6; …; _5; …; _4; …; _3; …; _2; …; _1; …; room for _0; …]
         peeks ! K.the-row (Is K.the-row) (shows 𝓤 H A K.the-row) r (u ∷ []) (λ kept.
-        land ! (from ! (stop !)) (init ! 12 refl (EL.lawful K.the-type K′.the-laws 𝓤 H A W tt .typed r _ kept .0)) $ returns ! (look ! 12 refl) $
-        forget ! 2 refl $ forget ! 4 refl $ forget ! 6 refl $ forget ! 8 refl $ forget ! 10 refl $ forget ! 12 refl $
-        move ! (12 ∷ 13 ∷ []) $ free1 ! $ move ! (10 ∷ 11 ∷ []) $ free1 ! $ move ! (8 ∷ 9 ∷ []) $ free1 ! $ move ! (6 ∷ 7 ∷ []) $ free1 ! $
-        move ! (4 ∷ 5 ∷ []) $ free1 ! $ move ! (2 ∷ 3 ∷ []) $ free1 ! $ free0 ! $ by ! (exits r u e)))))))))))
+        land ! (from ! (stop !)) (init ! 14 refl (EL.lawful K.the-type K′.the-laws 𝓤 H A W tt .typed r _ kept .0)) $ returns ! (look ! 14 refl) $
+        forget ! 2 refl $ forget ! 4 refl $ forget ! 6 refl $ forget ! 8 refl $ forget ! 10 refl $ forget ! 12 refl $ forget ! 14 refl $
+        move ! (14 ∷ 15 ∷ []) $ free1 ! $ move ! (12 ∷ 13 ∷ []) $ free1 ! $ move ! (10 ∷ 11 ∷ []) $ free1 ! $ move ! (8 ∷ 9 ∷ []) $ free1 ! $
+        move ! (6 ∷ 7 ∷ []) $ free1 ! $ move ! (4 ∷ 5 ∷ []) $ free1 ! $ move ! (2 ∷ 3 ∷ []) $ free1 ! $ free0 ! $ by ! (exits r u e))))))))))))
 
 module _ {M : Type 1} (𝓤 : URA M) (H : Heap 𝓤) (A : Atoms 𝓤) (W : Given 𝓤 H A) (mem : Memory → SProp 𝓤) (run : Routine → Fun 𝓤) where
   walks : (C : Calls 𝓤 H) (Λ : Loops 𝓤 H) → FmC 𝓤 H (W .laws) C → Triple 𝓤 (C #callee) (Callee 𝓤 H A mem run)
