@@ -4,7 +4,13 @@
  * Every form comes as a pointer and a length, and is checked: any bytes are safe to pass. A pointer must be readable, or
  * for `out` and `work` writable, over its length; it is not kept after the call. `out` and `work` must not overlap each
  * other or any form. A length of 0 still asks for a pointer that is not null. No bytes can use up a stack: the test of a
- * form calls itself at most once for each of its 16 levels, and not at all for sets in sets.
+ * form calls itself at most once for each of its levels, and not at all for sets in sets.
+ *
+ * `levels`, 1 to 32, and `bytes`, 64 to 8,192, are limits that the caller chooses. A type or a value with more of either
+ * is not whole, in a list or a schema too. A step of a fold, lookup or name list with more bytes is refused with 9, an
+ * answer of any kind with 10. A limit outside its range is refused with 20, before any other question. What a schema or
+ * list may have as a whole is the same under all limits: 32,768 bytes, 256 entity types, 256 actions, 64 functions, 64
+ * types.
  *
  * Every call answers one number. Its low byte is the kind; TIRNCHEAV_VALUE is the rest: the number of the question that
  * refused, or how many bytes were written. For a part of the caller's own form the rest is where it starts and ends.
@@ -26,7 +32,7 @@ extern "C" {
 #endif
 
 enum tirncheav_kind {
-    TIRNCHEAV_REFUSED = 0,  /* the value is the number of the question: 1 to 15 */
+    TIRNCHEAV_REFUSED = 0,  /* the value is the number of the question: 1 to 15, or 20 */
     TIRNCHEAV_YES = 1,
     TIRNCHEAV_NO = 2,
     TIRNCHEAV_NONE = 3,
@@ -42,63 +48,81 @@ enum tirncheav_kind {
 #define TIRNCHEAV_PART_START(answer) ((size_t)((answer) >> 8 & 0xffff))
 #define TIRNCHEAV_PART_END(answer) ((size_t)((answer) >> 24))
 
+/* The limits of a job, and the largest: a result buffer of so many bytes holds any answer, a workspace of twice as many
+ * serves any step. */
+#define TIRNCHEAV_STANDARD_LEVELS 16
+#define TIRNCHEAV_STANDARD_BYTES 4096
+#define TIRNCHEAV_MOST_LEVELS 32
+#define TIRNCHEAV_MOST_BYTES 8192
+
 /* ---- Calls that check the schema each time. They ask nothing of their bytes. */
 
 /* Yes if both are of kind 10 or 11 and share no name, so that no value has both, else no; a no says nothing. */
-uint64_t tirncheav_are_types_disjoint(const uint8_t *t0, size_t t0_len, const uint8_t *t1, size_t t1_len);
+uint64_t tirncheav_are_types_disjoint(size_t levels, size_t bytes, const uint8_t *t0, size_t t0_len, const uint8_t *t1,
+                                      size_t t1_len);
 
 /* Yes if t0 is a subtype of t1 in a mode, else no. Loose answers as permissive. */
-uint64_t tirncheav_is_subtype(uint8_t mode, const uint8_t *schema, size_t schema_len, const uint8_t *t0, size_t t0_len,
-                              const uint8_t *t1, size_t t1_len);
+uint64_t tirncheav_is_subtype(size_t levels, size_t bytes, uint8_t mode, const uint8_t *schema, size_t schema_len,
+                              const uint8_t *t0, size_t t0_len, const uint8_t *t1, size_t t1_len);
 
 /* Writes the least upper bound of t0 and t1 in a mode. */
-uint64_t tirncheav_least_upper_bound(uint8_t mode, const uint8_t *schema, size_t schema_len, const uint8_t *t0,
-                                     size_t t0_len, const uint8_t *t1, size_t t1_len, uint8_t *out, size_t out_len);
+uint64_t tirncheav_least_upper_bound(size_t levels, size_t bytes, uint8_t mode, const uint8_t *schema,
+                                     size_t schema_len, const uint8_t *t0, size_t t0_len, const uint8_t *t1,
+                                     size_t t1_len, uint8_t *out, size_t out_len);
 
 /* Writes the least upper bound of a list of types in a mode, from Never, left to right. */
-uint64_t tirncheav_reduce_to_least_upper_bound(uint8_t mode, const uint8_t *schema, size_t schema_len,
-                                               const uint8_t *list, size_t list_len, uint8_t *out, size_t out_len,
-                                               uint8_t *work, size_t work_len);
+uint64_t tirncheav_reduce_to_least_upper_bound(size_t levels, size_t bytes, uint8_t mode, const uint8_t *schema,
+                                               size_t schema_len, const uint8_t *list, size_t list_len, uint8_t *out,
+                                               size_t out_len, uint8_t *work, size_t work_len);
 
 /* Writes the type of an attribute of t and says whether it is required, or none. */
-uint64_t tirncheav_lookup_attribute_type(const uint8_t *schema, size_t schema_len, uint16_t attr, const uint8_t *t,
-                                         size_t t_len, uint8_t *out, size_t out_len, uint8_t *work, size_t work_len);
+uint64_t tirncheav_lookup_attribute_type(size_t levels, size_t bytes, const uint8_t *schema, size_t schema_len,
+                                         uint16_t attr, const uint8_t *t, size_t t_len, uint8_t *out, size_t out_len,
+                                         uint8_t *work, size_t work_len);
 
 /* Says which bytes of t, from start up to end, are the type of an attribute of the record or action t, or none. */
-uint64_t tirncheav_own_attribute_type(const uint8_t *schema, size_t schema_len, uint16_t attr, const uint8_t *t,
-                                      size_t t_len);
+uint64_t tirncheav_own_attribute_type(size_t levels, size_t bytes, const uint8_t *schema, size_t schema_len,
+                                      uint16_t attr, const uint8_t *t, size_t t_len);
 
 /* Yes if a value of type t might have the attribute, else no. */
-uint64_t tirncheav_may_have_attr(const uint8_t *schema, size_t schema_len, uint16_t attr, const uint8_t *t,
-                                 size_t t_len);
+uint64_t tirncheav_may_have_attr(size_t levels, size_t bytes, const uint8_t *schema, size_t schema_len, uint16_t attr,
+                                 const uint8_t *t, size_t t_len);
 
 /* Writes the names of t's attributes, two bytes each, ascending. */
-uint64_t tirncheav_all_attributes(const uint8_t *schema, size_t schema_len, const uint8_t *t, size_t t_len,
-                                  uint8_t *out, size_t out_len, uint8_t *work, size_t work_len);
+uint64_t tirncheav_all_attributes(size_t levels, size_t bytes, const uint8_t *schema, size_t schema_len,
+                                  const uint8_t *t, size_t t_len, uint8_t *out, size_t out_len, uint8_t *work,
+                                  size_t work_len);
 
 /* Yes if t0 is consistent with the plain type t1 by the Rust's test, else no; neither says whether a value has both. */
-uint64_t tirncheav_is_consistent_with(const uint8_t *t0, size_t t0_len, const uint8_t *t1, size_t t1_len);
+uint64_t tirncheav_is_consistent_with(size_t levels, size_t bytes, const uint8_t *t0, size_t t0_len, const uint8_t *t1,
+                                      size_t t1_len);
 
 /* Writes the core type of t. */
-uint64_t tirncheav_convert(const uint8_t *t, size_t t_len, uint8_t *out, size_t out_len);
+uint64_t tirncheav_convert(size_t levels, size_t bytes, const uint8_t *t, size_t t_len, uint8_t *out, size_t out_len);
 
 /* Yes if the value v has the type t, else no. */
-uint64_t tirncheav_typecheck_restricted_expr(const uint8_t *schema, size_t schema_len, const uint8_t *t, size_t t_len,
-                                             const uint8_t *v, size_t v_len);
+uint64_t tirncheav_typecheck_restricted_expr(size_t levels, size_t bytes, const uint8_t *schema, size_t schema_len,
+                                             const uint8_t *t, size_t t_len, const uint8_t *v, size_t v_len);
 
 /* Writes the type of the uid v, or none where the schema does not have it. */
-uint64_t tirncheav_euid_literal(const uint8_t *schema, size_t schema_len, const uint8_t *v, size_t v_len, uint8_t *out,
-                                size_t out_len);
+uint64_t tirncheav_euid_literal(size_t levels, size_t bytes, const uint8_t *schema, size_t schema_len, const uint8_t *v,
+                                size_t v_len, uint8_t *out, size_t out_len);
 
 /* ---- A schema that is checked once. */
 
-/* Checks a schema: 0 if it is not whole, else a number to hand to the calls below with the same bytes. */
-uint64_t tirncheav_check_schema(const uint8_t *schema, size_t schema_len);
+/*
+ * Checks a schema under limits, and gives a number to hand to the calls below with the same bytes: it keeps the outcome
+ * and the limits. It is 0 where a limit is outside its range, else not 0; nothing more is promised of it. Whether the
+ * schema is whole is told by any call below: tirncheav_may_have_attr_checked of Long, the type 04, answers no if it is,
+ * and is refused with 2, or 20, if it is not.
+ */
+uint64_t tirncheav_check_schema(size_t levels, size_t bytes, const uint8_t *schema, size_t schema_len);
 
 /*
- * Each call below answers as the one of its name above. `check` must be what tirncheav_check_schema gave for exactly
- * these schema bytes, and the bytes must not have changed since: nothing tests it, and with any other number the call may
- * read outside the schema. 0 is safe where it was given: the call is refused with 2.
+ * Each call below answers as the one of its name above under the limits of the check. `check` must be what
+ * tirncheav_check_schema gave for exactly these schema bytes, and the bytes must not have changed since: nothing tests
+ * it, and with any other number the call may read outside the schema. What was given is safe, whole or not: after a limit
+ * outside its range each call is refused with 20, after a schema that is not whole with 2 in its turn.
  */
 
 /* tirncheav_is_subtype, without the check. */

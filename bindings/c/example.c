@@ -1,4 +1,4 @@
-/* Asks five questions under an empty schema, which is checked once. */
+/* Asks five questions under an empty schema, which is checked once, and a sixth under other limits. */
 #include <stdio.h>
 
 #include "tirncheav.h"
@@ -40,10 +40,12 @@ static void print_answer(const char *asked, uint64_t answer, const uint8_t *out)
 
 int main(void) {
     static const uint8_t schema[6] = {0};
-    static const uint8_t true_type[] = {1}, bool_type[] = {3}, longs[] = {7, 4}, strings[] = {7, 5};
-    uint8_t out[4096], work[8192];
-    uint64_t check = tirncheav_check_schema(schema, sizeof schema);
-    if (check == 0) {
+    static const uint8_t true_type[] = {1}, bool_type[] = {3}, long_type[] = {4}, longs[] = {7, 4}, strings[] = {7, 5};
+    uint8_t out[TIRNCHEAV_STANDARD_BYTES], work[2 * TIRNCHEAV_STANDARD_BYTES];
+    uint64_t check =
+        tirncheav_check_schema(TIRNCHEAV_STANDARD_LEVELS, TIRNCHEAV_STANDARD_BYTES, schema, sizeof schema);
+    uint64_t whole = tirncheav_may_have_attr_checked(schema, sizeof schema, check, 1, long_type, sizeof long_type);
+    if (TIRNCHEAV_KIND(whole) == TIRNCHEAV_REFUSED) {
         return 1;
     }
     print_answer("True under Bool",
@@ -64,5 +66,8 @@ int main(void) {
                  tirncheav_lookup_attribute_type_checked(schema, sizeof schema, check, 1, long_record,
                                                          sizeof long_record, out, sizeof out, work, sizeof work),
                  out);
+    check = tirncheav_check_schema(1, TIRNCHEAV_STANDARD_BYTES, schema, sizeof schema);
+    print_answer("a set of Long at one level",
+                 tirncheav_may_have_attr_checked(schema, sizeof schema, check, 1, longs, sizeof longs), out);
     return 0;
 }

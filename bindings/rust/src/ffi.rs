@@ -5,10 +5,16 @@ type P = *const u8;
 type M = *mut u8;
 
 extern "C" {
-    pub fn tirncheav_are_types_disjoint(t0: P, n0: usize, t1: P, n1: usize) -> u64;
-    pub fn tirncheav_is_consistent_with(t0: P, n0: usize, t1: P, n1: usize) -> u64;
-    pub fn tirncheav_convert(t: P, n: usize, out: M, room: usize) -> u64;
-    pub fn tirncheav_check_schema(schema: P, n: usize) -> u64;
+    pub fn tirncheav_are_types_disjoint(
+        levels: usize, bytes: usize, t0: P, n0: usize, t1: P, n1: usize,
+    ) -> u64;
+    pub fn tirncheav_is_consistent_with(
+        levels: usize, bytes: usize, t0: P, n0: usize, t1: P, n1: usize,
+    ) -> u64;
+    pub fn tirncheav_convert(
+        levels: usize, bytes: usize, t: P, n: usize, out: M, room: usize,
+    ) -> u64;
+    pub fn tirncheav_check_schema(levels: usize, bytes: usize, schema: P, n: usize) -> u64;
     pub fn tirncheav_is_subtype_checked(
         schema: P, n: usize, check: u64, mode: u8, t0: P, n0: usize, t1: P, n1: usize,
     ) -> u64;

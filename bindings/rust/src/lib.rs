@@ -2,8 +2,9 @@
 //! is proved equal to its definition.
 //!
 //! Types, values, lists and schemas are byte forms; any bytes are safe to pass,
-//! and what is not whole is refused. A schema is checked once and kept with its
-//! block:
+//! and what is not whole is refused. How large forms may be is the caller's
+//! choice, [`Limits`]. A schema is checked once and kept with its block and its
+//! limits:
 //!
 //! ```
 //! use tirncheav::{Mode, Refusal, Schema};
@@ -31,19 +32,28 @@
 mod answers;
 #[rustfmt::skip]
 mod ffi;
+mod limits;
 mod refusal;
 mod schema;
 
 pub use answers::Attribute;
+pub use limits::Limits;
 pub use refusal::Refusal;
 pub use schema::Schema;
 
 use answers::{written, yes_or_no};
 
-/// The longest form of a type: a result buffer of so many bytes holds any answer.
-pub const FORM_BYTES: usize = 4096;
+/// The longest form under any limits: a result buffer of so many bytes holds
+/// any answer.
+///
+/// ```
+/// use tirncheav::{Limits, FORM_BYTES};
+/// assert!(Limits::new(32, FORM_BYTES).is_ok());
+/// assert!(Limits::new(32, FORM_BYTES + 1).is_err());
+/// ```
+pub const FORM_BYTES: usize = 8192;
 
-/// A workspace of so many bytes serves any step.
+/// A workspace of so many bytes serves any step under any limits.
 pub const WORK_BYTES: usize = 2 * FORM_BYTES;
 
 /// How strictly types are joined and compared.
@@ -72,13 +82,22 @@ pub enum Mode {
 /// has both. A no says nothing.
 ///
 /// ```
+/// use tirncheav::{are_types_disjoint, Limits};
 /// // The entity types 2 and 4.
-/// assert_eq!(tirncheav::are_types_disjoint(&[10, 1, 0, 2, 0], &[10, 1, 0, 4, 0]), Ok(true));
+/// let (two, four) = ([10, 1, 0, 2, 0], [10, 1, 0, 4, 0]);
+/// assert_eq!(are_types_disjoint(Limits::default(), &two, &four), Ok(true));
 /// ```
-pub fn are_types_disjoint(t0: &[u8], t1: &[u8]) -> Result<bool, Refusal> {
+pub fn are_types_disjoint(limits: Limits, t0: &[u8], t1: &[u8]) -> Result<bool, Refusal> {
     // Each pointer stands with the length of its slice.
     yes_or_no(unsafe {
-        ffi::tirncheav_are_types_disjoint(t0.as_ptr(), t0.len(), t1.as_ptr(), t1.len())
+        ffi::tirncheav_are_types_disjoint(
+            limits.levels(),
+            limits.bytes(),
+            t0.as_ptr(),
+            t0.len(),
+            t1.as_ptr(),
+            t1.len(),
+        )
     })
 }
 
@@ -86,27 +105,43 @@ pub fn are_types_disjoint(t0: &[u8], t1: &[u8]) -> Result<bool, Refusal> {
 /// answer says whether a value has both.
 ///
 /// ```
-/// use tirncheav::{is_consistent_with, Refusal};
+/// use tirncheav::{is_consistent_with, Limits, Refusal};
 /// // Long with Long; True is not plain.
-/// assert_eq!(is_consistent_with(&[4], &[4]), Ok(true));
-/// assert_eq!(is_consistent_with(&[4], &[1]), Err(Refusal::Plain));
+/// assert_eq!(is_consistent_with(Limits::default(), &[4], &[4]), Ok(true));
+/// assert_eq!(is_consistent_with(Limits::default(), &[4], &[1]), Err(Refusal::Plain));
 /// ```
-pub fn is_consistent_with(t0: &[u8], t1: &[u8]) -> Result<bool, Refusal> {
+pub fn is_consistent_with(limits: Limits, t0: &[u8], t1: &[u8]) -> Result<bool, Refusal> {
     // Each pointer stands with the length of its slice.
     yes_or_no(unsafe {
-        ffi::tirncheav_is_consistent_with(t0.as_ptr(), t0.len(), t1.as_ptr(), t1.len())
+        ffi::tirncheav_is_consistent_with(
+            limits.levels(),
+            limits.bytes(),
+            t0.as_ptr(),
+            t0.len(),
+            t1.as_ptr(),
+            t1.len(),
+        )
     })
 }
 
 /// The core type of a type, written to the front of `out`.
 ///
 /// ```
+/// use tirncheav::{convert, Limits};
 /// // True becomes Bool.
-/// assert_eq!(tirncheav::convert(&[1], &mut [0; 1]), Ok(&[3][..]));
+/// assert_eq!(convert(Limits::default(), &[1], &mut [0; 1]), Ok(&[3][..]));
 /// ```
-pub fn convert<'b>(t: &[u8], out: &'b mut [u8]) -> Result<&'b [u8], Refusal> {
+pub fn convert<'b>(limits: Limits, t: &[u8], out: &'b mut [u8]) -> Result<&'b [u8], Refusal> {
     // Each pointer stands with the length of its slice, and `out` is lent alone.
-    let number =
-        unsafe { ffi::tirncheav_convert(t.as_ptr(), t.len(), out.as_mut_ptr(), out.len()) };
+    let number = unsafe {
+        ffi::tirncheav_convert(
+            limits.levels(),
+            limits.bytes(),
+            t.as_ptr(),
+            t.len(),
+            out.as_mut_ptr(),
+            out.len(),
+        )
+    };
     written(number, out)
 }

@@ -2,7 +2,7 @@
 
 use std::fmt;
 
-/// The question that refused, in the order in which a call asks them.
+/// The question that refused, by its number. `Limits` is asked before any other.
 #[derive(Clone, Copy, Debug, PartialEq, Eq, Hash, PartialOrd, Ord)]
 pub enum Refusal {
     Mode = 1,
@@ -20,12 +20,13 @@ pub enum Refusal {
     EntityType = 13,
     EntityRecord = 14,
     NoBound = 15,
+    Limits = 20,
 }
 
 use Refusal::*;
 
-/// Each refusal at its number less one.
-const ALL: [(Refusal, &str); 15] = [
+/// Each refusal and what it says.
+const ALL: [(Refusal, &str); 16] = [
     (Mode, "the mode is none of strict, permissive and loose"),
     (Schema, "the schema is not whole"),
     (First, "the first type, or the list, is not whole"),
@@ -50,6 +51,7 @@ const ALL: [(Refusal, &str); 15] = [
     (EntityType, "the entity types differ"),
     (EntityRecord, "an entity has no bound with a record"),
     (NoBound, "the types have no bound"),
+    (Limits, "a limit is outside its range"),
 ];
 
 impl Refusal {
@@ -58,16 +60,20 @@ impl Refusal {
         self as u8
     }
 
-    /// The refusal of a number from 1 to 15.
+    /// The refusal of a number: 1 to 15, or 20.
     pub fn from_number(number: u8) -> Option<Refusal> {
-        let index = usize::from(number).checked_sub(1)?;
-        ALL.get(index).map(|(refusal, _)| *refusal)
+        let mut all = ALL.iter().map(|(refusal, _)| *refusal);
+        all.find(|refusal| refusal.number() == number)
     }
 }
 
 impl fmt::Display for Refusal {
     fn fmt(&self, f: &mut fmt::Formatter<'_>) -> fmt::Result {
-        write!(f, "{} ({})", ALL[*self as usize - 1].1, self.number())
+        let (_, said) = ALL
+            .iter()
+            .find(|(refusal, _)| refusal == self)
+            .expect("all are there");
+        write!(f, "{said} ({})", self.number())
     }
 }
 

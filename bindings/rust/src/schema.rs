@@ -2,12 +2,14 @@
 
 use crate::answers::{attribute, part, written, written_or_none, yes_or_no, Attribute};
 use crate::ffi;
-use crate::{Mode, Refusal};
+use crate::{Limits, Mode, Refusal};
 
-/// A whole schema. The block stays lent, so it cannot change after the check.
+/// A whole schema and the limits of every call on it. The block stays lent, so
+/// it cannot change after the check.
 #[derive(Clone, Copy, Debug)]
 pub struct Schema<'a> {
     block: &'a [u8],
+    limits: Limits,
     check: u64,
 }
 
@@ -30,7 +32,7 @@ macro_rules! asked {
 }
 
 impl<'a> Schema<'a> {
-    /// Checks a schema.
+    /// Checks a schema under the standard limits.
     ///
     /// ```
     /// use tirncheav::{Refusal, Schema};
@@ -38,11 +40,60 @@ impl<'a> Schema<'a> {
     /// assert_eq!(Schema::check(&[0; 5]).unwrap_err(), Refusal::Schema);
     /// ```
     pub fn check(block: &'a [u8]) -> Result<Schema<'a>, Refusal> {
+        Schema::check_under(Limits::default(), block)
+    }
+
+    /// Checks a schema under limits, and keeps them.
+    ///
+    /// ```
+    /// use tirncheav::{Limits, Mode, Refusal, Schema, FORM_BYTES};
+    /// // An entity of 2,047 types has 4,097 bytes.
+    /// let mut entity = vec![10, 0xff, 0x07];
+    /// entity.extend((1..=2047).flat_map(|n: u16| (2 * n).to_le_bytes()));
+    /// let mut out = [0; FORM_BYTES];
+    ///
+    /// let standard = Schema::check(&[0; 6]).unwrap();
+    /// assert_eq!(standard.limits(), Limits::default());
+    /// let bound = standard.least_upper_bound(Mode::Strict, &entity, &entity, &mut out);
+    /// assert_eq!(bound, Err(Refusal::First));
+    ///
+    /// let limits = Limits::new(16, 4097).unwrap();
+    /// let larger = Schema::check_under(limits, &[0; 6]).unwrap();
+    /// assert_eq!(larger.limits(), limits);
+    /// let bound = larger.least_upper_bound(Mode::Strict, &entity, &entity, &mut out);
+    /// assert_eq!(bound, Ok(&entity[..]));
+    /// ```
+    ///
+    /// The bodies of a schema are forms too:
+    ///
+    /// ```
+    /// use tirncheav::{Limits, Refusal, Schema};
+    /// // The entity type 2 with {1: Long}, two levels.
+    /// let block = [
+    ///     1, 0, 0, 0, 0, 0, 2, 0, 0, 10, 0, 8, 0, 1, 0, 1, 0, 1, 1, 0, 4,
+    /// ];
+    /// let [one, two] = [1, 2].map(|levels| Limits::new(levels, 64).unwrap());
+    /// assert!(Schema::check_under(two, &block).is_ok());
+    /// assert_eq!(Schema::check_under(one, &block).unwrap_err(), Refusal::Schema);
+    /// ```
+    pub fn check_under(limits: Limits, block: &'a [u8]) -> Result<Schema<'a>, Refusal> {
+        let (levels, bytes) = (limits.levels(), limits.bytes());
         // The pointer stands with the length of its slice.
-        match unsafe { ffi::tirncheav_check_schema(block.as_ptr(), block.len()) } {
-            0 => Err(Refusal::Schema),
-            check => Ok(Schema { block, check }),
-        }
+        let check =
+            unsafe { ffi::tirncheav_check_schema(levels, bytes, block.as_ptr(), block.len()) };
+        let schema = Schema {
+            block,
+            limits,
+            check,
+        };
+        // Any call tells whether the schema is whole; this one asks about Long.
+        schema.may_have_attr(0, &[4])?;
+        Ok(schema)
+    }
+
+    /// The limits of every call on the schema.
+    pub fn limits(&self) -> Limits {
+        self.limits
     }
 
     /// Whether t0 is a subtype of t1.

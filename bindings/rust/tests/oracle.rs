@@ -4,7 +4,7 @@
 use oracle::generate::Gen;
 use oracle::jobs::read_job;
 use oracle::questions::{answer, operation::*, Call, Outcome};
-use tirncheav::{Mode, Refusal, Schema, FORM_BYTES, WORK_BYTES};
+use tirncheav::{Limits, Mode, Refusal, Schema, FORM_BYTES, WORK_BYTES};
 
 fn yes(answer: Result<bool, Refusal>) -> Outcome {
     match answer {
@@ -29,11 +29,11 @@ fn found(answer: Result<Option<Outcome>, Refusal>) -> Outcome {
 }
 
 /// The calls that take no schema.
-fn alone(call: &Call<'_>, out: &mut [u8]) -> Option<Outcome> {
+fn alone(limits: Limits, call: &Call<'_>, out: &mut [u8]) -> Option<Outcome> {
     Some(match call.op {
-        DISJOINT => yes(tirncheav::are_types_disjoint(call.t0, call.t1)),
-        CONSISTENT => yes(tirncheav::is_consistent_with(call.t0, call.t1)),
-        CONVERT => wrote(tirncheav::convert(call.t0, out)),
+        DISJOINT => yes(tirncheav::are_types_disjoint(limits, call.t0, call.t1)),
+        CONSISTENT => yes(tirncheav::is_consistent_with(limits, call.t0, call.t1)),
+        CONVERT => wrote(tirncheav::convert(limits, call.t0, out)),
         _ => return None,
     })
 }
@@ -72,46 +72,76 @@ fn told(call: &Call<'_>, out: &mut [u8]) -> Option<Outcome> {
         (SUBTYPE | BOUND | FOLD, _) => return None,
         _ => Mode::Strict,
     };
-    alone(call, out).or_else(|| {
-        Some(match Schema::check(call.schema) {
+    let limits = match Limits::new(call.limits.levels, call.limits.bytes) {
+        Ok(limits) => limits,
+        Err(refusal) => return Some(Outcome::Refused(refusal.number())),
+    };
+    alone(limits, call, out).or_else(|| {
+        Some(match Schema::check_under(limits, call.schema) {
             Ok(schema) => under(schema, mode, call, out),
             Err(refusal) => Outcome::Refused(refusal.number()),
         })
     })
 }
 
+/// Puts a call to the binding; false where it cannot be said in Rust.
+fn compared(call: &Call<'_>) -> bool {
+    let mut out = [7; FORM_BYTES];
+    let Some(outcome) = told(call, &mut out) else {
+        return false;
+    };
+    assert_eq!(outcome, answer(call), "{call:?}");
+    let filled = match &outcome {
+        Outcome::Wrote(form) | Outcome::Attribute(_, form) => form.len(),
+        _ => 0,
+    };
+    assert!(out[filled..].iter().all(|byte| *byte == 7), "{call:?}");
+    true
+}
+
+/// Limits beside the standard ones; the last two are outside their ranges.
+const OTHERS: [(usize, usize); 7] = [
+    (1, 64),
+    (2, 64),
+    (3, 100),
+    (5, 8192),
+    (32, 8192),
+    (0, 4096),
+    (16, 8193),
+];
+
 #[test]
 fn answers_are_the_published_ones() {
     let mut jobs = Gen::new(2026);
-    let mut compared = 0;
+    let mut others = OTHERS.into_iter().cycle();
+    let mut count = 0;
     for _ in 0..4000 {
         let bytes = jobs.job();
         let Some(job) = read_job(&bytes) else {
             continue;
         };
         for question in &job.questions {
-            let call = question.call(job.schema);
-            let mut out = [7; FORM_BYTES];
-            let Some(outcome) = told(&call, &mut out) else {
-                continue;
+            let call = Call {
+                room: FORM_BYTES,
+                work: WORK_BYTES,
+                ..question.call(job.schema)
             };
-            assert_eq!(outcome, answer(&call), "{call:?}");
-            let filled = match &outcome {
-                Outcome::Wrote(form) | Outcome::Attribute(_, form) => form.len(),
-                _ => 0,
-            };
-            assert!(out[filled..].iter().all(|byte| *byte == 7), "{call:?}");
-            compared += 1;
+            let (levels, bytes) = others.next().expect("a cycle");
+            let limits = oracle::limits::Limits { levels, bytes };
+            count += [call, Call { limits, ..call }]
+                .iter()
+                .filter(|call| compared(call))
+                .count();
         }
     }
-    assert!(compared > 20_000, "only {compared} questions were compared");
+    assert!(count > 50_000, "only {count} questions were compared");
 }
 
 #[test]
 fn refusals_have_their_numbers() {
-    for number in 1..=15 {
-        assert_eq!(Refusal::from_number(number).unwrap().number(), number);
+    for number in 0..=255 {
+        let refusal = Refusal::from_number(number);
+        assert_eq!(refusal.is_some(), matches!(number, 1..=15 | 20));
+        assert!(refusal.is_none_or(|refusal| refusal.number() == number));
     }
-    assert_eq!(Refusal::from_number(0), None);
-    assert_eq!(Refusal::from_number(16), None);
 }
