@@ -13,11 +13,14 @@ A text, line by line; '#' starts a comment.
 
     name = BYTES                bytes that '$name' stands for below
     == TITLE                    a new job, with the empty schema
+    == N = 1 2 16: TITLE        a job for each of the words: up to the next title '{N}' is the word, '{2N-1}' reckoned from a number
     schema BYTES                its schema
     OPERATION WORD.. : BYTES    a question and its body, or its two bodies behind a colon each. The words: 'strict',
-                                'permissive', 'loose' or mode=N; attribute=N; in rooms.txt also room=N and workspace=N
+                                'permissive', 'loose' or mode=N; attribute=N; in rooms.txt also room=N, workspace=N,
+                                levels=N and bytes=N
     job BYTES                   the whole job as it is, good or bad
-    > LINE                      what must be printed, in turn; '> N..M LINE' for each index from N to M. '<BYTES>' stands for the bytes in lower-case hexadecimal, '<>' for none
+    > LINE                      what must be printed, in turn; '> N..M LINE' for each index from N to M, '> N* LINE' so many times.
+                                '<BYTES>' stands for the bytes in lower-case hexadecimal, '<>' for none
 
 BYTES: hexadecimal digits in pairs; '%N' a u16, low byte first; '%N..M' the u16s from N to M in steps of two, and
 '%N..M(BYTES)' with bytes behind each; 'N*(BYTES)' a repetition; '$name'; '@(BYTES)' the bytes' length as a u16;
@@ -32,6 +35,7 @@ HERE = Path(__file__).resolve().parent
 CRATES = HERE.parent / "crates"
 TEXTS = ["settled", "answers", "edges"]
 MODES = {"strict": "mode=0", "permissive": "mode=1", "loose": "mode=2"}
+STANDARD = {"levels": 16, "bytes": 4096}
 OPERATIONS = ["subtype", "bound", "disjoint", "lookup", "may-have", "names", "consistent", "convert", "conforms", "fold",
               "literal", "own"]
 TOKEN = re.compile(r"\s*(?:%(?P<first>\d+)(?:\.\.(?P<last>\d+)(?P<each>\()?)?|(?P<times>\d+)\*\(|(?P<wraps>\d+)?@(?P<length>\()"
@@ -83,7 +87,7 @@ def question(line, names):
     """An operation with its words, and its one or two bodies."""
     head, *bodies = line.split(":")
     operation, *words = head.split()
-    given = {"mode": 0, "attribute": 0, "room": 0, "workspace": 0}
+    given = {"mode": 0, "attribute": 0, "room": 0, "workspace": 0, **STANDARD}
     for word in words:
         key, _, value = MODES.get(word, word).partition("=")
         given[key] = int(value)
@@ -107,7 +111,7 @@ def calls(entry):
     out = b""
     for op, g, a, b in entry["questions"]:
         numbers = (op, g["mode"], g["attribute"], g["room"], g["workspace"], len(entry["schema"]), len(a), len(b))
-        out += struct.pack("<BBHHHHHH", *numbers) + entry["schema"] + a + b
+        out += struct.pack("<BBHHHHHHII", *numbers, g["levels"], g["bytes"]) + entry["schema"] + a + b
     return out
 
 
@@ -116,13 +120,30 @@ def expected(line, names):
     line = re.sub(r"<(.*?)>", lambda m: parse(m[1], 0, names, False)[0].hex(), line)
     if m := re.match(r"(\d+)\.\.(\d+)(.*)", line):
         return "".join(f"{index}{m[3]}\n" for index in range(int(m[1]), int(m[2]) + 1))
+    if m := re.match(r"(\d+)\* (.*)", line):
+        return int(m[1]) * (m[2] + "\n")
     return line + "\n"
+
+
+def worded(line, word):
+    """A line with the word of its job."""
+    def reckoned(m):
+        return str(int(m[1] or 1) * int(word) + int(m[2] or 0))
+    return re.sub(r"\{(\d*)N([+-]\d+)?\}", reckoned, line.replace("{N}", word))
+
+
+def lines_of(text):
+    """A text's lines without comments, those of a job with words once for each."""
+    lines = "\n".join(line.partition("#")[0].strip() for line in text.splitlines())
+    for part in re.split(r"^(?===)", lines, flags=re.M):
+        words = re.match(r"== N = (.*?):", part)
+        for word in words[1].split() if words else [""]:
+            yield from (worded(line, word) for line in part.splitlines())
 
 
 def read(path):
     names, entries = {"empty": bytes(6)}, []
-    for line in path.read_text().splitlines():
-        line = line.partition("#")[0].strip()
+    for line in lines_of(path.read_text()):
         if line.startswith("=="):
             entries.append({"schema": names["empty"], "questions": [], "job": None, "lines": ""})
         elif line.startswith(">"):

@@ -1,13 +1,14 @@
 #!/usr/bin/env python3
 """Compiles C programs with include/tirncheav.h, links them with the static library (target/staticlib, after `rt staticlib
 exports`), and holds what they print to a text: the example of bindings/c, and tests/entries.c, which calls each entry by
-position and then asks in loose mode with buffers of a few bytes.
+position, and then asks in loose mode with buffers of a few bytes and under other limits.
 
 Then shows that entries.c would tell: the linker puts a function before each entry that passes its arguments on as an entry
 would see them whose source has two parameters exchanged. For each entry and each two of its parameters the lines must differ.
 
-And holds the stack that tests/stack.c sees the test of a form take to what is promised: nothing for a set, one step for each
-record, none below the level that is one too many.
+And holds the stack that tests/stack.c sees the test of a form take to what is promised, under the standard limits and under the
+largest: nothing for a set, one step for each record, none below the level that is one too many. What other calls take grows no faster
+than the levels.
 """
 import itertools
 import os
@@ -21,12 +22,11 @@ from pathlib import Path
 ROOT = Path(__file__).resolve().parent.parent
 LIBRARY = ROOT / "target/staticlib/libexports.a"
 ENTRY = re.compile(r'pub extern "C" fn (\w+)\((.*?)\) -> u64', re.S)
-CTYPES = {"u8": ["uint8_t"], "u16": ["uint16_t"], "u64": ["uint64_t"], "&[u8]": ["const uint8_t *", "size_t"],
+CTYPES = {"u8": ["uint8_t"], "u16": ["uint16_t"], "u64": ["uint64_t"], "usize": ["size_t"], "&[u8]": ["const uint8_t *", "size_t"],
           "&mut [u8]": ["uint8_t *", "size_t"]}
 
-REFUSED, NO, WROTE = 0, 2, 4  # kinds of an answer
+REFUSED, YES, NO, WROTE, REQUIRED = 0, 1, 2, 4, 6  # kinds of an answer
 SCHEMA, TYPE = 2, 3  # refusals
-LEVELS = 16
 
 
 def entries():
@@ -96,28 +96,54 @@ def exchange_tests(folder, expected):
 
 
 def stack_lines(folder):
-    """What stack.c tells of each form, by kind, count and what stands below: the answer's kind and value, and the stack."""
+    """What stack.c tells of each form, by the levels allowed, then by kind, count and what stands below: the answer's kind and value,
+    and the stack."""
     text, _ = printed(compiled(folder / "stack", ROOT / "tests/stack.c"))
-    lines = [line.split() for line in text.splitlines()]
-    return {(what, int(count), below): tuple(map(int, words)) for what, count, below, *words in lines}
+    told = {}
+    for levels, what, count, below, *words in map(str.split, text.splitlines()):
+        told.setdefault(int(levels), {})[what, int(count), below] = tuple(map(int, words))
+    return told
 
 
-def stack_tests(told):
+def call_tests(told):
+    """From 16 to 32 levels a call takes at most twice as much more as from 8 to 16."""
+    kinds = {"subtype": YES, "bound": WROTE, "consistent": YES, "convert": WROTE, "conforms": YES, "fold": WROTE, "lookup": REQUIRED}
+    tests = {}
+    for what, kind in kinds.items():
+        lines = [told[what, count, "true"] for count in (7, 15, 31)]
+        few, some, most = (stack for _, _, stack in lines)
+        held = {line[0] for line in lines} == {kind} and most - some <= 2 * (some - few)
+        tests[f"the stack of a {what} on 8, 16 and 32 levels"] = held
+    return tests
+
+
+def stack_tests(levels, told):
     """A chain of sets takes the stack of one set if it is whole, and no more if it is refused: as a type, in a list, in a schema's
     body. Each record takes as much as any other, up to the level that is one too many."""
-    places = {"sets": (15, NO, TYPE), "sets-in-list": (15, WROTE, TYPE), "sets-in-schema": (14, NO, SCHEMA)}
+    places = {"sets": (levels - 1, NO, TYPE), "sets-in-list": (levels - 1, WROTE, TYPE), "sets-in-schema": (levels - 2, NO, SCHEMA)}
     one, two = (told["records", count, "long"][2] for count in (1, 2))
-    tests = {"each record takes some stack": one < two}
+    tests = {f"{levels} levels: each record takes some stack": one < two}
     for (what, count, below), (kind, value, stack) in told.items():
+        if below == "true":
+            continue
         if what == "records":
-            said = kind == NO if count < LEVELS else (kind, value) == (REFUSED, TYPE)
-            held = said and stack == one + (two - one) * (min(count, LEVELS) - 1)
+            said = kind == NO if count < levels else (kind, value) == (REFUSED, TYPE)
+            held = said and stack == one + (two - one) * (min(count, levels) - 1)
         elif below == "long" and count <= places[what][0]:
             held = kind == places[what][1] and stack == told[what, 1, "long"][2]
         else:
             held = (kind, value) == (REFUSED, places[what][2]) and stack <= told[what, 1, "long"][2]
-        tests[f"the stack of {count} {what} over {below}"] = held
+        tests[f"{levels} levels: the stack of {count} {what} over {below}"] = held
     return tests
+
+
+def all_stack_tests(told):
+    """The same under each of the limits; a record takes as much under all of them."""
+    steps = {of["records", 2, "long"][2] - of["records", 1, "long"][2] for of in told.values()}
+    tests = {"a record's stack under the standard limits and the largest": len(told) == 2 and len(steps) == 1}
+    for levels, of in told.items():
+        tests.update(stack_tests(levels, of))
+    return {**tests, **call_tests(told[max(told)])}
 
 
 def main():
@@ -132,7 +158,7 @@ def main():
             "the C entries": printed(compiled(folder / "entries", ROOT / "tests/entries.c")) == (expected, 0),
             "each entry is called": all(f"\n{name[len('tirncheav_'):]} 0x" in "\n" + expected for name, _ in entries()),
             **exchange_tests(folder, expected),
-            **stack_tests(stack_lines(folder)),
+            **all_stack_tests(stack_lines(folder)),
         }
     failed = [name for name, held in tests.items() if not held]
     for name in failed:

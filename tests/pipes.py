@@ -29,6 +29,12 @@ def part(name):
     return batches.batch(ROOT / "tests" / f"{name}.txt")
 
 
+def first_calls():
+    """The same for the first calls of rooms.txt, since all of them have too many bytes to be moved one by one."""
+    entries = batches.read(ROOT / "tests/rooms.txt")[:24]
+    return b"".join(map(batches.calls, entries)), "".join(entry["lines"] for entry in entries).encode()
+
+
 def without_waiting(end):
     fcntl.fcntl(end, fcntl.F_SETFL, fcntl.fcntl(end, fcntl.F_GETFL) | os.O_NONBLOCK)
 
@@ -69,7 +75,7 @@ def slow_pipe():
 def cut_tests():
     """Each read or each write is short, interrupted or told to wait: what is printed is the same."""
     tests = {}
-    cases = {"tirncheav": case("tirncheav"), "batches": part("settled"), "rooms": case("rooms")}
+    cases = {"tirncheav": case("tirncheav"), "batches": part("settled"), "rooms": first_calls()}
     with tempfile.TemporaryDirectory() as folder:
         shim = Path(folder) / "cut.so"
         subprocess.run(["cc", "-Wall", "-Wextra", "-Werror", "-shared", "-fPIC", ROOT / "tests/cut.c", "-o", shim], check=True)
@@ -109,6 +115,7 @@ def main():
         "a length that is cut short": said("batches", batch[:whole + 2]) == (first, "standard input: a length is cut short\n"),
         "a job that is cut short": said("batches", batch[:whole + 9]) == (first, "standard input: a job is cut short\n"),
         "a job that is too long": said("batches", b"\1\0\1\0") == (b"", "standard input: a job is too long\n"),
+        "a call's numbers that are cut short": said("rooms", calls[:21]) == (b"", "standard input: a call's numbers are cut short\n"),
         "a call that is cut short": said("rooms", calls[:30]) == (b"", "standard input: a call is cut short\n"),
         "a job with a byte over": said("tirncheav", job + b"\0") == (b"- 16 -\n", ""),
         "a job of 32,768 bytes": said("tirncheav", longest_job()) == (b"0 3 -\n", ""),

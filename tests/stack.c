@@ -1,6 +1,7 @@
 /*
- * Tells how much of a stack the test of a form takes: each call runs on a stack of its own, filled with one byte before,
- * and what is no longer that byte after it was used. A line for each form: its name, the answer's kind and value, the bytes.
+ * Tells how much of a stack the test of a form takes, and each call that goes down forms: each runs on a stack of its own,
+ * filled with one byte before, and what is no longer that byte after it was used. A line for each form under the standard
+ * limits and under the largest: the levels allowed, its name, the answer's kind and value, the bytes.
  */
 #define _XOPEN_SOURCE 700
 #include <stdio.h>
@@ -9,27 +10,54 @@
 
 #include "tirncheav.h"
 
-enum { STACK = 1 << 18, FILL = 0xa5, FORM = 4096, SET = 7, LONG = 4, RECORD = 8 };
+enum { STACK = 1 << 18, FILL = 0xa5, FORM = TIRNCHEAV_MOST_BYTES };
+enum { TRUE = 1, FALSE, BOOL, LONG, SET = 7, RECORD };
 
-static const uint8_t long_type[] = {LONG};
-static uint8_t stack[STACK], form[FORM], block[FORM + 32], out[FORM], work[2 * FORM];
-static size_t form_length, block_length;
+static const uint8_t long_type[] = {LONG}, both[] = {10, 2, 0, 2, 0, 4, 0}, empty[6];
+static uint8_t stack[STACK], form[FORM], other[FORM], above[FORM], value[FORM], block[2 * FORM], out[FORM], work[2 * FORM];
+static size_t levels, bytes, form_length, value_length, block_length;
 static ucontext_t caller, called;
 static uint64_t answer;
 
 /* Whether two types are disjoint looks at their first bytes once both are whole. */
 static void test_type(void) {
-    answer = tirncheav_are_types_disjoint(form, form_length, long_type, sizeof long_type);
+    answer = tirncheav_are_types_disjoint(levels, bytes, form, form_length, long_type, sizeof long_type);
 }
 
 static void test_list(void) {
-    static const uint8_t schema[6];
-    answer = tirncheav_reduce_to_least_upper_bound(0, schema, sizeof schema, block, block_length, out, sizeof out, work,
-                                                   sizeof work);
+    answer = tirncheav_reduce_to_least_upper_bound(levels, bytes, 0, empty, sizeof empty, block, block_length, out,
+                                                   sizeof out, work, sizeof work);
 }
 
 static void test_schema(void) {
-    answer = tirncheav_may_have_attr(block, block_length, 1, long_type, sizeof long_type);
+    answer = tirncheav_may_have_attr(levels, bytes, block, block_length, 1, long_type, sizeof long_type);
+}
+
+static void call_subtype(void) {
+    answer = tirncheav_is_subtype(levels, bytes, 1, empty, sizeof empty, form, form_length, above, form_length);
+}
+
+static void call_bound(void) {
+    answer = tirncheav_least_upper_bound(levels, bytes, 1, empty, sizeof empty, form, form_length, other, form_length,
+                                         out, sizeof out);
+}
+
+static void call_consistent(void) {
+    answer = tirncheav_is_consistent_with(levels, bytes, form, form_length, above, form_length);
+}
+
+static void call_convert(void) {
+    answer = tirncheav_convert(levels, bytes, form, form_length, out, sizeof out);
+}
+
+static void call_conforms(void) {
+    answer = tirncheav_typecheck_restricted_expr(levels, bytes, empty, sizeof empty, above, form_length, value,
+                                                 value_length);
+}
+
+static void call_lookup(void) {
+    answer = tirncheav_lookup_attribute_type(levels, bytes, block, block_length, 1, both, sizeof both, out, sizeof out,
+                                             work, sizeof work);
 }
 
 /* The bytes of a stack that a call takes. */
@@ -51,7 +79,7 @@ static size_t taken(void (*call)(void)) {
 /* Calls twice, since the first call of a function may also take what finding it takes. */
 static void tell(const char *what, size_t count, const char *below, void (*call)(void)) {
     taken(call);
-    printf("%s %zu %s %d %zu", what, count, below, TIRNCHEAV_KIND(answer), TIRNCHEAV_VALUE(answer));
+    printf("%zu %s %zu %s %d %zu", levels, what, count, below, TIRNCHEAV_KIND(answer), TIRNCHEAV_VALUE(answer));
     printf(" %zu\n", taken(call));
 }
 
@@ -67,15 +95,36 @@ static void make_sets(size_t count, size_t below) {
     form_length = count + below;
 }
 
-/* So many records, each the one attribute of the one above, and Long in the last. */
-static void make_records(size_t count) {
+/* So many records, each the one attribute of the one above, and a type of one byte in the last. */
+static void make_records(uint8_t *at, size_t count, uint8_t last) {
     form_length = 9 * count + 1;
     for (size_t i = 0; i < count; i++) {
         static const uint8_t head[] = {RECORD, 0, 1, 0, 1, 0, 1};
-        memcpy(form + 9 * i, head, sizeof head);
-        put16(form + 9 * i + 7, form_length - 9 * (i + 1));
+        memcpy(at + 9 * i, head, sizeof head);
+        put16(at + 9 * i + 7, form_length - 9 * (i + 1));
     }
-    form[form_length - 1] = LONG;
+    at[form_length - 1] = last;
+}
+
+/* A value of so many such records, and true in the last. */
+static void make_value(size_t count) {
+    value_length = 7 * count + 1;
+    for (size_t i = 0; i < count; i++) {
+        static const uint8_t head[] = {6, 1, 0, 1, 0};
+        memcpy(value + 7 * i, head, sizeof head);
+        put16(value + 7 * i + 5, value_length - 7 * (i + 1));
+    }
+    value[value_length - 1] = 1;
+}
+
+/* A list of two types, or a schema whose entity types 2 and 4 have them as bodies: what stands before them. */
+static void make_two(const uint8_t *head, size_t n, size_t first, size_t second) {
+    memcpy(block, head, n);
+    put16(block + first, form_length);
+    put16(block + second, form_length);
+    memcpy(block + n, form, form_length);
+    memcpy(block + n + form_length, other, form_length);
+    block_length = n + 2 * form_length;
 }
 
 /* The form as the one type of a list. */
@@ -96,22 +145,62 @@ static void make_schema(void) {
     block_length = sizeof head + 2 + form_length;
 }
 
-int main(void) {
-    static const size_t sets[] = {1, 2, 14, 15, 16, 17, 100, 4000}, records[] = {1, 2, 3, 14, 15, 16, 17, 100, 455};
-    for (size_t i = 0; i < sizeof sets / sizeof *sets; i++) {
+/* Chains of sets of so many lengths, as a type, in a list, in a schema's body. */
+static void tell_sets(const size_t *counts, size_t n) {
+    for (size_t i = 0; i < n; i++) {
         for (size_t below = 0; below < 2; below++) {
             const char *name = below ? "long" : "nothing";
-            make_sets(sets[i], below);
-            tell("sets", sets[i], name, test_type);
+            make_sets(counts[i], below);
+            tell("sets", counts[i], name, test_type);
             make_list();
-            tell("sets-in-list", sets[i], name, test_list);
+            tell("sets-in-list", counts[i], name, test_list);
             make_schema();
-            tell("sets-in-schema", sets[i], name, test_schema);
+            tell("sets-in-schema", counts[i], name, test_schema);
         }
     }
-    for (size_t i = 0; i < sizeof records / sizeof *records; i++) {
-        make_records(records[i]);
-        tell("records", records[i], "long", test_type);
+}
+
+/* Records in records, so many. */
+static void tell_records(const size_t *counts, size_t n) {
+    for (size_t i = 0; i < n; i++) {
+        make_records(form, counts[i], LONG);
+        tell("records", counts[i], "long", test_type);
     }
+}
+
+/* The calls on records in records, so many. */
+static void tell_calls(size_t count) {
+    static const uint8_t list[6] = {2}, schema[16] = {2, 0, 0, 0, 0, 0, 2, 0, 0, 0, 0, 4};
+    make_records(form, count, TRUE);
+    make_records(other, count, FALSE);
+    make_records(above, count, BOOL);
+    make_value(count);
+    tell("subtype", count, "true", call_subtype);
+    tell("bound", count, "true", call_bound);
+    tell("consistent", count, "true", call_consistent);
+    tell("convert", count, "true", call_convert);
+    tell("conforms", count, "true", call_conforms);
+    make_two(list, sizeof list, 2, 4);
+    tell("fold", count, "true", test_list);
+    make_two(schema, sizeof schema, 9, 14);
+    tell("lookup", count, "true", call_lookup);
+}
+
+/* The longest of each is too long for the standard limits. */
+int main(void) {
+    static const size_t sets[] = {1, 2, 14, 15, 16, 17, 30, 31, 32, 33, 100, 4000, 8000};
+    static const size_t records[] = {1, 2, 3, 14, 15, 16, 17, 30, 31, 32, 33, 100, 455, 910};
+    size_t of_sets = sizeof sets / sizeof *sets, of_records = sizeof records / sizeof *records;
+    levels = TIRNCHEAV_STANDARD_LEVELS;
+    bytes = TIRNCHEAV_STANDARD_BYTES;
+    tell_sets(sets, of_sets - 1);
+    tell_records(records, of_records - 1);
+    levels = TIRNCHEAV_MOST_LEVELS;
+    bytes = TIRNCHEAV_MOST_BYTES;
+    tell_sets(sets, of_sets);
+    tell_records(records, of_records);
+    tell_calls(7);
+    tell_calls(15);
+    tell_calls(31);
     return 0;
 }
