@@ -1,16 +1,24 @@
 //! How often each operation gave each outcome.
 
+mod edges;
+mod limits;
+
+pub use limits::Limited;
+
 use crate::forms::Bytes;
-use crate::jobs::{read_job, RESULT};
+use crate::jobs::read_job;
+use crate::limits::Limits;
 use crate::loose::LOOSE;
 use crate::questions::{answer_with, operation, Call, Outcome, SchemaCache};
 
-const COLUMNS: [&str; 20] = [
+const COLUMNS: [&str; WIDTH] = [
     "yes", "no", "none", "bytes", "r:", "o:", "1", "2", "3", "4", "5", "6", "7", "8", "9", "10",
-    "11", "12", "13", "14",
+    "11", "12", "13", "14", "15", UNALLOWED,
 ];
-const LAST: &str = "15";
-const WIDTH: usize = COLUMNS.len() + 1;
+const WIDTH: usize = 22;
+
+/// Limits outside their ranges, which no job and no program has.
+const UNALLOWED: &str = "20";
 
 /// The operations, and then what is counted of mode 2 beside them: the
 /// operations that take a mode; those with another outcome in mode 1, by that
@@ -79,17 +87,23 @@ const WITH_ROOMS: [usize; 7] = [
     OF_SETS + 1,
 ];
 
+/// What is counted.
+#[derive(Clone, Copy, Default, PartialEq, Eq)]
+enum Asked {
+    #[default]
+    InJobs,
+    WithRooms,
+    /// With rooms, and under other limits than the standard ones.
+    UnderLimits,
+}
+
 #[derive(Clone, Default)]
 pub struct Coverage {
     cells: [[u64; WIDTH]; ROWS.len()],
     pub jobs: u64,
     pub bad_jobs: u64,
     pub empty_name_lists: u64,
-    rooms: bool,
-}
-
-fn name(column: usize) -> &'static str {
-    COLUMNS.get(column).copied().unwrap_or(LAST)
+    asked: Asked,
 }
 
 fn column(outcome: &Outcome) -> usize {
@@ -100,38 +114,59 @@ fn column(outcome: &Outcome) -> usize {
         Outcome::Wrote(_) => 3,
         Outcome::Attribute(true, _) => 4,
         Outcome::Attribute(false, _) => 5,
+        Outcome::Refused(20) => WIDTH - 1,
         Outcome::Refused(n) => 5 + *n as usize,
     }
 }
 
 /// Is a bound of two sets asked for, or a fold of sets alone?
 fn of_sets(call: &Call<'_>) -> bool {
+    let set = |form: &&[u8]| form.first() == Some(&7);
     match call.op {
-        operation::BOUND => call.t0.first() == Some(&7) && call.t1.first() == Some(&7),
-        operation::FOLD => list_of_sets(call.t0).unwrap_or(false),
+        operation::BOUND => set(&call.t0) && set(&call.t1),
+        operation::FOLD => members(call.t0).is_some_and(|m| !m.is_empty() && m.iter().all(set)),
         _ => false,
     }
 }
 
-/// None if the list has no types, or its bytes are too few.
-fn list_of_sets(list: &[u8]) -> Option<bool> {
+/// The members of a list; none if its bytes are too few.
+fn members(list: &[u8]) -> Option<Vec<&[u8]>> {
     let mut b = Bytes(list);
     let n = b.u16()? as usize;
     let mut lengths = Bytes(b.take(2 * n)?);
-    let mut sets = None;
-    for _ in 0..n {
-        let form = b.take(lengths.u16()? as usize)?;
-        sets = Some(sets.unwrap_or(true) && form.first() == Some(&7));
-    }
-    sets
+    (0..n).map(|_| b.take(lengths.u16()? as usize)).collect()
 }
 
 impl Coverage {
     /// A table for calls with rooms of any size.
     pub fn with_rooms() -> Coverage {
         Coverage {
-            rooms: true,
+            asked: Asked::WithRooms,
             ..Coverage::default()
+        }
+    }
+
+    /// A table for calls under other limits. It does not compare modes.
+    fn under_limits() -> Coverage {
+        Coverage {
+            asked: Asked::UnderLimits,
+            ..Coverage::default()
+        }
+    }
+
+    /// The rows that are counted.
+    fn rows(&self) -> std::ops::Range<usize> {
+        match self.asked {
+            Asked::UnderLimits => 0..OTHERWISE,
+            _ => 0..ROWS.len(),
+        }
+    }
+
+    /// The columns that are shown.
+    fn columns(&self) -> std::ops::Range<usize> {
+        match self.asked {
+            Asked::UnderLimits => 0..WIDTH,
+            _ => 0..WIDTH - 1,
         }
     }
 
@@ -148,24 +183,25 @@ impl Coverage {
             self.bad_jobs += 1;
             return;
         };
-        let mut schema = SchemaCache::of(job.schema);
+        let schema = SchemaCache::of(Limits::STANDARD, job.schema);
         for (question, outcome) in job.questions.iter().zip(outcomes) {
-            self.count_with(&question.call(job.schema), &mut schema, outcome);
+            self.count_with(&question.call(job.schema), &schema, outcome);
         }
     }
 
     /// Count the outcome of one call.
     pub fn count(&mut self, call: &Call<'_>, outcome: &Outcome) {
-        self.count_with(call, &mut SchemaCache::of(call.schema), outcome);
+        let schema = SchemaCache::of(call.limits, call.schema);
+        self.count_with(call, &schema, outcome);
     }
 
-    fn count_with(&mut self, call: &Call<'_>, schema: &mut SchemaCache<'_>, outcome: &Outcome) {
+    fn count_with(&mut self, call: &Call<'_>, schema: &SchemaCache<'_>, outcome: &Outcome) {
         self.cells[call.op as usize][column(outcome)] += 1;
         if matches!(outcome, Outcome::Wrote(form) if form.is_empty()) {
             self.empty_name_lists += 1;
         }
         if let Outcome::Wrote(form) | Outcome::Attribute(_, form) = outcome {
-            assert!(form.len() <= RESULT, "an answer longer than 4,096");
+            assert!(form.len() <= call.limits.bytes, "an answer over its limit");
         }
         let modes = [operation::SUBTYPE, operation::BOUND, operation::FOLD];
         if let Some(at) = modes.iter().position(|op| *op == call.op) {
@@ -180,10 +216,13 @@ impl Coverage {
         &mut self,
         at: usize,
         call: &Call<'_>,
-        schema: &mut SchemaCache<'_>,
+        schema: &SchemaCache<'_>,
         outcome: &Outcome,
     ) {
         self.cells[IN_LOOSE + at][column(outcome)] += 1;
+        if self.asked == Asked::UnderLimits {
+            return;
+        }
         let permissive = answer_with(&Call { mode: 1, ..*call }, schema);
         if permissive != *outcome {
             let by = match outcome {
@@ -208,21 +247,30 @@ impl Coverage {
     }
 
     fn possible(&self, row: usize, column: &str) -> bool {
-        let refuses = self.rooms && column == "10" && WITH_ROOMS.contains(&row);
-        POSSIBLE[row].contains(&column) || refuses
+        match column {
+            UNALLOWED => self.asked == Asked::UnderLimits,
+            "10" if self.asked != Asked::InJobs && WITH_ROOMS.contains(&row) => true,
+            _ => POSSIBLE[row].contains(&column),
+        }
+    }
+
+    /// The cells that a test picks, by name.
+    fn picked(&self, test: &dyn Fn(bool, u64) -> bool) -> Vec<String> {
+        let mut picked = Vec::new();
+        for row in self.rows() {
+            for (at, name) in COLUMNS.iter().enumerate() {
+                if test(self.possible(row, name), self.cells[row][at]) {
+                    picked.push(format!("{}: {name}", ROWS[row]));
+                }
+            }
+        }
+        picked
     }
 
     /// The possible cells that were not reached.
     pub fn missing(&self) -> Vec<String> {
-        let mut missing = Vec::new();
-        for row in 0..ROWS.len() {
-            for at in 0..WIDTH {
-                if self.possible(row, name(at)) && self.cells[row][at] == 0 {
-                    missing.push(format!("{}: {}", ROWS[row], name(at)));
-                }
-            }
-        }
-        if self.bad_jobs == 0 && !self.rooms {
+        let mut missing = self.picked(&|possible, count| possible && count == 0);
+        if self.bad_jobs == 0 && self.asked == Asked::InJobs {
             missing.push("job 16".into());
         }
         missing
@@ -230,41 +278,39 @@ impl Coverage {
 
     /// The cells that were reached though they are not possible.
     pub fn unexpected(&self) -> Vec<String> {
-        let mut unexpected = Vec::new();
-        for row in 0..ROWS.len() {
-            for at in 0..WIDTH {
-                if !self.possible(row, name(at)) && self.cells[row][at] > 0 {
-                    unexpected.push(format!("{}: {}", ROWS[row], name(at)));
-                }
-            }
-        }
-        unexpected
+        self.picked(&|possible, count| !possible && count > 0)
     }
 
-    /// The table, one row a line; `.` where an outcome is not possible.
-    pub fn table(&self) -> String {
+    /// The rows, one a line; `.` where an outcome is not possible.
+    fn lines(&self) -> String {
         let mut out = format!("{:<16}", "");
-        (0..WIDTH).for_each(|at| out.push_str(&format!("{:>8}", name(at))));
+        let columns = &COLUMNS[self.columns()];
+        let put = |out: &mut String, text: &str| out.push_str(&format!("{text:>8}"));
+        columns.iter().for_each(|name| put(&mut out, name));
         out.push('\n');
-        for row in 0..ROWS.len() {
+        for row in self.rows() {
             out.push_str(&format!("{:<16}", ROWS[row]));
-            for at in 0..WIDTH {
-                let cell = match self.possible(row, name(at)) || self.cells[row][at] > 0 {
-                    true => self.cells[row][at].to_string(),
-                    false => ".".into(),
-                };
-                out.push_str(&format!("{cell:>8}"));
+            for (at, name) in columns.iter().enumerate() {
+                match self.possible(row, name) || self.cells[row][at] > 0 {
+                    true => put(&mut out, &self.cells[row][at].to_string()),
+                    false => put(&mut out, "."),
+                }
             }
             out.push('\n');
         }
-        out.push_str(&format!(
+        out
+    }
+
+    /// The table.
+    pub fn table(&self) -> String {
+        self.lines()
+            + &format!(
             "{} jobs, {} of them refused as a whole (16), {} questions, {} of them in mode 2, {} empty answers\n",
             self.jobs,
             self.bad_jobs,
             self.questions(),
             self.loose(),
             self.empty_name_lists
-        ));
-        out
+        )
     }
 }

@@ -1,7 +1,9 @@
 //! Every question of certain small kinds, as jobs.
 
 mod chains;
+mod lengths;
 
+use crate::limits::Limits;
 use crate::questions::operation::*;
 use crate::trees::{
     job_form, list_form, ActionEntry, Ask, Attr, EntityEntry, FunctionEntry, Sch, Ty, Val,
@@ -200,6 +202,29 @@ struct Jobs {
 }
 
 impl Jobs {
+    fn on(schema: &Sch) -> Jobs {
+        Jobs {
+            schema: schema.form(),
+            asks: Vec::new(),
+            bytes: 0,
+            jobs: Vec::new(),
+        }
+    }
+
+    fn ask_all(&mut self) {
+        let types: Vec<Vec<u8>> = paired().iter().map(Ty::form).collect();
+        pairs(self, &types);
+        singles(self, &types);
+        folds(self);
+        short_bytes(self);
+        chains::ask_all(self);
+    }
+
+    fn closed(mut self) -> Vec<Vec<u8>> {
+        self.close();
+        self.jobs
+    }
+
     fn ask(&mut self, op: u8, mode: u8, attr: u16, t0: &[u8], t1: &[u8]) {
         let bytes = 8 + t0.len() + t1.len();
         if self.bytes + bytes > JOB {
@@ -227,22 +252,33 @@ impl Jobs {
     }
 }
 
+/// Few levels, that the types here have and have not.
+pub const FEW: [Limits; 3] = [few(1), few(2), few(3)];
+
+const fn few(levels: usize) -> Limits {
+    let bytes = Limits::LEAST.bytes;
+    Limits { levels, bytes }
+}
+
 /// All jobs.
 pub fn jobs() -> Vec<Vec<u8>> {
-    let mut jobs = Jobs {
-        schema: schema().form(),
-        asks: Vec::new(),
-        bytes: 0,
-        jobs: Vec::new(),
-    };
-    let types: Vec<Vec<u8>> = paired().iter().map(Ty::form).collect();
-    pairs(&mut jobs, &types);
-    singles(&mut jobs, &types);
-    folds(&mut jobs);
-    short_bytes(&mut jobs);
-    chains::ask_all(&mut jobs);
-    jobs.close();
-    jobs.jobs
+    let mut jobs = Jobs::on(&schema());
+    jobs.ask_all();
+    jobs.closed()
+}
+
+/// The same with a schema that is whole under such limits, and forms around
+/// their bytes.
+pub fn jobs_under(limits: Limits) -> Vec<Vec<u8>> {
+    let mut schema = schema();
+    if limits.levels == 1 {
+        schema.entities.iter_mut().for_each(|e| e.attrs.clear());
+        schema.actions.iter_mut().for_each(|a| a.attrs.clear());
+    }
+    let mut jobs = Jobs::on(&schema);
+    jobs.ask_all();
+    lengths::ask_all(&mut jobs, limits.bytes);
+    jobs.closed()
 }
 
 /// Every pair of types by every operation that takes two.

@@ -5,6 +5,7 @@ use crate::cedar_policy_core::{
     entities::{AttributeType as CoreAttributeType, SchemaType},
     extensions::{ExtensionFunction, Extensions},
 };
+use crate::limits::Limits;
 use crate::nonempty::NonEmpty;
 use crate::schema::{
     ValidatorActionId, ValidatorEntityType, ValidatorEntityTypeKind, ValidatorSchema,
@@ -13,9 +14,7 @@ use crate::smol_str::SmolStr;
 use crate::types::{AttributeType, Attributes, EntityLUB, EntityRecordKind, OpenTag, Type};
 use std::collections::{BTreeMap, HashSet};
 
-/// The limits of 01.
-pub const FORM_BYTES: usize = 4096;
-pub const LEVELS: usize = 16;
+/// The limits of 01 that no call changes.
 pub const BLOCK_BYTES: usize = 32768;
 pub const ENTITY_TYPES: usize = 256;
 pub const ACTIONS: usize = 256;
@@ -45,6 +44,11 @@ impl<'a> Bytes<'a> {
         Some(u16::from_le_bytes([b[0], b[1]]))
     }
 
+    pub fn u32(&mut self) -> Option<u32> {
+        let b = self.take(4)?;
+        Some(u32::from_le_bytes([b[0], b[1], b[2], b[3]]))
+    }
+
     /// A byte that must be 0 or 1.
     fn flag(&mut self) -> Option<bool> {
         match self.u8()? {
@@ -70,11 +74,11 @@ fn ascends<T: PartialOrd + Copy>(last: &mut Option<T>, next: T) -> Option<()> {
 }
 
 /// A whole type form.
-pub fn read_type(form: &[u8]) -> Option<Type> {
-    if form.len() > FORM_BYTES {
+pub fn read_type(limits: Limits, form: &[u8]) -> Option<Type> {
+    if form.len() > limits.bytes {
         return None;
     }
-    type_at(form, LEVELS)
+    type_at(form, limits.levels)
 }
 
 fn type_at(form: &[u8], levels: usize) -> Option<Type> {
@@ -136,18 +140,8 @@ fn read_entity(mut b: Bytes<'_>) -> Option<Type> {
     if names.is_empty() {
         return None;
     }
-    Some(Type::EntityOrRecord(EntityRecordKind::Entity(entity_lub(
-        &names,
-    ))))
-}
-
-/// The union of several names, by halves.
-pub fn entity_lub(names: &[EntityType]) -> EntityLUB {
-    if names.len() == 1 {
-        return EntityLUB::single_entity(names[0]);
-    }
-    let (a, b) = names.split_at(names.len() / 2);
-    entity_lub(a).least_upper_bound(&entity_lub(b))
+    let union = EntityLUB::of_names(names);
+    Some(Type::EntityOrRecord(EntityRecordKind::Entity(union)))
 }
 
 /// Count, entries and bodies of a record or an action that stands at `levels`.
@@ -169,11 +163,11 @@ fn read_attrs(mut b: Bytes<'_>, levels: usize) -> Option<Attributes> {
 }
 
 /// A whole value form.
-pub fn read_value(form: &[u8]) -> Option<RestrictedExpr> {
-    if form.len() > FORM_BYTES {
+pub fn read_value(limits: Limits, form: &[u8]) -> Option<RestrictedExpr> {
+    if form.len() > limits.bytes {
         return None;
     }
-    value_at(form, LEVELS)
+    value_at(form, limits.levels)
 }
 
 fn value_at(form: &[u8], levels: usize) -> Option<RestrictedExpr> {
@@ -238,7 +232,7 @@ fn read_pairs(mut b: Bytes<'_>, levels: usize) -> Option<RestrictedExpr> {
 }
 
 /// A whole list of types.
-pub fn read_list(form: &[u8]) -> Option<Vec<Type>> {
+pub fn read_list(limits: Limits, form: &[u8]) -> Option<Vec<Type>> {
     if form.len() > BLOCK_BYTES {
         return None;
     }
@@ -251,7 +245,7 @@ pub fn read_list(form: &[u8]) -> Option<Vec<Type>> {
     let mut types = Vec::with_capacity(n);
     for _ in 0..n {
         let length = lengths.u16()?;
-        types.push(read_type(b.take(length as usize)?)?);
+        types.push(read_type(limits, b.take(length as usize)?)?);
     }
     b.done()?;
     Some(types)
@@ -264,7 +258,7 @@ pub struct Schema {
     pub extensions: Extensions<'static>,
 }
 
-pub fn read_schema(form: &[u8]) -> Option<Schema> {
+pub fn read_schema(limits: Limits, form: &[u8]) -> Option<Schema> {
     if form.len() > BLOCK_BYTES {
         return None;
     }
@@ -276,8 +270,8 @@ pub fn read_schema(form: &[u8]) -> Option<Schema> {
     let entities = Bytes(b.take(5 * n)?);
     let actions = Bytes(b.take(6 * m)?);
     let functions = Bytes(b.take(7 * k)?);
-    let entities = read_entity_entries(n, entities, &mut b)?;
-    let actions = read_action_entries(m, actions, &mut b)?;
+    let entities = read_entity_entries(limits, n, entities, &mut b)?;
+    let actions = read_action_entries(limits, m, actions, &mut b)?;
     let functions = read_function_entries(k, functions, &mut b)?;
     b.done()?;
     Some(Schema {
@@ -286,8 +280,8 @@ pub fn read_schema(form: &[u8]) -> Option<Schema> {
     })
 }
 
-fn read_record(form: &[u8]) -> Option<(Attributes, OpenTag)> {
-    match read_type(form)? {
+fn read_record(limits: Limits, form: &[u8]) -> Option<(Attributes, OpenTag)> {
+    match read_type(limits, form)? {
         Type::EntityOrRecord(EntityRecordKind::Record {
             attrs,
             open_attributes,
@@ -297,6 +291,7 @@ fn read_record(form: &[u8]) -> Option<(Attributes, OpenTag)> {
 }
 
 fn read_entity_entries(
+    limits: Limits,
     n: usize,
     mut entries: Bytes<'_>,
     bodies: &mut Bytes<'_>,
@@ -308,7 +303,7 @@ fn read_entity_entries(
         ascends(&mut last, name)?;
         let enumerated = entries.flag()?;
         let length = entries.u16()? as usize;
-        let (attributes, open) = read_record(bodies.take(length)?)?;
+        let (attributes, open) = read_record(limits, bodies.take(length)?)?;
         if EntityType(name).is_action() || (enumerated && open.is_open()) {
             return None;
         }
@@ -338,6 +333,7 @@ fn entity_entry(
 }
 
 fn read_action_entries(
+    limits: Limits,
     n: usize,
     mut entries: Bytes<'_>,
     bodies: &mut Bytes<'_>,
@@ -348,7 +344,7 @@ fn read_action_entries(
         let (ty, eid) = (EntityType(entries.u16()?), entries.u16()?);
         ascends(&mut last, (ty.0, eid))?;
         let length = entries.u16()? as usize;
-        let (attributes, open) = read_record(bodies.take(length)?)?;
+        let (attributes, open) = read_record(limits, bodies.take(length)?)?;
         if !ty.is_action() || open.is_open() {
             return None;
         }

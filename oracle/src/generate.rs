@@ -1,15 +1,21 @@
 //! Jobs from a seed: related types, types around every limit, conforming and
-//! damaged values, damaged bytes.
+//! damaged values, damaged bytes. Questions under other limits than a job's are
+//! drawn from the same generators.
 
 mod asks;
 mod damage;
+mod drawn;
 mod schemas;
 mod sizes;
 mod types;
 mod unlike;
 mod values;
 
+use crate::limits::Limits;
 use crate::trees::{job_form, Ask};
+
+pub use drawn::Drawn;
+pub use sizes::{names, union_of_length};
 
 /// Numbers from a seed.
 #[derive(Clone)]
@@ -60,37 +66,52 @@ pub const ACTION_TYPES: &[u16] = &[1, 3, 5, 257, 65535];
 pub const EXTENSIONS: &[u16] = &[0, 7, 8, 300];
 pub const FUNCTIONS: &[u16] = &[0, 5, 6, 7, 600, 65535];
 
+/// A schema and questions on it.
+pub struct Asked {
+    pub schema: Vec<u8>,
+    pub asks: Vec<Ask>,
+}
+
+impl Asked {
+    fn job(&self) -> Vec<u8> {
+        job_form(&self.schema, &self.asks)
+    }
+}
+
 /// What a generator draws from.
 pub struct Gen {
     pub rng: Rng,
+    /// Sizes and levels are drawn around these.
+    limits: Limits,
 }
 
 impl Gen {
     pub fn new(seed: u64) -> Gen {
         Gen {
             rng: Rng::new(seed),
+            limits: Limits::STANDARD,
         }
     }
 
     /// The next job.
     pub fn job(&mut self) -> Vec<u8> {
         match self.rng.below(1000) {
-            0..=6 => self.job_of_counts(),
-            7..=26 => self.job_of_sizes(),
-            27..=56 => self.job_swept(),
+            0..=6 => self.counted().job(),
+            7..=26 => self.sized().job(),
+            27..=56 => self.swept().job(),
             57..=96 => {
-                let job = self.job_of_asks();
+                let job = self.small().job();
                 self.damaged(&job)
             }
             97..=98 => self.job_around_its_size(),
             99 => self.job_of_many(),
             100..=114 => self.job_with_untaken_field(),
-            _ => self.job_of_asks(),
+            _ => self.small().job(),
         }
     }
 
-    /// A job of small questions on one schema.
-    fn job_of_asks(&mut self) -> Vec<u8> {
+    /// Small questions on one schema.
+    fn small(&mut self) -> Asked {
         let (tree, schema) = self.job_schema();
         let bad_schema = schema != tree.form();
         let count = *self.rng.pick(&[0, 1, 2, 5, 10, 15, 20, 25, 30]);
@@ -104,7 +125,7 @@ impl Gen {
             }
             asks.push(ask);
         }
-        job_form(&schema, &asks)
+        Asked { schema, asks }
     }
 
     /// A schema, in some cases with its bytes damaged.

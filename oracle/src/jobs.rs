@@ -1,7 +1,9 @@
 //! A job and its lines.
 
 use crate::forms::Bytes;
+use crate::limits::Limits;
 use crate::questions::{answer_with, operation::*, Call, Outcome, SchemaCache};
+use crate::trees::Ask;
 
 pub const JOB_BYTES: usize = 32768;
 pub const WORKSPACE: usize = 8192;
@@ -69,9 +71,20 @@ pub fn read_job(input: &[u8]) -> Option<Job<'_>> {
 }
 
 impl<'a> Question<'a> {
+    pub fn owned(&self) -> Ask {
+        Ask {
+            op: self.op,
+            mode: self.mode,
+            attr: self.attr,
+            t0: self.t0.to_vec(),
+            t1: self.t1.to_vec(),
+        }
+    }
+
     /// The call that the program makes.
     pub fn call(&self, schema: &'a [u8]) -> Call<'a> {
         Call {
+            limits: Limits::STANDARD,
             op: self.op,
             mode: self.mode,
             attr: self.attr,
@@ -87,10 +100,10 @@ impl<'a> Question<'a> {
 impl Job<'_> {
     /// The outcomes of all questions.
     pub fn outcomes(&self) -> Vec<Outcome> {
-        let mut schema = SchemaCache::of(self.schema);
+        let schema = SchemaCache::of(Limits::STANDARD, self.schema);
         self.questions
             .iter()
-            .map(|q| answer_with(&q.call(self.schema), &mut schema))
+            .map(|q| answer_with(&q.call(self.schema), &schema))
             .collect()
     }
 }
@@ -149,8 +162,7 @@ pub fn batch(bytes: &[u8]) -> Result<Vec<&[u8]>, String> {
     let mut jobs = Vec::new();
     while !b.0.is_empty() {
         let at = bytes.len() - b.0.len();
-        let length = b.take(4).ok_or(format!("length cut off at byte {at}"))?;
-        let length = u32::from_le_bytes([length[0], length[1], length[2], length[3]]);
+        let length = b.u32().ok_or(format!("length cut off at byte {at}"))?;
         let job = b.take(length as usize);
         jobs.push(job.ok_or(format!("job cut off at byte {at}"))?);
     }

@@ -16,6 +16,15 @@ pub mod smol_str;
 #[allow(dead_code)]
 pub mod types {
     include!(concat!(env!("OUT_DIR"), "/types.rs"));
+
+    impl EntityLUB {
+        /// The union of names, at least one, that the bound of each with the
+        /// next gives.
+        pub fn of_names(names: impl IntoIterator<Item = EntityType>) -> EntityLUB {
+            let lub_elements = names.into_iter().collect();
+            EntityLUB { lub_elements }
+        }
+    }
 }
 
 #[allow(dead_code)]
@@ -43,13 +52,16 @@ pub mod validation_errors {
 include!(concat!(env!("OUT_DIR"), "/validation_mode.rs"));
 
 pub mod arguments;
+pub mod candidates;
 pub mod coverage;
+pub mod deep;
 pub mod exhaustive;
 pub mod forms;
 pub mod generate;
 pub mod harness;
 pub mod jobs;
 pub mod library;
+pub mod limits;
 pub mod loose;
 pub mod model;
 pub mod noted;
@@ -58,5 +70,6 @@ pub mod properties;
 pub mod published;
 pub mod questions;
 pub mod rooms;
+pub mod rounds;
 pub mod sample;
 pub mod trees;

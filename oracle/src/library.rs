@@ -3,35 +3,36 @@
 //! whose rest is the refusal, how many bytes were written, or where a part
 //! starts and ends.
 
-use crate::harness::{Candidate, Reply};
+use crate::candidates::{Candidate, Reply};
+use crate::limits::Limits;
 use crate::questions::{operation::*, Call, Part};
 
 pub type P = *const u8;
 pub type M = *mut u8;
 
-/// The entries that check the schema in every call.
+/// The entries that check the schema in every call. Each takes the limits
+/// first, levels and then bytes.
 #[derive(Clone, Copy)]
+#[rustfmt::skip]
 pub struct Entries {
-    pub is_subtype: unsafe extern "C" fn(u8, P, usize, P, usize, P, usize) -> u64,
-    pub least_upper_bound: unsafe extern "C" fn(u8, P, usize, P, usize, P, usize, M, usize) -> u64,
-    pub are_types_disjoint: unsafe extern "C" fn(P, usize, P, usize) -> u64,
-    pub lookup_attribute_type:
-        unsafe extern "C" fn(P, usize, u16, P, usize, M, usize, M, usize) -> u64,
-    pub own_attribute_type: unsafe extern "C" fn(P, usize, u16, P, usize) -> u64,
-    pub may_have_attr: unsafe extern "C" fn(P, usize, u16, P, usize) -> u64,
-    pub all_attributes: unsafe extern "C" fn(P, usize, P, usize, M, usize, M, usize) -> u64,
-    pub is_consistent_with: unsafe extern "C" fn(P, usize, P, usize) -> u64,
-    pub convert: unsafe extern "C" fn(P, usize, M, usize) -> u64,
-    pub typecheck_restricted_expr: unsafe extern "C" fn(P, usize, P, usize, P, usize) -> u64,
-    pub reduce_to_least_upper_bound:
-        unsafe extern "C" fn(u8, P, usize, P, usize, M, usize, M, usize) -> u64,
-    pub euid_literal: unsafe extern "C" fn(P, usize, P, usize, M, usize) -> u64,
+    pub is_subtype: unsafe extern "C" fn(usize, usize, u8, P, usize, P, usize, P, usize) -> u64,
+    pub least_upper_bound: unsafe extern "C" fn(usize, usize, u8, P, usize, P, usize, P, usize, M, usize) -> u64,
+    pub are_types_disjoint: unsafe extern "C" fn(usize, usize, P, usize, P, usize) -> u64,
+    pub lookup_attribute_type: unsafe extern "C" fn(usize, usize, P, usize, u16, P, usize, M, usize, M, usize) -> u64,
+    pub own_attribute_type: unsafe extern "C" fn(usize, usize, P, usize, u16, P, usize) -> u64,
+    pub may_have_attr: unsafe extern "C" fn(usize, usize, P, usize, u16, P, usize) -> u64,
+    pub all_attributes: unsafe extern "C" fn(usize, usize, P, usize, P, usize, M, usize, M, usize) -> u64,
+    pub is_consistent_with: unsafe extern "C" fn(usize, usize, P, usize, P, usize) -> u64,
+    pub convert: unsafe extern "C" fn(usize, usize, P, usize, M, usize) -> u64,
+    pub typecheck_restricted_expr: unsafe extern "C" fn(usize, usize, P, usize, P, usize, P, usize) -> u64,
+    pub reduce_to_least_upper_bound: unsafe extern "C" fn(usize, usize, u8, P, usize, P, usize, M, usize, M, usize) -> u64,
+    pub euid_literal: unsafe extern "C" fn(usize, usize, P, usize, P, usize, M, usize) -> u64,
 }
 
-/// The check of a schema, and the entries that take its number.
+/// The check of a schema under limits, and the entries that take its number.
 #[derive(Clone, Copy)]
 pub struct Checked {
-    pub check_schema: unsafe extern "C" fn(P, usize) -> u64,
+    pub check_schema: unsafe extern "C" fn(usize, usize, P, usize) -> u64,
     pub is_subtype: unsafe extern "C" fn(P, usize, u64, u8, P, usize, P, usize) -> u64,
     pub least_upper_bound:
         unsafe extern "C" fn(P, usize, u64, u8, P, usize, P, usize, M, usize) -> u64,
@@ -90,39 +91,45 @@ fn part(number: u64) -> Part {
 impl Candidate for Library {
     fn call(&mut self, call: &Call<'_>, out: &mut [u8], work: &mut [u8]) -> Reply {
         let e = &self.0;
+        let (l, n) = (call.limits.levels, call.limits.bytes);
         let (mode, attr) = (call.mode, call.attr);
         let [(s, sn), (a, an), (b, bn)] = [call.schema, call.t0, call.t1].map(form);
         let [(o, on), (w, wn)] = [out, work].map(lent);
         // Each pointer stands with the length of its slice.
         reply(unsafe {
             match call.op {
-                SUBTYPE => (e.is_subtype)(mode, s, sn, a, an, b, bn),
-                BOUND => (e.least_upper_bound)(mode, s, sn, a, an, b, bn, o, on),
-                DISJOINT => (e.are_types_disjoint)(a, an, b, bn),
-                LOOKUP => (e.lookup_attribute_type)(s, sn, attr, a, an, o, on, w, wn),
-                MAY_HAVE => (e.may_have_attr)(s, sn, attr, a, an),
-                NAMES => (e.all_attributes)(s, sn, a, an, o, on, w, wn),
-                CONSISTENT => (e.is_consistent_with)(a, an, b, bn),
-                CONVERT => (e.convert)(a, an, o, on),
-                CONFORMS => (e.typecheck_restricted_expr)(s, sn, a, an, b, bn),
-                FOLD => (e.reduce_to_least_upper_bound)(mode, s, sn, a, an, o, on, w, wn),
-                _ => (e.euid_literal)(s, sn, a, an, o, on),
+                SUBTYPE => (e.is_subtype)(l, n, mode, s, sn, a, an, b, bn),
+                BOUND => (e.least_upper_bound)(l, n, mode, s, sn, a, an, b, bn, o, on),
+                DISJOINT => (e.are_types_disjoint)(l, n, a, an, b, bn),
+                LOOKUP => (e.lookup_attribute_type)(l, n, s, sn, attr, a, an, o, on, w, wn),
+                MAY_HAVE => (e.may_have_attr)(l, n, s, sn, attr, a, an),
+                NAMES => (e.all_attributes)(l, n, s, sn, a, an, o, on, w, wn),
+                CONSISTENT => (e.is_consistent_with)(l, n, a, an, b, bn),
+                CONVERT => (e.convert)(l, n, a, an, o, on),
+                CONFORMS => (e.typecheck_restricted_expr)(l, n, s, sn, a, an, b, bn),
+                FOLD => (e.reduce_to_least_upper_bound)(l, n, mode, s, sn, a, an, o, on, w, wn),
+                _ => (e.euid_literal)(l, n, s, sn, a, an, o, on),
             }
         })
     }
 
-    fn part(&mut self, schema: &[u8], t: &[u8], attr: u16) -> Option<Part> {
+    fn part(&mut self, call: &Call<'_>) -> Option<Part> {
         let entry = self.0.own_attribute_type;
-        let [(s, sn), (t, tn)] = [schema, t].map(form);
-        Some(part(unsafe { entry(s, sn, attr, t, tn) }))
+        let Limits { levels, bytes } = call.limits;
+        let [(s, sn), (t, tn)] = [call.schema, call.t0].map(form);
+        Some(part(unsafe {
+            entry(levels, bytes, s, sn, call.attr, t, tn)
+        }))
     }
 }
 
 impl CheckedLibrary {
-    /// The number of a schema.
-    pub fn check(&self, schema: &[u8]) -> u64 {
+    /// The number of a schema under limits.
+    pub fn check(&self, limits: Limits, schema: &[u8]) -> u64 {
+        let Limits { levels, bytes } = limits;
+        let (s, sn) = form(schema);
         // The pointer stands with the length of its slice.
-        unsafe { (self.1.check_schema)(schema.as_ptr(), schema.len()) }
+        unsafe { (self.1.check_schema)(levels, bytes, s, sn) }
     }
 
     /// One entry, with the number of the call's schema.
@@ -150,20 +157,22 @@ impl CheckedLibrary {
     }
 
     /// The second entry of lookup, with the number of the schema.
-    pub fn part_with(&self, c: u64, schema: &[u8], t: &[u8], attr: u16) -> Part {
+    pub fn part_with(&self, c: u64, call: &Call<'_>) -> Part {
         let entry = self.1.own_attribute_type;
-        let [(s, sn), (t, tn)] = [schema, t].map(form);
-        part(unsafe { entry(s, sn, c, attr, t, tn) })
+        let [(s, sn), (t, tn)] = [call.schema, call.t0].map(form);
+        part(unsafe { entry(s, sn, c, call.attr, t, tn) })
     }
 }
 
 impl Candidate for CheckedLibrary {
     fn call(&mut self, call: &Call<'_>, out: &mut [u8], work: &mut [u8]) -> Reply {
-        self.call_with(self.check(call.schema), call, out, work)
+        let check = self.check(call.limits, call.schema);
+        self.call_with(check, call, out, work)
     }
 
-    fn part(&mut self, schema: &[u8], t: &[u8], attr: u16) -> Option<Part> {
-        Some(self.part_with(self.check(schema), schema, t, attr))
+    fn part(&mut self, call: &Call<'_>) -> Option<Part> {
+        let check = self.check(call.limits, call.schema);
+        Some(self.part_with(check, call))
     }
 }
 
@@ -174,19 +183,19 @@ pub mod linked {
 
     #[rustfmt::skip]
     extern "C" {
-        fn tirncheav_is_subtype(m: u8, s: P, sn: usize, a: P, an: usize, b: P, bn: usize) -> u64;
-        fn tirncheav_least_upper_bound(m: u8, s: P, sn: usize, a: P, an: usize, b: P, bn: usize, o: M, on: usize) -> u64;
-        fn tirncheav_are_types_disjoint(a: P, an: usize, b: P, bn: usize) -> u64;
-        fn tirncheav_lookup_attribute_type(s: P, sn: usize, n: u16, a: P, an: usize, o: M, on: usize, w: M, wn: usize) -> u64;
-        fn tirncheav_own_attribute_type(s: P, sn: usize, n: u16, a: P, an: usize) -> u64;
-        fn tirncheav_may_have_attr(s: P, sn: usize, n: u16, a: P, an: usize) -> u64;
-        fn tirncheav_all_attributes(s: P, sn: usize, a: P, an: usize, o: M, on: usize, w: M, wn: usize) -> u64;
-        fn tirncheav_is_consistent_with(a: P, an: usize, b: P, bn: usize) -> u64;
-        fn tirncheav_convert(a: P, an: usize, o: M, on: usize) -> u64;
-        fn tirncheav_typecheck_restricted_expr(s: P, sn: usize, a: P, an: usize, b: P, bn: usize) -> u64;
-        fn tirncheav_reduce_to_least_upper_bound(m: u8, s: P, sn: usize, a: P, an: usize, o: M, on: usize, w: M, wn: usize) -> u64;
-        fn tirncheav_euid_literal(s: P, sn: usize, a: P, an: usize, o: M, on: usize) -> u64;
-        fn tirncheav_check_schema(s: P, sn: usize) -> u64;
+        fn tirncheav_is_subtype(l: usize, n: usize, m: u8, s: P, sn: usize, a: P, an: usize, b: P, bn: usize) -> u64;
+        fn tirncheav_least_upper_bound(l: usize, n: usize, m: u8, s: P, sn: usize, a: P, an: usize, b: P, bn: usize, o: M, on: usize) -> u64;
+        fn tirncheav_are_types_disjoint(l: usize, n: usize, a: P, an: usize, b: P, bn: usize) -> u64;
+        fn tirncheav_lookup_attribute_type(l: usize, n: usize, s: P, sn: usize, i: u16, a: P, an: usize, o: M, on: usize, w: M, wn: usize) -> u64;
+        fn tirncheav_own_attribute_type(l: usize, n: usize, s: P, sn: usize, i: u16, a: P, an: usize) -> u64;
+        fn tirncheav_may_have_attr(l: usize, n: usize, s: P, sn: usize, i: u16, a: P, an: usize) -> u64;
+        fn tirncheav_all_attributes(l: usize, n: usize, s: P, sn: usize, a: P, an: usize, o: M, on: usize, w: M, wn: usize) -> u64;
+        fn tirncheav_is_consistent_with(l: usize, n: usize, a: P, an: usize, b: P, bn: usize) -> u64;
+        fn tirncheav_convert(l: usize, n: usize, a: P, an: usize, o: M, on: usize) -> u64;
+        fn tirncheav_typecheck_restricted_expr(l: usize, n: usize, s: P, sn: usize, a: P, an: usize, b: P, bn: usize) -> u64;
+        fn tirncheav_reduce_to_least_upper_bound(l: usize, n: usize, m: u8, s: P, sn: usize, a: P, an: usize, o: M, on: usize, w: M, wn: usize) -> u64;
+        fn tirncheav_euid_literal(l: usize, n: usize, s: P, sn: usize, a: P, an: usize, o: M, on: usize) -> u64;
+        fn tirncheav_check_schema(l: usize, n: usize, s: P, sn: usize) -> u64;
         fn tirncheav_is_subtype_checked(s: P, sn: usize, c: u64, m: u8, a: P, an: usize, b: P, bn: usize) -> u64;
         fn tirncheav_least_upper_bound_checked(s: P, sn: usize, c: u64, m: u8, a: P, an: usize, b: P, bn: usize, o: M, on: usize) -> u64;
         fn tirncheav_lookup_attribute_type_checked(s: P, sn: usize, c: u64, n: u16, a: P, an: usize, o: M, on: usize, w: M, wn: usize) -> u64;

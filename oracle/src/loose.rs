@@ -3,6 +3,7 @@
 //! the same another way.
 
 use crate::forms::{read_type, write_type, Schema};
+use crate::limits::Limits;
 use crate::model::{Mode, Rules};
 use crate::questions::reason;
 use crate::trees::{Attr, Ty};
@@ -12,11 +13,15 @@ use crate::ValidationMode::Permissive;
 /// The number of the mode.
 pub const LOOSE: u8 = 2;
 
+/// Forms come here that were found whole under some limits.
+const WIDEST: Limits = Limits::LARGEST;
+
 /// A bound's form, of any length, or the reason why there is none.
 pub type Formed = Result<Vec<u8>, u8>;
 
 fn tree(form: &[u8]) -> Ty {
-    Rules::SOUND.whole_type(form).expect("a whole type")
+    let ty = Rules::SOUND.whole_type(WIDEST, form);
+    ty.expect("a whole type")
 }
 
 pub fn is_subtype(a: &[u8], b: &[u8]) -> bool {
@@ -30,7 +35,8 @@ pub fn bound(a: &[u8], b: &[u8]) -> Formed {
 
 /// The fold, where no step is measured.
 pub fn fold(list: &[u8]) -> Formed {
-    let types = Rules::SOUND.whole_list(list).expect("a whole list");
+    let types = Rules::SOUND.whole_list(WIDEST, list);
+    let types = types.expect("a whole list");
     let bound = Rules::SOUND.fold(Mode::Loose, &types, usize::MAX)?;
     Ok(bound.form())
 }
@@ -44,7 +50,7 @@ pub fn bound_by_published(schema: &Schema, a: &[u8], b: &[u8]) -> Formed {
 
 /// The published permissive bound.
 pub fn permissive(schema: &Schema, a: &Ty, b: &Ty) -> Formed {
-    let [a, b] = [a, b].map(|t| read_type(&t.form()).expect("a whole type"));
+    let [a, b] = [a, b].map(|t| read_type(WIDEST, &t.form()).expect("a whole type"));
     let bound = Type::least_upper_bound(&schema.types, &a, &b, Permissive);
     bound.map(|t| write_type(&t)).map_err(reason)
 }

@@ -8,12 +8,14 @@ mod conformance;
 mod conversions;
 pub mod faults;
 mod jobs;
+mod kept;
+mod limits;
 mod modes;
 mod read;
 mod relations;
 
-pub use calls::part;
 pub use jobs::lines;
+pub use kept::Kept;
 pub use modes::Mode;
 
 /// The rules, with at most one fault on; fault 0 is none.

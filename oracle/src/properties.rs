@@ -1,12 +1,16 @@
-//! Claims about the published functions, and about mode 2 beside them, tried on
-//! generated types and values.
+//! Claims about the published functions, about mode 2 beside them, and about
+//! limits, tried on generated types and values.
 
+mod limits;
 mod loose;
+
+pub use limits::try_limits;
 
 use crate::cedar_policy_core::entities::SchemaType;
 use crate::cedar_policy_core::extensions::Extensions;
 use crate::forms::{plain, read_schema, read_type, read_value, write_core, write_type, Schema};
 use crate::generate::{Gen, ATTRS};
+use crate::limits::Limits;
 use crate::smol_str::SmolStr;
 use crate::trees::{Attr, Sch, Ty, Val};
 use crate::types::Type;
@@ -44,6 +48,9 @@ impl Tallies {
     }
 }
 
+/// The claims that are not about limits are tried under these.
+const STANDARD: Limits = Limits::STANDARD;
+
 /// A tree with what the Rust makes of its form.
 struct Given {
     tree: Ty,
@@ -53,7 +60,7 @@ struct Given {
 
 fn given(tree: Ty) -> Option<Given> {
     let form = tree.form();
-    let ty = read_type(&form)?;
+    let ty = read_type(STANDARD, &form)?;
     Some(Given { tree, form, ty })
 }
 
@@ -92,11 +99,11 @@ fn actions_alike(types: &[&Given]) -> bool {
     types.iter().all(|t| one_list_a_name(&t.tree, &mut lists))
 }
 
-/// Try all claims once.
+/// Try all claims but those about limits once.
 pub fn try_claims(gen: &mut Gen, tallies: &mut Tallies) {
     let tree = gen.schema();
     let form = tree.form();
-    let Some(schema) = read_schema(&form) else {
+    let Some(schema) = read_schema(STANDARD, &form) else {
         return;
     };
     let (a, b) = gen.pair();
@@ -153,7 +160,7 @@ fn bounds(tallies: &mut Tallies, schema: &Schema, mode: ValidationMode, a: &Give
         form.len() <= sum,
         &forms,
     );
-    let whole = read_type(&form).is_some() || form.len() > 4096;
+    let whole = read_type(STANDARD, &form).is_some() || form.len() > STANDARD.bytes;
     tallies.claim("a bound is whole but for its length", whole, &forms);
     let above = [a, b]
         .iter()
@@ -226,7 +233,7 @@ fn across_modes(tallies: &mut Tallies, schema: &Schema, a: &Given, b: &Given) {
 }
 
 fn conforms(schema: &Schema, ty: &Type, value: &Val) -> Option<bool> {
-    let value = read_value(&value.form())?;
+    let value = read_value(STANDARD, &value.form())?;
     let extensions: &Extensions<'_> = &schema.extensions;
     ty.typecheck_restricted_expr(value.as_borrowed(), extensions)
         .ok()
@@ -266,7 +273,7 @@ fn conversions(tallies: &mut Tallies, schema: &Schema, types: [&Given; 2], value
             consistent,
             &[&a.form],
         );
-        let Some(converted) = read_type(&write_core(&core)) else {
+        let Some(converted) = read_type(STANDARD, &write_core(&core)) else {
             return;
         };
         let again = SchemaType::try_from(converted.clone()).as_ref() == Ok(&core);

@@ -1,17 +1,21 @@
-//! One call: 01's questions in 01's order, put to the published functions; in
-//! mode 2 the rule itself is the model's.
+//! One call: 01's questions in 01's order, put to the published functions. In
+//! mode 2 the rule itself is the model's, and types too deep for a published
+//! function are the model's too.
 
 use crate::cedar_policy_core::ast::{EntityUID, RestrictedExpr};
 use crate::cedar_policy_core::entities::SchemaType;
+use crate::deep;
 use crate::forms::{
     plain, read_list, read_schema, read_type, read_value, write_core, write_type, Schema,
-    FORM_BYTES,
 };
+use crate::limits::Limits;
 use crate::loose;
+use crate::model::Rules;
 use crate::smol_str::SmolStr;
 use crate::types::{AttributeType, EntityLUB, EntityRecordKind, Type};
 use crate::validation_errors::LubHelp;
 use crate::ValidationMode;
+use std::cell::{Cell, OnceCell};
 
 /// The operations of a job.
 pub mod operation {
@@ -33,6 +37,7 @@ use operation::*;
 /// What a call is asked with.
 #[derive(Clone, Copy, Debug)]
 pub struct Call<'a> {
+    pub limits: Limits,
     pub op: u8,
     pub mode: u8,
     pub attr: u16,
@@ -72,29 +77,45 @@ type Refusable<T> = Result<T, u8>;
 
 /// Answer one call from its bytes.
 pub fn answer(call: &Call<'_>) -> Outcome {
-    answer_with(call, &mut SchemaCache::of(call.schema))
+    answer_with(call, &SchemaCache::of(call.limits, call.schema))
 }
 
-/// The schema of a job, read when a call first asks for it.
+/// A schema under some limits, read when a call first asks for it.
 pub struct SchemaCache<'a> {
-    form: &'a [u8],
-    read: Option<Option<Schema>>,
+    pub limits: Limits,
+    pub form: &'a [u8],
+    read: OnceCell<Option<Schema>>,
+    /// How many calls were the model's alone: see `deep`.
+    pub left_out: Cell<u64>,
 }
 
 impl<'a> SchemaCache<'a> {
-    pub fn of(form: &'a [u8]) -> SchemaCache<'a> {
-        SchemaCache { form, read: None }
+    pub fn of(limits: Limits, form: &'a [u8]) -> SchemaCache<'a> {
+        SchemaCache {
+            limits,
+            form,
+            read: OnceCell::new(),
+            left_out: Cell::new(0),
+        }
     }
 
-    fn whole(&mut self) -> Refusable<&Schema> {
-        let form = self.form;
-        let read = self.read.get_or_insert_with(|| read_schema(form));
-        read.as_ref().ok_or(2)
+    fn whole(&self) -> Refusable<&Schema> {
+        let read = || read_schema(self.limits, self.form);
+        self.read.get_or_init(read).as_ref().ok_or(2)
+    }
+
+    /// The model's answer to a call that is too deep.
+    fn left_out(&self, call: &Call<'_>) -> Outcome {
+        self.left_out.set(self.left_out.get() + 1);
+        Rules::SOUND.answer(call)
     }
 }
 
-/// Answer one call whose schema may have been read before.
-pub fn answer_with(call: &Call<'_>, schema: &mut SchemaCache<'_>) -> Outcome {
+/// Answer one call whose schema may have been read before, under its limits.
+pub fn answer_with(call: &Call<'_>, schema: &SchemaCache<'_>) -> Outcome {
+    if !call.limits.allowed() {
+        return Outcome::Refused(20);
+    }
     let outcome = match call.op {
         SUBTYPE => subtype(call, schema),
         BOUND => bound(call, schema),
@@ -102,7 +123,7 @@ pub fn answer_with(call: &Call<'_>, schema: &mut SchemaCache<'_>) -> Outcome {
         LOOKUP => lookup(call, schema),
         MAY_HAVE => may_have(call, schema),
         NAMES => names(call, schema),
-        CONSISTENT => consistent(call),
+        CONSISTENT => consistent(call, schema),
         CONVERT => convert(call),
         CONFORMS => conforms(call, schema),
         FOLD => fold(call, schema),
@@ -127,12 +148,19 @@ fn judge(call: &Call<'_>) -> Refusable<Judge> {
     }
 }
 
+impl Judge {
+    /// May the rule walk a type again?
+    fn permits(&self) -> bool {
+        !matches!(self, Judge::Published(ValidationMode::Strict))
+    }
+}
+
 fn first(call: &Call<'_>) -> Refusable<Type> {
-    read_type(call.t0).ok_or(3)
+    read_type(call.limits, call.t0).ok_or(3)
 }
 
 fn second(call: &Call<'_>) -> Refusable<Type> {
-    read_type(call.t1).ok_or(4)
+    read_type(call.limits, call.t1).ok_or(4)
 }
 
 fn yes(answer: bool) -> Outcome {
@@ -160,7 +188,7 @@ fn written(bound: Result<Type, LubHelp>) -> Refusable<Vec<u8>> {
 
 /// The last question of every call that writes.
 fn fits(call: &Call<'_>, form: Vec<u8>) -> Refusable<Vec<u8>> {
-    if form.len() > call.room.min(FORM_BYTES) {
+    if form.len() > call.room.min(call.limits.bytes) {
         return Err(10);
     }
     Ok(form)
@@ -168,16 +196,19 @@ fn fits(call: &Call<'_>, form: Vec<u8>) -> Refusable<Vec<u8>> {
 
 /// The question about the size of one step.
 fn step_fits(call: &Call<'_>, form: &[u8]) -> Refusable<()> {
-    if form.len() > (call.work / 2).min(FORM_BYTES) {
+    if form.len() > (call.work / 2).min(call.limits.bytes) {
         return Err(9);
     }
     Ok(())
 }
 
-fn subtype(call: &Call<'_>, schema: &mut SchemaCache<'_>) -> Refusable<Outcome> {
+fn subtype(call: &Call<'_>, cache: &SchemaCache<'_>) -> Refusable<Outcome> {
     let judge = judge(call)?;
-    let schema = schema.whole()?;
+    let schema = cache.whole()?;
     let (t0, t1) = (first(call)?, second(call)?);
+    if judge.permits() && deep::subtype(&t0, &t1) {
+        return Ok(cache.left_out(call));
+    }
     Ok(yes(match judge {
         Judge::Published(mode) => Type::is_subtype(&schema.types, &t0, &t1, mode),
         Judge::Model => {
@@ -190,10 +221,13 @@ fn subtype(call: &Call<'_>, schema: &mut SchemaCache<'_>) -> Refusable<Outcome> 
     }))
 }
 
-fn bound(call: &Call<'_>, schema: &mut SchemaCache<'_>) -> Refusable<Outcome> {
+fn bound(call: &Call<'_>, cache: &SchemaCache<'_>) -> Refusable<Outcome> {
     let judge = judge(call)?;
-    let schema = schema.whole()?;
+    let schema = cache.whole()?;
     let (t0, t1) = (first(call)?, second(call)?);
+    if judge.permits() && deep::bound(&t0, &t1) {
+        return Ok(cache.left_out(call));
+    }
     let form = match judge {
         Judge::Published(mode) => written(Type::least_upper_bound(&schema.types, &t0, &t1, mode))?,
         Judge::Model => bound_loosely(schema, call.t0, call.t1)?,
@@ -214,10 +248,13 @@ fn disjoint(call: &Call<'_>) -> Refusable<Outcome> {
     Ok(yes(Type::are_types_disjoint(&t0, &t1)))
 }
 
-fn fold(call: &Call<'_>, schema: &mut SchemaCache<'_>) -> Refusable<Outcome> {
+fn fold(call: &Call<'_>, cache: &SchemaCache<'_>) -> Refusable<Outcome> {
     let judge = judge(call)?;
-    let schema = schema.whole()?;
-    let types = read_list(call.t0).ok_or(3)?;
+    let schema = cache.whole()?;
+    let types = read_list(call.limits, call.t0).ok_or(3)?;
+    if judge.permits() && deep::fold(types.iter()) {
+        return Ok(cache.left_out(call));
+    }
     let form = match judge {
         Judge::Published(mode) => folded(call, schema, mode, &types)?,
         Judge::Model => folded_loosely(call, schema, &types)?,
@@ -263,6 +300,13 @@ fn entity_names(ty: &Type) -> Option<&EntityLUB> {
     }
 }
 
+/// Are the attributes of an entity's types too deep to be folded?
+fn deep_attributes(schema: &Schema, lub: &EntityLUB) -> bool {
+    let entries = lub.iter().filter_map(|n| schema.types.get_entity_type(n));
+    let attrs = entries.flat_map(|e| e.attributes().iter());
+    deep::fold(attrs.map(|(_, attr)| &attr.attr_type))
+}
+
 /// One attribute over the types of an entity: each step's size is asked until
 /// the attribute is absent or has no bound.
 fn attribute_steps(call: &Call<'_>, schema: &Schema, lub: &EntityLUB, attr: &str) -> Refusable<()> {
@@ -289,11 +333,14 @@ fn attribute_steps(call: &Call<'_>, schema: &Schema, lub: &EntityLUB, attr: &str
     Ok(())
 }
 
-fn lookup(call: &Call<'_>, schema: &mut SchemaCache<'_>) -> Refusable<Outcome> {
-    let schema = schema.whole()?;
+fn lookup(call: &Call<'_>, cache: &SchemaCache<'_>) -> Refusable<Outcome> {
+    let schema = cache.whole()?;
     let ty = first(call)?;
     let attr = SmolStr::from_number(call.attr);
     if let Some(lub) = entity_names(&ty) {
+        if deep_attributes(schema, lub) {
+            return Ok(cache.left_out(call));
+        }
         attribute_steps(call, schema, lub, &attr)?;
     }
     match Type::lookup_attribute_type(&schema.types, &ty, &attr) {
@@ -308,17 +355,20 @@ fn lookup(call: &Call<'_>, schema: &mut SchemaCache<'_>) -> Refusable<Outcome> {
     }
 }
 
-fn may_have(call: &Call<'_>, schema: &mut SchemaCache<'_>) -> Refusable<Outcome> {
-    let schema = schema.whole()?;
+fn may_have(call: &Call<'_>, cache: &SchemaCache<'_>) -> Refusable<Outcome> {
+    let schema = cache.whole()?;
     let ty = first(call)?;
     let attr = SmolStr::from_number(call.attr);
     Ok(yes(Type::may_have_attr(&schema.types, &ty, &attr)))
 }
 
-fn names(call: &Call<'_>, schema: &mut SchemaCache<'_>) -> Refusable<Outcome> {
-    let schema = schema.whole()?;
+fn names(call: &Call<'_>, cache: &SchemaCache<'_>) -> Refusable<Outcome> {
+    let schema = cache.whole()?;
     let ty = first(call)?;
     if let Some(lub) = entity_names(&ty) {
+        if deep_attributes(schema, lub) {
+            return Ok(cache.left_out(call));
+        }
         let entry = lub
             .iter()
             .next()
@@ -332,9 +382,12 @@ fn names(call: &Call<'_>, schema: &mut SchemaCache<'_>) -> Refusable<Outcome> {
     Ok(Outcome::Wrote(fits(call, form.collect())?))
 }
 
-fn consistent(call: &Call<'_>) -> Refusable<Outcome> {
+fn consistent(call: &Call<'_>, cache: &SchemaCache<'_>) -> Refusable<Outcome> {
     let (t0, t1) = (first(call)?, second(call)?);
     let core = plain(&t1).ok_or(6)?;
+    if deep::consistency(&t0, &t1) {
+        return Ok(cache.left_out(call));
+    }
     Ok(yes(t0.is_consistent_with(&core)))
 }
 
@@ -343,24 +396,24 @@ fn convert(call: &Call<'_>) -> Refusable<Outcome> {
     Ok(Outcome::Wrote(fits(call, write_core(&core))?))
 }
 
-fn conforms(call: &Call<'_>, schema: &mut SchemaCache<'_>) -> Refusable<Outcome> {
-    let schema = schema.whole()?;
+fn conforms(call: &Call<'_>, cache: &SchemaCache<'_>) -> Refusable<Outcome> {
+    let schema = cache.whole()?;
     let ty = first(call)?;
-    let value = read_value(call.t1).ok_or(5)?;
+    let value = read_value(call.limits, call.t1).ok_or(5)?;
     let answer = ty.typecheck_restricted_expr(value.as_borrowed(), &schema.extensions);
     Ok(yes(answer.map_err(|_| 7)?))
 }
 
-fn uid(form: &[u8]) -> Option<EntityUID> {
-    match read_value(form)? {
+fn uid(limits: Limits, form: &[u8]) -> Option<EntityUID> {
+    match read_value(limits, form)? {
         RestrictedExpr::Euid(uid) => Some(uid),
         _ => None,
     }
 }
 
-fn literal(call: &Call<'_>, schema: &mut SchemaCache<'_>) -> Refusable<Outcome> {
-    let schema = schema.whole()?;
-    let uid = uid(call.t0).ok_or(5)?;
+fn literal(call: &Call<'_>, cache: &SchemaCache<'_>) -> Refusable<Outcome> {
+    let schema = cache.whole()?;
+    let uid = uid(call.limits, call.t0).ok_or(5)?;
     match Type::euid_literal(&uid, &schema.types) {
         None => Ok(Outcome::Nothing),
         Some(ty) => Ok(Outcome::Wrote(fits(call, write_type(&ty))?)),
@@ -368,14 +421,24 @@ fn literal(call: &Call<'_>, schema: &mut SchemaCache<'_>) -> Refusable<Outcome> 
 }
 
 /// The second entry of lookup.
-pub fn lookup_part(schema: &[u8], form: &[u8], attr: u16) -> Part {
-    if read_schema(schema).is_none() {
-        return Part::Refused(2);
+pub fn lookup_part(call: &Call<'_>) -> Part {
+    lookup_part_with(call, &SchemaCache::of(call.limits, call.schema))
+}
+
+/// The same, where the schema may have been read before.
+pub fn lookup_part_with(call: &Call<'_>, cache: &SchemaCache<'_>) -> Part {
+    if !call.limits.allowed() {
+        return Part::Refused(20);
     }
-    let Some(ty) = read_type(form) else {
-        return Part::Refused(3);
-    };
-    let (attrs, header) = match &ty {
+    match cache.whole().and_then(|_| first(call)) {
+        Ok(ty) => own_part(&ty, call.attr),
+        Err(number) => Part::Refused(number),
+    }
+}
+
+/// Where an attribute's body stands in the form of a type.
+fn own_part(ty: &Type, attr: u16) -> Part {
+    let (attrs, header) = match ty {
         Type::EntityOrRecord(EntityRecordKind::Record { attrs, .. }) => (attrs, 4),
         Type::EntityOrRecord(EntityRecordKind::ActionEntity { attrs, .. }) => (attrs, 5),
         _ => return Part::Nothing,
@@ -396,18 +459,18 @@ pub fn lookup_part(schema: &[u8], form: &[u8], attr: u16) -> Part {
 /// about sizes: no step and no answer is measured. None for other operations
 /// and for forms not whole.
 pub fn unmeasured(call: &Call<'_>) -> Option<Outcome> {
-    let schema = &read_schema(call.schema)?.types;
+    let schema = &read_schema(call.limits, call.schema)?.types;
     let attr = SmolStr::from_number(call.attr);
     Some(match call.op {
         BOUND => {
-            let (t0, t1) = (read_type(call.t0)?, read_type(call.t1)?);
+            let (t0, t1) = (first(call).ok()?, second(call).ok()?);
             unmeasured_form(match judge(call).ok()? {
                 Judge::Published(mode) => written(Type::least_upper_bound(schema, &t0, &t1, mode)),
                 Judge::Model => loose::bound(call.t0, call.t1),
             })
         }
         FOLD => {
-            let types = read_list(call.t0)?;
+            let types = read_list(call.limits, call.t0)?;
             unmeasured_form(match judge(call).ok()? {
                 Judge::Published(mode) => {
                     written(Type::reduce_to_least_upper_bound(schema, &types, mode))
@@ -415,12 +478,12 @@ pub fn unmeasured(call: &Call<'_>) -> Option<Outcome> {
                 Judge::Model => loose::fold(call.t0),
             })
         }
-        LOOKUP => match Type::lookup_attribute_type(schema, &read_type(call.t0)?, &attr) {
+        LOOKUP => match Type::lookup_attribute_type(schema, &first(call).ok()?, &attr) {
             None => Outcome::Nothing,
             Some(found) => Outcome::Attribute(found.is_required, write_type(&found.attr_type)),
         },
         NAMES => {
-            let names = read_type(call.t0)?.all_attributes(schema);
+            let names = first(call).ok()?.all_attributes(schema);
             Outcome::Wrote(
                 names
                     .iter()

@@ -2,11 +2,14 @@
 //! refusal or 0, answer, every byte of the result buffer and the workspace; for
 //! the second entry of lookup, where the part starts and ends, and its bytes.
 
+use crate::candidates::{leave, Candidate, Reply};
 use crate::forms::Bytes;
-use crate::harness::{Judged, UNTOUCHED};
+use crate::harness::{lent, Judged};
 use crate::jobs::read_job;
+use crate::limits::Limits;
 use crate::loose::LOOSE;
 use crate::questions::{lookup_part, operation::*, Call, Outcome, Part};
+use crate::rounds::Round;
 use std::fmt::Write;
 use std::ops::Range;
 
@@ -16,12 +19,15 @@ const OWN: u8 = 11;
 /// More would make long lines.
 const LARGEST: usize = 600;
 
-/// Calls in bytes, with the line of each, and how many are in mode 2.
+/// Calls in bytes, with the line of each, and how many are in mode 2, under
+/// other limits than the standard ones, and refused with 20.
 #[derive(Default)]
 pub struct Lent {
     pub input: Vec<u8>,
     pub lines: Vec<String>,
     pub loose: usize,
+    pub others: usize,
+    pub unallowed: usize,
 }
 
 fn bracketed(bytes: &[u8]) -> String {
@@ -33,74 +39,84 @@ fn bracketed(bytes: &[u8]) -> String {
     out
 }
 
-/// A result buffer after an answer.
-fn buffer(form: &[u8], room: usize) -> Vec<u8> {
-    let mut out = form.to_vec();
-    out.resize(room, UNTOUCHED);
-    out
+/// The line of a reply, and of what it left.
+fn line(reply: Reply, out: &[u8], work: &[u8]) -> String {
+    let said = match reply {
+        Reply::Refused(n) => format!("{n} -"),
+        Reply::Yes => "0 yes".into(),
+        Reply::No => "0 no".into(),
+        Reply::Nothing => "0 none".into(),
+        Reply::Wrote(n) => format!("0 {n}"),
+        Reply::Attribute(true, n) => format!("0 r:{n}"),
+        Reply::Attribute(false, n) => format!("0 o:{n}"),
+    };
+    said + &bracketed(out) + &bracketed(work)
 }
 
-fn line(call: &Call<'_>, outcome: &Outcome) -> String {
-    let (said, form): (String, &[u8]) = match outcome {
-        Outcome::Refused(n) => (format!("{n} -"), &[]),
-        Outcome::Yes => ("0 yes".into(), &[]),
-        Outcome::No => ("0 no".into(), &[]),
-        Outcome::Nothing => ("0 none".into(), &[]),
-        Outcome::Wrote(form) => (format!("0 {}", form.len()), form),
-        Outcome::Attribute(true, form) => (format!("0 r:{}", form.len()), form),
-        Outcome::Attribute(false, form) => (format!("0 o:{}", form.len()), form),
-    };
-    let after = match call.op {
-        LOOKUP | NAMES | FOLD => 0,
-        _ => UNTOUCHED,
-    };
-    said + &bracketed(&buffer(form, call.room)) + &bracketed(&vec![after; call.work])
+fn told_line(call: &Call<'_>, outcome: &Outcome) -> String {
+    let (mut out, mut work) = lent(call);
+    let reply = leave(call, outcome, &mut out, &mut work);
+    line(reply, &out, &work)
 }
 
-fn part_line(form: &[u8], part: Part) -> String {
+fn part_line(form: &[u8], part: &Part) -> String {
     match part {
         Part::Refused(n) => format!("{n} - []"),
         Part::Nothing => "0 none []".into(),
         Part::Attribute(required, at) => {
-            let flag = if required { 'r' } else { 'o' };
+            let flag = if *required { 'r' } else { 'o' };
             let Range { start, end } = at;
-            let bytes = bracketed(&form[start..end]);
+            let bytes = bracketed(&form[at.clone()]);
             format!("0 {flag}:{start}..{end}{bytes}")
         }
     }
 }
 
-/// The calls of the program's input, each with its line under an answer to
-/// calls and one to parts.
-pub fn lines(
-    input: &[u8],
-    answer: &dyn Fn(&Call<'_>) -> Outcome,
-    part: &dyn Fn(&[u8], &[u8], u16) -> Part,
-) -> Option<String> {
+/// The next call of the program's input: numbers, then bodies.
+fn read_call<'a>(b: &mut Bytes<'a>) -> Option<Call<'a>> {
+    let (op, mode, attr) = (b.u8()?, b.u8()?, b.u16()?);
+    let (room, work) = (b.u16()? as usize, b.u16()? as usize);
+    let (s, n0, n1) = (b.u16()? as usize, b.u16()? as usize, b.u16()? as usize);
+    let limits = Limits {
+        levels: b.u32()? as usize,
+        bytes: b.u32()? as usize,
+    };
+    let (schema, t0, t1) = (b.take(s)?, b.take(n0)?, b.take(n1)?);
+    Some(Call {
+        limits,
+        op,
+        mode,
+        attr,
+        schema,
+        t0,
+        t1,
+        room,
+        work,
+    })
+}
+
+/// The lines of the program's input, as a candidate answers its calls; none if
+/// a call is cut short.
+pub fn lines(input: &[u8], candidate: &mut dyn Candidate) -> Option<String> {
     let mut b = Bytes(input);
-    let mut out = String::new();
+    let mut lines = String::new();
     while !b.0.is_empty() {
-        let (op, mode, attr) = (b.u8()?, b.u8()?, b.u16()?);
-        let (room, work) = (b.u16()? as usize, b.u16()? as usize);
-        let (s, n0, n1) = (b.u16()? as usize, b.u16()? as usize, b.u16()? as usize);
-        let (schema, t0, t1) = (b.take(s)?, b.take(n0)?, b.take(n1)?);
-        let call = Call {
-            op,
-            mode,
-            attr,
-            schema,
-            t0,
-            t1,
-            room,
-            work,
+        let call = read_call(&mut b)?;
+        let (mut out, mut work) = lent(&call);
+        lines += &match call.op {
+            OWN => part_line(call.t0, &candidate.part(&call)?),
+            _ => line(candidate.call(&call, &mut out, &mut work), &out, &work),
         };
-        out += &match op {
-            OWN => part_line(t0, part(schema, t0, attr)),
-            _ => line(&call, &answer(&call)),
-        };
-        out.push('\n');
+        lines.push('\n');
     }
-    Some(out)
+    Some(lines)
+}
+
+/// Can the program be asked with these limits and bodies?
+fn has_head(call: &Call<'_>) -> bool {
+    let Limits { levels, bytes } = call.limits;
+    let mut bodies = [call.schema, call.t0, call.t1].into_iter();
+    levels.max(bytes) <= u32::MAX as usize && bodies.all(|b| b.len() <= u16::MAX as usize)
 }
 
 impl Lent {
@@ -110,34 +126,56 @@ impl Lent {
             .into_iter()
             .chain(lengths);
         self.loose += (call.mode == LOOSE) as usize;
+        self.others += (call.limits != Limits::STANDARD) as usize;
+        self.unallowed += !call.limits.allowed() as usize;
         self.input.extend([op, call.mode]);
         for number in numbers {
             let number = u16::try_from(number).expect("a u16");
             self.input.extend(number.to_le_bytes());
         }
+        for limit in [call.limits.levels, call.limits.bytes] {
+            let limit = u32::try_from(limit).expect("a u32");
+            self.input.extend(limit.to_le_bytes());
+        }
         self.input.extend([call.schema, call.t0, call.t1].concat());
         self.lines.push(line);
     }
 
-    /// The calls of a job with small buffers, and its lookups by both entries.
-    pub fn put_judged(&mut self, judged: &Judged) {
-        for (call, outcome) in &judged.calls {
+    /// The second entry of lookup.
+    fn put_part(&mut self, call: &Call<'_>, part: &Part) {
+        let call = Call {
+            room: 0,
+            work: 0,
+            ..*call
+        };
+        self.put(OWN, &call, part_line(call.t0, part));
+    }
+
+    /// The calls with small buffers, and the lookups by both entries.
+    pub fn put_round(&mut self, round: &Round) {
+        for answered in &round.answered {
+            let call = round.call(answered);
+            if !has_head(&call) {
+                continue;
+            }
             if call.room <= LARGEST && call.work <= LARGEST {
-                let call = call.call();
-                self.put(call.op, &call, line(&call, outcome));
+                self.put(call.op, &call, told_line(&call, &answered.outcome));
+            }
+            if let Some(part) = &answered.part {
+                self.put_part(&call, part);
             }
         }
+    }
+
+    /// The same of a job, and its own lookups by the second entry.
+    pub fn put_judged(&mut self, judged: &Judged) {
+        judged.rounds.iter().for_each(|r| self.put_round(r));
         let Some(job) = read_job(&judged.job) else {
             return;
         };
         for q in job.questions.iter().filter(|q| q.op == LOOKUP) {
-            let part = lookup_part(job.schema, q.t0, q.attr);
-            let call = Call {
-                room: 0,
-                work: 0,
-                ..q.call(job.schema)
-            };
-            self.put(OWN, &call, part_line(q.t0, part));
+            let call = q.call(job.schema);
+            self.put_part(&call, &lookup_part(&call));
         }
     }
 }

@@ -4,7 +4,8 @@
 use crate::coverage::Coverage;
 use crate::generate::Gen;
 use crate::jobs::{lines, read_job};
-use crate::model::{self, faults::FAULTS, Rules};
+use crate::model::faults::{FAULTS, UNDER_LIMITS};
+use crate::model::{self, Rules};
 use crate::noted::{self, NOTED};
 
 /// A job with the oracle's lines.
@@ -86,7 +87,7 @@ pub fn sample(seed: u64, pool: usize, questions: usize) -> (Vec<Recorded>, Vec<u
     };
     (0..NOTED.len()).for_each(|at| picked.take(at));
     let mut uncaught = Vec::new();
-    for (fault, _) in FAULTS {
+    for (fault, _) in FAULTS.iter().filter(|(fault, _)| *fault < UNDER_LIMITS) {
         match picked.catcher(*fault) {
             _ if picked.catches(*fault) => (),
             Some(at) => picked.take(at),

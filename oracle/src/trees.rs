@@ -142,6 +142,15 @@ impl Val {
         made(|out| self.put(out))
     }
 
+    pub fn levels(&self) -> usize {
+        let deepest = match self {
+            Val::Set(values) | Val::Call(_, values) => values.iter().map(Val::levels).max(),
+            Val::Rec(pairs) => pairs.iter().map(|(_, v)| v.levels()).max(),
+            _ => None,
+        };
+        1 + deepest.unwrap_or(0)
+    }
+
     fn put(&self, out: &mut Vec<u8>) {
         match self {
             Val::Bool(b) => out.push(*b as u8),
@@ -204,8 +213,7 @@ impl Sch {
         for a in &self.actions {
             put16(&mut out, a.ty as usize);
             put16(&mut out, a.id as usize);
-            let body = Ty::Rec(false, a.attrs.clone());
-            put_body(&mut out, &mut bodies, body.form());
+            put_body(&mut out, &mut bodies, a.body().form());
         }
         for f in &self.functions {
             put16(&mut out, f.name as usize);
@@ -230,6 +238,12 @@ impl EntityEntry {
     }
 }
 
+impl ActionEntry {
+    pub fn body(&self) -> Ty {
+        Ty::Rec(false, self.attrs.clone())
+    }
+}
+
 impl FunctionEntry {
     fn body(&self) -> Vec<u8> {
         made(|out| {
@@ -241,7 +255,7 @@ impl FunctionEntry {
     }
 }
 
-/// One question of a job that is being built.
+/// One question that is being built.
 #[derive(Clone, Debug)]
 pub struct Ask {
     pub op: u8,

@@ -1,10 +1,13 @@
 //! The harness through the C interface: the oracle itself behind it, and
 //! entries that break one promise each.
 
+use oracle::candidates::Candidate;
 use oracle::generate::Gen;
-use oracle::harness::{difference, judged, Candidate};
+use oracle::harness::{difference, judged};
 use oracle::library::{Checked, CheckedLibrary, Entries, Library, M, P};
+use oracle::limits::Limits;
 use oracle::questions::{answer, lookup_part, operation::*, Call, Outcome, Part};
+use oracle::rounds::Round;
 use std::slice::{from_raw_parts, from_raw_parts_mut};
 
 unsafe fn part<'a>(p: P, n: usize) -> &'a [u8] {
@@ -29,15 +32,12 @@ unsafe fn number(call: Call<'_>, out: M, work: M) -> u64 {
 }
 
 /// A call without buffers.
+#[rustfmt::skip]
 unsafe fn plain<'a>(
-    op: u8,
-    mode: u8,
-    attr: u16,
-    s: &'a [u8],
-    a: &'a [u8],
-    b: &'a [u8],
+    levels: usize, bytes: usize, op: u8, mode: u8, attr: u16, s: &'a [u8], a: &'a [u8], b: &'a [u8],
 ) -> Call<'a> {
     Call {
+        limits: Limits { levels, bytes },
         op,
         mode,
         attr,
@@ -55,34 +55,59 @@ fn none() -> M {
     &raw mut NONE as M
 }
 
-unsafe extern "C" fn is_subtype(m: u8, s: P, sn: usize, a: P, an: usize, b: P, bn: usize) -> u64 {
-    let call = plain(SUBTYPE, m, 0, part(s, sn), part(a, an), part(b, bn));
+unsafe extern "C" fn is_subtype(
+    l: usize,
+    y: usize,
+    m: u8,
+    s: P,
+    sn: usize,
+    a: P,
+    an: usize,
+    b: P,
+    bn: usize,
+) -> u64 {
+    let call = plain(l, y, SUBTYPE, m, 0, part(s, sn), part(a, an), part(b, bn));
     number(call, none(), none())
 }
 
 #[rustfmt::skip]
 unsafe extern "C" fn least_upper_bound(
-    m: u8, s: P, sn: usize, a: P, an: usize, b: P, bn: usize, o: M, on: usize,
+    l: usize, y: usize, m: u8, s: P, sn: usize, a: P, an: usize, b: P, bn: usize, o: M, on: usize,
 ) -> u64 {
-    let call = plain(BOUND, m, 0, part(s, sn), part(a, an), part(b, bn));
+    let call = plain(l, y, BOUND, m, 0, part(s, sn), part(a, an), part(b, bn));
     number(Call { room: on, ..call }, o, none())
 }
 
-unsafe extern "C" fn are_types_disjoint(a: P, an: usize, b: P, bn: usize) -> u64 {
-    let call = plain(DISJOINT, 0, 0, &[], part(a, an), part(b, bn));
+unsafe extern "C" fn are_types_disjoint(
+    l: usize,
+    y: usize,
+    a: P,
+    an: usize,
+    b: P,
+    bn: usize,
+) -> u64 {
+    let call = plain(l, y, DISJOINT, 0, 0, &[], part(a, an), part(b, bn));
     number(call, none(), none())
 }
 
 #[rustfmt::skip]
 unsafe extern "C" fn lookup_attribute_type(
-    s: P, sn: usize, n: u16, a: P, an: usize, o: M, on: usize, w: M, wn: usize,
+    l: usize, y: usize, s: P, sn: usize, n: u16, a: P, an: usize, o: M, on: usize, w: M, wn: usize,
 ) -> u64 {
-    let call = plain(LOOKUP, 0, n, part(s, sn), part(a, an), &[]);
+    let call = plain(l, y, LOOKUP, 0, n, part(s, sn), part(a, an), &[]);
     number(Call { room: on, work: wn, ..call }, o, w)
 }
 
-unsafe extern "C" fn own_attribute_type(s: P, sn: usize, n: u16, a: P, an: usize) -> u64 {
-    match lookup_part(part(s, sn), part(a, an), n) {
+unsafe extern "C" fn own_attribute_type(
+    l: usize,
+    y: usize,
+    s: P,
+    sn: usize,
+    n: u16,
+    a: P,
+    an: usize,
+) -> u64 {
+    match lookup_part(&plain(l, y, LOOKUP, 0, n, part(s, sn), part(a, an), &[])) {
         Part::Refused(n) => (n as u64) << 8,
         Part::Nothing => 3,
         Part::Attribute(required, at) => {
@@ -92,44 +117,77 @@ unsafe extern "C" fn own_attribute_type(s: P, sn: usize, n: u16, a: P, an: usize
     }
 }
 
-unsafe extern "C" fn may_have_attr(s: P, sn: usize, n: u16, a: P, an: usize) -> u64 {
-    let call = plain(MAY_HAVE, 0, n, part(s, sn), part(a, an), &[]);
+unsafe extern "C" fn may_have_attr(
+    l: usize,
+    y: usize,
+    s: P,
+    sn: usize,
+    n: u16,
+    a: P,
+    an: usize,
+) -> u64 {
+    let call = plain(l, y, MAY_HAVE, 0, n, part(s, sn), part(a, an), &[]);
     number(call, none(), none())
 }
 
 #[rustfmt::skip]
 unsafe extern "C" fn all_attributes(
-    s: P, sn: usize, a: P, an: usize, o: M, on: usize, w: M, wn: usize,
+    l: usize, y: usize, s: P, sn: usize, a: P, an: usize, o: M, on: usize, w: M, wn: usize,
 ) -> u64 {
-    let call = plain(NAMES, 0, 0, part(s, sn), part(a, an), &[]);
+    let call = plain(l, y, NAMES, 0, 0, part(s, sn), part(a, an), &[]);
     number(Call { room: on, work: wn, ..call }, o, w)
 }
 
-unsafe extern "C" fn is_consistent_with(a: P, an: usize, b: P, bn: usize) -> u64 {
-    let call = plain(CONSISTENT, 0, 0, &[], part(a, an), part(b, bn));
+unsafe extern "C" fn is_consistent_with(
+    l: usize,
+    y: usize,
+    a: P,
+    an: usize,
+    b: P,
+    bn: usize,
+) -> u64 {
+    let call = plain(l, y, CONSISTENT, 0, 0, &[], part(a, an), part(b, bn));
     number(call, none(), none())
 }
 
-unsafe extern "C" fn convert(a: P, an: usize, o: M, on: usize) -> u64 {
-    let call = plain(CONVERT, 0, 0, &[], part(a, an), &[]);
+unsafe extern "C" fn convert(l: usize, y: usize, a: P, an: usize, o: M, on: usize) -> u64 {
+    let call = plain(l, y, CONVERT, 0, 0, &[], part(a, an), &[]);
     number(Call { room: on, ..call }, o, none())
 }
 
-unsafe extern "C" fn conforms(s: P, sn: usize, a: P, an: usize, b: P, bn: usize) -> u64 {
-    let call = plain(CONFORMS, 0, 0, part(s, sn), part(a, an), part(b, bn));
+unsafe extern "C" fn conforms(
+    l: usize,
+    y: usize,
+    s: P,
+    sn: usize,
+    a: P,
+    an: usize,
+    b: P,
+    bn: usize,
+) -> u64 {
+    let call = plain(l, y, CONFORMS, 0, 0, part(s, sn), part(a, an), part(b, bn));
     number(call, none(), none())
 }
 
 #[rustfmt::skip]
 unsafe extern "C" fn fold(
-    m: u8, s: P, sn: usize, a: P, an: usize, o: M, on: usize, w: M, wn: usize,
+    l: usize, y: usize, m: u8, s: P, sn: usize, a: P, an: usize, o: M, on: usize, w: M, wn: usize,
 ) -> u64 {
-    let call = plain(FOLD, m, 0, part(s, sn), part(a, an), &[]);
+    let call = plain(l, y, FOLD, m, 0, part(s, sn), part(a, an), &[]);
     number(Call { room: on, work: wn, ..call }, o, w)
 }
 
-unsafe extern "C" fn euid_literal(s: P, sn: usize, a: P, an: usize, o: M, on: usize) -> u64 {
-    let call = plain(LITERAL, 0, 0, part(s, sn), part(a, an), &[]);
+unsafe extern "C" fn euid_literal(
+    l: usize,
+    y: usize,
+    s: P,
+    sn: usize,
+    a: P,
+    an: usize,
+    o: M,
+    on: usize,
+) -> u64 {
+    let call = plain(l, y, LITERAL, 0, 0, part(s, sn), part(a, an), &[]);
     number(Call { room: on, ..call }, o, none())
 }
 
@@ -148,81 +206,94 @@ const ORACLE: Entries = Entries {
     euid_literal,
 };
 
-/// The number of a schema here: its length and one, for the entries to see.
-unsafe extern "C" fn check_schema(_: P, sn: usize) -> u64 {
-    sn as u64 + 1
+/// The number of a schema here: its length and its limits, for the entries to
+/// see and to use; limits outside their ranges have one number.
+unsafe extern "C" fn check_schema(levels: usize, bytes: usize, _: P, sn: usize) -> u64 {
+    match (Limits { levels, bytes }).allowed() {
+        true => (sn as u64) << 32 | (levels as u64) << 16 | bytes as u64,
+        false => u64::MAX,
+    }
+}
+
+/// The limits of a schema's number.
+fn kept(c: u64, sn: usize) -> (usize, usize) {
+    if c == u64::MAX {
+        return (0, 0);
+    }
+    assert_eq!(c >> 32, sn as u64);
+    ((c >> 16 & 0xffff) as usize, (c & 0xffff) as usize)
 }
 
 #[rustfmt::skip]
 unsafe extern "C" fn is_subtype_checked(
     s: P, sn: usize, c: u64, m: u8, a: P, an: usize, b: P, bn: usize,
 ) -> u64 {
-    assert_eq!(c, check_schema(s, sn));
-    is_subtype(m, s, sn, a, an, b, bn)
+    let (l, y) = kept(c, sn);
+    is_subtype(l, y, m, s, sn, a, an, b, bn)
 }
 
 #[rustfmt::skip]
 unsafe extern "C" fn least_upper_bound_checked(
     s: P, sn: usize, c: u64, m: u8, a: P, an: usize, b: P, bn: usize, o: M, on: usize,
 ) -> u64 {
-    assert_eq!(c, check_schema(s, sn));
-    least_upper_bound(m, s, sn, a, an, b, bn, o, on)
+    let (l, y) = kept(c, sn);
+    least_upper_bound(l, y, m, s, sn, a, an, b, bn, o, on)
 }
 
 #[rustfmt::skip]
 unsafe extern "C" fn lookup_attribute_type_checked(
     s: P, sn: usize, c: u64, n: u16, a: P, an: usize, o: M, on: usize, w: M, wn: usize,
 ) -> u64 {
-    assert_eq!(c, check_schema(s, sn));
-    lookup_attribute_type(s, sn, n, a, an, o, on, w, wn)
+    let (l, y) = kept(c, sn);
+    lookup_attribute_type(l, y, s, sn, n, a, an, o, on, w, wn)
 }
 
 #[rustfmt::skip]
 unsafe extern "C" fn own_attribute_type_checked(
     s: P, sn: usize, c: u64, n: u16, a: P, an: usize,
 ) -> u64 {
-    assert_eq!(c, check_schema(s, sn));
-    own_attribute_type(s, sn, n, a, an)
+    let (l, y) = kept(c, sn);
+    own_attribute_type(l, y, s, sn, n, a, an)
 }
 
 #[rustfmt::skip]
 unsafe extern "C" fn may_have_attr_checked(
     s: P, sn: usize, c: u64, n: u16, a: P, an: usize,
 ) -> u64 {
-    assert_eq!(c, check_schema(s, sn));
-    may_have_attr(s, sn, n, a, an)
+    let (l, y) = kept(c, sn);
+    may_have_attr(l, y, s, sn, n, a, an)
 }
 
 #[rustfmt::skip]
 unsafe extern "C" fn all_attributes_checked(
     s: P, sn: usize, c: u64, a: P, an: usize, o: M, on: usize, w: M, wn: usize,
 ) -> u64 {
-    assert_eq!(c, check_schema(s, sn));
-    all_attributes(s, sn, a, an, o, on, w, wn)
+    let (l, y) = kept(c, sn);
+    all_attributes(l, y, s, sn, a, an, o, on, w, wn)
 }
 
 #[rustfmt::skip]
 unsafe extern "C" fn conforms_checked(
     s: P, sn: usize, c: u64, a: P, an: usize, b: P, bn: usize,
 ) -> u64 {
-    assert_eq!(c, check_schema(s, sn));
-    conforms(s, sn, a, an, b, bn)
+    let (l, y) = kept(c, sn);
+    conforms(l, y, s, sn, a, an, b, bn)
 }
 
 #[rustfmt::skip]
 unsafe extern "C" fn fold_checked(
     s: P, sn: usize, c: u64, m: u8, a: P, an: usize, o: M, on: usize, w: M, wn: usize,
 ) -> u64 {
-    assert_eq!(c, check_schema(s, sn));
-    fold(m, s, sn, a, an, o, on, w, wn)
+    let (l, y) = kept(c, sn);
+    fold(l, y, m, s, sn, a, an, o, on, w, wn)
 }
 
 #[rustfmt::skip]
 unsafe extern "C" fn euid_literal_checked(
     s: P, sn: usize, c: u64, a: P, an: usize, o: M, on: usize,
 ) -> u64 {
-    assert_eq!(c, check_schema(s, sn));
-    euid_literal(s, sn, a, an, o, on)
+    let (l, y) = kept(c, sn);
+    euid_literal(l, y, s, sn, a, an, o, on)
 }
 
 const CHECKED: Checked = Checked {
@@ -238,11 +309,13 @@ const CHECKED: Checked = Checked {
     euid_literal: euid_literal_checked,
 };
 
+/// Jobs, and rounds under drawn limits, with a difference.
 fn differences(candidate: &mut dyn Candidate) -> usize {
     let mut gen = Gen::new(5);
-    (0..3000)
-        .filter(|_| difference(candidate, &judged(&mut gen)).is_some())
-        .count()
+    let jobs = (0..2000).filter(|_| difference(candidate, &judged(&mut gen)).is_some());
+    let jobs = jobs.count();
+    let rounds = (0..2000).filter(|_| Round::drawn(&mut gen).difference(candidate).is_some());
+    jobs + rounds.count()
 }
 
 #[test]
@@ -254,20 +327,20 @@ fn the_oracle_agrees_with_itself() {
 /// A refusal that writes.
 #[rustfmt::skip]
 unsafe extern "C" fn bound_writes_when_refused(
-    m: u8, s: P, sn: usize, a: P, an: usize, b: P, bn: usize, o: M, on: usize,
+    l: usize, y: usize, m: u8, s: P, sn: usize, a: P, an: usize, b: P, bn: usize, o: M, on: usize,
 ) -> u64 {
     if on > 0 {
         *o = 0;
     }
-    least_upper_bound(m, s, sn, a, an, b, bn, o, on)
+    least_upper_bound(l, y, m, s, sn, a, an, b, bn, o, on)
 }
 
 /// In mode 2, a byte of the elements behind 06.
 #[rustfmt::skip]
 unsafe extern "C" fn bound_leaves_elements(
-    m: u8, s: P, sn: usize, a: P, an: usize, b: P, bn: usize, o: M, on: usize,
+    l: usize, y: usize, m: u8, s: P, sn: usize, a: P, an: usize, b: P, bn: usize, o: M, on: usize,
 ) -> u64 {
-    let n = least_upper_bound(m, s, sn, a, an, b, bn, o, on);
+    let n = least_upper_bound(l, y, m, s, sn, a, an, b, bn, o, on);
     if m == 2 && n == 4 | 1 << 8 && on > 1 && *o == 6 {
         *o.add(1) = 4;
     }
@@ -276,8 +349,8 @@ unsafe extern "C" fn bound_leaves_elements(
 
 /// A byte past the answer.
 #[rustfmt::skip]
-unsafe extern "C" fn convert_writes_past(a: P, an: usize, o: M, on: usize) -> u64 {
-    let n = convert(a, an, o, on);
+unsafe extern "C" fn convert_writes_past(l: usize, y: usize, a: P, an: usize, o: M, on: usize) -> u64 {
+    let n = convert(l, y, a, an, o, on);
     let length = (n >> 8) as usize;
     if n & 255 == 4 && length < on {
         *o.add(length) = 0;
@@ -288,9 +361,9 @@ unsafe extern "C" fn convert_writes_past(a: P, an: usize, o: M, on: usize) -> u6
 /// A workspace that is not zeroed.
 #[rustfmt::skip]
 unsafe extern "C" fn fold_leaves_workspace(
-    m: u8, s: P, sn: usize, a: P, an: usize, o: M, on: usize, w: M, wn: usize,
+    l: usize, y: usize, m: u8, s: P, sn: usize, a: P, an: usize, o: M, on: usize, w: M, wn: usize,
 ) -> u64 {
-    let n = fold(m, s, sn, a, an, o, on, w, wn);
+    let n = fold(l, y, m, s, sn, a, an, o, on, w, wn);
     if wn > 0 {
         *w.add(wn - 1) = 1;
     }
@@ -298,12 +371,53 @@ unsafe extern "C" fn fold_leaves_workspace(
 }
 
 /// A part that starts a byte too early.
-unsafe extern "C" fn part_starts_early(s: P, sn: usize, n: u16, a: P, an: usize) -> u64 {
-    let number = own_attribute_type(s, sn, n, a, an);
+unsafe extern "C" fn part_starts_early(
+    l: usize,
+    y: usize,
+    s: P,
+    sn: usize,
+    n: u16,
+    a: P,
+    an: usize,
+) -> u64 {
+    let number = own_attribute_type(l, y, s, sn, n, a, an);
     match number & 255 {
         7 | 8 => number - (1 << 8),
         _ => number,
     }
+}
+
+/// The standard limits, whatever the call has.
+#[rustfmt::skip]
+unsafe extern "C" fn disjoint_at_the_standard(
+    _: usize, _: usize, a: P, an: usize, b: P, bn: usize,
+) -> u64 {
+    are_types_disjoint(16, 4096, a, an, b, bn)
+}
+
+/// A workspace that is not zeroed where the limits are refused.
+#[rustfmt::skip]
+unsafe extern "C" fn names_spare_workspace(
+    l: usize, y: usize, s: P, sn: usize, a: P, an: usize, o: M, on: usize, w: M, wn: usize,
+) -> u64 {
+    match (Limits { levels: l, bytes: y }).allowed() {
+        true => all_attributes(l, y, s, sn, a, an, o, on, w, wn),
+        false => 20 << 8,
+    }
+}
+
+/// A check that keeps the standard limits.
+unsafe extern "C" fn check_at_the_standard(_: usize, _: usize, s: P, sn: usize) -> u64 {
+    check_schema(16, 4096, s, sn)
+}
+
+#[test]
+fn broken_checks_are_seen() {
+    let checked = Checked {
+        check_schema: check_at_the_standard,
+        ..CHECKED
+    };
+    assert!(differences(&mut CheckedLibrary(ORACLE, checked)) > 0);
 }
 
 #[test]
@@ -327,6 +441,14 @@ fn broken_promises_are_seen() {
         },
         Entries {
             reduce_to_least_upper_bound: fold_leaves_workspace,
+            ..ORACLE
+        },
+        Entries {
+            are_types_disjoint: disjoint_at_the_standard,
+            ..ORACLE
+        },
+        Entries {
+            all_attributes: names_spare_workspace,
             ..ORACLE
         },
     ];

@@ -5,6 +5,7 @@ use oracle::exhaustive;
 use oracle::forms::read_schema;
 use oracle::generate::Gen;
 use oracle::jobs::lines;
+use oracle::limits::Limits;
 use oracle::loose;
 use oracle::properties::{try_claims, Tallies};
 use oracle::questions::{answer, operation::*, Call, Outcome};
@@ -19,6 +20,7 @@ fn hex(text: &str) -> Vec<u8> {
 
 fn call<'a>(op: u8, schema: &'a [u8], t0: &'a [u8], t1: &'a [u8]) -> Call<'a> {
     Call {
+        limits: Limits::STANDARD,
         op,
         mode: 2,
         attr: 0,
@@ -130,7 +132,7 @@ fn mode_3_is_refused_and_the_job_is_whole() {
 /// The model beside the published function on every small pair.
 #[test]
 fn small_bounds_are_the_published_ones_where_unlike_sets_are_untyped() {
-    let schema = read_schema(EMPTY).expect("whole");
+    let schema = read_schema(Limits::STANDARD, EMPTY).expect("whole");
     let types = exhaustive::paired();
     for a in types.iter().map(|t| t.form()) {
         for b in types.iter().map(|t| t.form()) {

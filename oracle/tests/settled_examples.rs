@@ -1,6 +1,7 @@
 //! The settled examples of 01, put to the published functions.
 
 use oracle::jobs::lines;
+use oracle::limits::Limits;
 use oracle::questions::{answer, operation::*, Call, Outcome};
 
 const EMPTY: &[u8] = &[0, 0, 0, 0, 0, 0];
@@ -26,6 +27,7 @@ fn ask_in(
     room: usize,
 ) -> Outcome {
     answer(&Call {
+        limits: Limits::STANDARD,
         op,
         mode,
         attr,

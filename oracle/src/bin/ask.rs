@@ -1,10 +1,12 @@
-//! `ask OPERATION MODE ATTRIBUTE SCHEMA FIRST [SECOND [ROOM WORKSPACE]]`, bodies
-//! in hexadecimal or `-` for none, prints the job of that one question, its
-//! line, the line with that room and workspace, and what the published function
-//! gives where no size is asked.
+//! `ask OPERATION MODE ATTRIBUTE SCHEMA FIRST [SECOND [ROOM WORKSPACE [LEVELS
+//! BYTES]]]`, bodies in hexadecimal or `-` for none, prints the job of that one
+//! question, its line, the line with that room and workspace and under those
+//! limits, and what the published function gives where no size is asked.
 
-use oracle::jobs::{lines, put_line};
-use oracle::questions::{answer, unmeasured, Call, Outcome};
+use oracle::jobs::{lines, put_line, RESULT, WORKSPACE};
+use oracle::limits::Limits;
+use oracle::questions::{answer, unmeasured, Outcome};
+use oracle::rounds::Roomed;
 use oracle::trees::{job_form, Ask};
 
 fn bytes(text: &str) -> Vec<u8> {
@@ -38,18 +40,20 @@ fn main() {
     let hex: String = job.iter().map(|b| format!("{b:02x}")).collect();
     println!("job {} bytes: {hex}", job.len());
     print!("{}", String::from_utf8_lossy(&lines(&job)));
-    let call = Call {
-        op: ask.op,
-        mode: ask.mode,
-        attr: ask.attr,
-        schema: &schema,
-        t0: &ask.t0,
-        t1: &ask.t1,
-        room: word(6).parse().unwrap_or(4096),
-        work: word(7).parse().unwrap_or(8192),
+    let or = |at: usize, otherwise| word(at).parse().unwrap_or(otherwise);
+    let limits = Limits {
+        levels: or(8, Limits::STANDARD.levels),
+        bytes: or(9, Limits::STANDARD.bytes),
     };
+    let roomed = Roomed {
+        ask,
+        room: or(6, RESULT),
+        work: or(7, WORKSPACE),
+    };
+    let call = roomed.call(limits, &schema);
     if args.len() > 6 {
-        let what = format!("room {}, workspace {}", call.room, call.work);
+        let (room, work, Limits { levels, bytes }) = (call.room, call.work, limits);
+        let what = format!("room {room}, workspace {work}, {levels} levels, {bytes} bytes");
         print_line(&what, &answer(&call));
     }
     if let Some(outcome) = unmeasured(&call) {

@@ -1,25 +1,30 @@
 //! `compare A B` compares two files of lines.
 //! `compare --model --seed N --jobs K` compares the model with the oracle, but
-//! for mode 2, which the model judges.
-//! `compare --model --exhaustive` does so on every small question.
+//! for mode 2, which the model judges: K rounds of questions, each under limits
+//! that are drawn.
+//! `compare --library --seed N --jobs K`, with the feature `library`, does so
+//! with the static library, plain and with schemas checked before.
+//! `compare --rooms PATH --seed N --jobs K` does so with the program `rooms`.
+//! With `--standard` the three are asked what K jobs ask, under the standard
+//! limits, and calls with rooms; the first two take `--exhaustive` for seed and
+//! jobs: every small question, under the standard limits and few levels.
 //! `compare --program PATH --seed N --jobs K` compares a program that reads
 //! one job on standard input.
 //! `compare --batch PATH --seed N --jobs K` compares a program that reads a
 //! batch, with some thousand jobs to a run; with `--exhaustive` for seed and
 //! jobs, on every small question.
-//! `compare --rooms PATH --seed N --jobs K` compares the program `rooms`.
-//! `compare --library --seed N --jobs K`, with the feature `library`, compares
-//! the static library: every question of each job, and calls with rooms.
 
 use oracle::arguments::Arguments;
-use oracle::coverage::Coverage;
+use oracle::candidates::{Candidate, KeptModel, Model};
+use oracle::coverage::{Coverage, Limited};
 use oracle::exhaustive;
 use oracle::generate::Gen;
-use oracle::harness::{difference, judged, Candidate, Model};
-use oracle::jobs::{lines, print_outcomes, read_job};
-use oracle::model::{self, Rules};
+use oracle::harness::{difference, judged, Judged};
+use oracle::jobs::{print_outcomes, read_job};
+use oracle::model::Rules;
 use oracle::programs;
 use oracle::rooms::Lent;
+use oracle::rounds::Round;
 use std::process::ExitCode;
 
 fn hex(bytes: &[u8]) -> String {
@@ -59,18 +64,12 @@ fn compare_files(a: &str, b: &str) -> ExitCode {
     code(differences)
 }
 
-fn model(args: &Arguments) -> Model {
-    Model(Rules {
-        fault: args.number("--fault", 0) as u32,
-    })
-}
-
 #[cfg(feature = "library")]
 fn compare_library(args: &Arguments) -> ExitCode {
     use oracle::library::{linked, CheckedLibrary, Library};
     let mut plain = Library(linked::ENTRIES);
     let mut checked = CheckedLibrary(linked::ENTRIES, linked::CHECKED);
-    compare_candidates(&mut [&mut plain, &mut checked], args).2
+    compare_candidates(&mut [&mut plain, &mut checked], args)
 }
 
 #[cfg(not(feature = "library"))]
@@ -78,69 +77,96 @@ fn compare_library(_: &Arguments) -> ExitCode {
     panic!("built without the feature `library`")
 }
 
-/// How much of the model was compared: in mode 2 it is the judge.
-fn tell_model(coverage: &Coverage, what: &str) {
-    println!(
-        "{} {what} compared, and {} in mode 2, which the model judges",
-        coverage.questions() - coverage.loose(),
-        coverage.loose()
-    );
-}
-
 fn compare_model(args: &Arguments) -> ExitCode {
-    let (coverage, roomed, code) = compare_candidates(&mut [&mut model(args)], args);
-    tell_model(&coverage, "questions");
-    tell_model(&roomed, "calls");
-    code
+    let fault = args.number("--fault", 0) as u32;
+    let (mut plain, mut kept) = (Model(Rules { fault }), KeptModel(Rules { fault }));
+    println!("in mode 2, and where it judges alone, the model is compared with itself");
+    compare_candidates(&mut [&mut plain, &mut kept], args)
 }
 
-fn compare_candidates(
-    candidates: &mut [&mut dyn Candidate],
-    args: &Arguments,
-) -> (Coverage, Coverage, ExitCode) {
+type Candidates<'a> = [&'a mut dyn Candidate];
+
+fn compare_candidates(candidates: &mut Candidates<'_>, args: &Arguments) -> ExitCode {
+    if args.has("--exhaustive") {
+        return compare_exhaustively(candidates);
+    }
     let mut gen = Gen::new(args.number("--seed", 1));
+    let count = 0..args.number("--jobs", 1000);
+    let (missing, differences) = match args.has("--standard") {
+        true => compare_jobs(candidates, count.map(|_| judged(&mut gen))),
+        false => compare_rounds(candidates, count.map(|_| Round::drawn(&mut gen))),
+    };
+    println!("not reached: {missing:?}");
+    code(differences)
+}
+
+/// Print a difference, if it is among the first.
+fn tell(differences: &mut u64, what: Option<String>, job: &[u8]) {
+    let Some(what) = what else { return };
+    *differences += 1;
+    if *differences <= 5 {
+        println!("{what}\n  job {}", hex(job));
+    }
+}
+
+/// Jobs, and calls with rooms: what was not reached, and the differences.
+fn compare_jobs(
+    candidates: &mut Candidates<'_>,
+    all: impl Iterator<Item = Judged>,
+) -> (Vec<String>, u64) {
     let (mut coverage, mut roomed) = (Coverage::default(), Coverage::with_rooms());
     let mut differences = 0;
-    for _ in 0..args.number("--jobs", 1000) {
-        let judged = judged(&mut gen);
+    for judged in all {
         coverage.count_outcomes(&judged.job, judged.outcomes.as_deref());
-        for (call, outcome) in &judged.calls {
-            roomed.count(&call.call(), outcome);
+        for round in &judged.rounds {
+            let answered = round.answered.iter();
+            answered.for_each(|a| roomed.count(&round.call(a), &a.outcome));
         }
         for candidate in candidates.iter_mut() {
-            if let Some(what) = difference(*candidate, &judged) {
-                differences += 1;
-                if differences <= 5 {
-                    println!("{what}\n  job {}", hex(&judged.job));
-                }
-            }
+            let what = difference(*candidate, &judged);
+            tell(&mut differences, what, &judged.job);
         }
     }
     print!("jobs\n{}", coverage.table());
-    print!("calls with rooms of any size\n{}", roomed.table());
-    println!(
-        "not reached: {:?} {:?}",
-        coverage.missing(),
-        roomed.missing()
-    );
+    if roomed.questions() > 0 {
+        print!("calls with rooms of any size\n{}", roomed.table());
+    }
     println!("{differences} jobs with a difference");
-    (coverage, roomed, code(differences))
+    let missing = [coverage.missing(), roomed.missing()].concat();
+    (missing, differences)
 }
 
-fn compare_exhaustively() -> ExitCode {
-    let mut coverage = Coverage::default();
+/// Questions under limits: what was not reached, and the differences.
+fn compare_rounds(
+    candidates: &mut Candidates<'_>,
+    all: impl Iterator<Item = Round>,
+) -> (Vec<String>, u64) {
+    let mut limited = Limited::default();
     let mut differences = 0;
-    for job in exhaustive::jobs() {
-        coverage.count_job(&job);
-        if model::lines(Rules::SOUND, &job) != lines(&job) {
-            differences += 1;
-            println!("job {}", hex(&job));
+    for round in all {
+        limited.count(&round);
+        for candidate in candidates.iter_mut() {
+            tell(&mut differences, round.difference(*candidate), &[]);
         }
     }
-    print!("{}", coverage.table());
-    tell_model(&coverage, "questions");
-    println!("{differences} jobs with a difference");
-    code(differences)
+    print!("{}", limited.table());
+    let unexpected = limited.unexpected();
+    assert!(unexpected.is_empty(), "not expected: {unexpected:?}");
+    println!("{differences} rounds with a difference");
+    (limited.missing(), differences)
+}
+
+/// Every small question, under the standard limits and under few levels.
+fn compare_exhaustively(candidates: &mut Candidates<'_>) -> ExitCode {
+    let jobs = exhaustive::jobs().into_iter().map(Judged::of);
+    let (_, standard) = compare_jobs(candidates, jobs);
+    let under = |limits| {
+        let jobs = exhaustive::jobs_under(limits).into_iter();
+        jobs.filter_map(move |job| Some(Round::of_job(limits, &read_job(&job)?)))
+    };
+    let few = exhaustive::FEW.into_iter().flat_map(under);
+    let (_, few) = compare_rounds(candidates, few);
+    code(standard + few)
 }
 
 /// The answers of a program to some jobs, in turn.
@@ -184,20 +210,33 @@ fn compare_program(path: &str, ask: Asker, run: usize, args: &Arguments) -> Exit
     code(differences)
 }
 
+/// The next calls for the program `rooms`.
+fn lent(gen: &mut Gen, jobs: u64, standard: bool) -> Lent {
+    let mut lent = Lent::default();
+    for _ in 0..jobs {
+        match standard {
+            true => lent.put_judged(&judged(gen)),
+            false => lent.put_round(&Round::drawn(gen)),
+        }
+    }
+    lent
+}
+
 fn compare_rooms(path: &str, args: &Arguments) -> ExitCode {
     let mut gen = Gen::new(args.number("--seed", 1));
-    let (mut calls, mut loose, mut differences) = (0, 0, 0);
-    let mut left = args.number("--jobs", 1000);
+    let [mut calls, mut loose, mut others, mut unallowed] = [0; 4];
+    let (mut differences, mut left) = (0, args.number("--jobs", 1000));
     while left > 0 {
         let jobs = left.min(2000);
         left -= jobs;
-        let mut lent = Lent::default();
-        (0..jobs).for_each(|_| lent.put_judged(&judged(&mut gen)));
+        let lent = lent(&mut gen, jobs, args.has("--standard"));
         let output = programs::ask(path, &lent.input);
         let output = String::from_utf8(output).expect("ASCII");
         assert_eq!(output.lines().count(), lent.lines.len(), "lines");
         calls += lent.lines.len();
         loose += lent.loose;
+        others += lent.others;
+        unallowed += lent.unallowed;
         for (got, wanted) in output.lines().zip(&lent.lines) {
             if got != wanted {
                 differences += 1;
@@ -207,15 +246,13 @@ fn compare_rooms(path: &str, args: &Arguments) -> ExitCode {
             }
         }
     }
-    println!("{calls} calls, {loose} of them in mode 2, {differences} with a difference");
+    println!("{calls} calls, {loose} of them in mode 2, {others} under other limits than the standard ones, {unallowed} refused with 20");
+    println!("{differences} with a difference");
     code(differences)
 }
 
 fn main() -> ExitCode {
     let args = Arguments::read();
-    if args.has("--model") && args.has("--exhaustive") {
-        return compare_exhaustively();
-    }
     if args.has("--model") {
         return compare_model(&args);
     }

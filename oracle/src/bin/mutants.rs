@@ -1,35 +1,56 @@
-//! `mutants --seed N --jobs K` switches on each fault of the model in turn and
-//! tells at which job the comparison with the oracle catches it.
+//! `mutants --seed N --jobs K --rounds R` switches on each fault of the model in
+//! turn and tells at which job the comparison with the oracle catches it, or at
+//! which round of questions under drawn limits, if jobs cannot show it.
 
 use oracle::arguments::Arguments;
+use oracle::candidates::{Candidate, KeptModel, Model};
 use oracle::generate::Gen;
-use oracle::harness::{difference, judged, Judged, Model};
-use oracle::model::{faults::FAULTS, Rules};
+use oracle::harness::{difference, judged, Judged};
+use oracle::model::faults::{FAULTS, UNDER_LIMITS};
+use oracle::model::Rules;
+use oracle::rounds::Round;
 use std::process::ExitCode;
 
 /// The first job that tells the fault from the rule.
-fn caught(fault: u32, all: &[Judged]) -> Option<usize> {
+fn caught_in(jobs: &[Judged], fault: u32) -> Option<String> {
     let mut model = Model(Rules { fault });
-    all.iter().position(|j| difference(&mut model, j).is_some())
+    let caught = |j: &Judged| difference(&mut model, j).is_some();
+    let at = jobs.iter().position(caught)?;
+    Some(format!("job {at:>6}"))
+}
+
+/// The first round, asked plain or with the schema kept.
+fn caught_under(rounds: &[Round], fault: u32) -> Option<String> {
+    let rules = Rules { fault };
+    let (mut plain, mut kept) = (Model(rules), KeptModel(rules));
+    let mut candidates: [&mut dyn Candidate; 2] = [&mut plain, &mut kept];
+    let caught = |r: &Round| candidates.iter_mut().any(|c| r.difference(*c).is_some());
+    let at = rounds.iter().position(caught)?;
+    Some(format!("round {at:>4}"))
 }
 
 fn main() -> ExitCode {
     let args = Arguments::read();
     let mut gen = Gen::new(args.number("--seed", 1));
-    let all: Vec<Judged> = (0..args.number("--jobs", 20_000))
-        .map(|_| judged(&mut gen))
-        .collect();
-    if let Some(at) = caught(0, &all) {
-        println!("without a fault the model differs at job {at}");
+    let jobs = (0..args.number("--jobs", 20_000)).map(|_| judged(&mut gen));
+    let jobs: Vec<Judged> = jobs.collect();
+    let rounds = (0..args.number("--rounds", 8_000)).map(|_| Round::drawn(&mut gen));
+    let rounds: Vec<Round> = rounds.collect();
+    if let Some(at) = caught_in(&jobs, 0).or_else(|| caught_under(&rounds, 0)) {
+        println!("without a fault the model differs at {at}");
         return ExitCode::FAILURE;
     }
     let mut survivors = 0;
     for (fault, text) in FAULTS {
-        match caught(*fault, &all) {
-            Some(at) => println!("{fault:>4} caught at job {at:>6}: {text}"),
+        let caught = match *fault < UNDER_LIMITS {
+            true => caught_in(&jobs, *fault),
+            false => caught_under(&rounds, *fault),
+        };
+        match caught {
+            Some(at) => println!("{fault:>4} caught at {at}: {text}"),
             None => {
                 survivors += 1;
-                println!("{fault:>4} SURVIVES {} jobs: {text}", all.len());
+                println!("{fault:>4} SURVIVES: {text}");
             }
         }
     }

@@ -45,7 +45,7 @@ fn record(bodies: [&[u8]; 2]) -> Vec<u8> {
 }
 
 /// A schema of two entity types or two actions with these bodies.
-fn schema(actions: bool, bodies: [&[u8]; 2]) -> Vec<u8> {
+pub fn schema(actions: bool, bodies: [&[u8]; 2]) -> Vec<u8> {
     let mut out = match actions {
         true => vec![0, 0, 2, 0, 0, 0],
         false => vec![2, 0, 0, 0, 0, 0],
@@ -61,7 +61,7 @@ fn schema(actions: bool, bodies: [&[u8]; 2]) -> Vec<u8> {
 }
 
 /// A form as first type, as second, and in lists.
-fn as_type(jobs: &mut Jobs, form: &[u8]) {
+pub fn as_type(jobs: &mut Jobs, form: &[u8]) {
     jobs.ask(CONVERT, 0, 0, form, &[]);
     jobs.ask(DISJOINT, 0, 0, form, &[4]);
     jobs.ask(DISJOINT, 0, 0, &[4], form);
@@ -74,7 +74,7 @@ fn as_type(jobs: &mut Jobs, form: &[u8]) {
 }
 
 /// A schema under questions that find its entries.
-fn as_schema(jobs: &mut Jobs, schema: &[u8]) {
+pub fn as_schema(jobs: &mut Jobs, schema: &[u8]) {
     let ask = |op, attr, t0: &[u8]| Ask {
         op,
         mode: 0,

@@ -1,8 +1,8 @@
 //! Forms with one byte or one rule broken.
 
 use super::schemas::disturb;
-use super::Gen;
-use crate::trees::{job_form, Ask, Attr, Ty, Val};
+use super::{Asked, Gen};
+use crate::trees::{Ask, Attr, Ty, Val};
 
 impl Gen {
     /// The bytes with one place damaged.
@@ -89,7 +89,7 @@ impl Gen {
 
     /// One form damaged at every place in turn, as the first or the second
     /// body of one operation.
-    pub fn job_swept(&mut self) -> Vec<u8> {
+    pub fn swept(&mut self) -> Asked {
         let tree = self.tiny_schema();
         let schema = tree.form();
         let ask = self.whole_ask(&tree);
@@ -113,6 +113,6 @@ impl Gen {
             }
             asks.push(swept);
         }
-        job_form(&schema, &asks)
+        Asked { schema, asks }
     }
 }

@@ -1,6 +1,7 @@
 //! Schemas.
 
 use super::{Gen, ACTION_TYPES, ATTRS, ENTITIES, EXTENSIONS, FUNCTIONS};
+use crate::limits::Limits;
 use crate::trees::{ActionEntry, Attr, EntityEntry, FunctionEntry, Sch, Ty};
 
 impl Gen {
@@ -27,6 +28,9 @@ impl Gen {
             if self.rng.percent(60) {
                 schema.functions.push(self.function_entry(*name));
             }
+        }
+        if self.limits != Limits::STANDARD && self.rng.percent(90) {
+            fit(&mut schema, self.limits);
         }
         schema
     }
@@ -211,6 +215,18 @@ impl Gen {
                 .actions
                 .iter_mut()
                 .for_each(|a| a.attrs = attrs.clone()),
+        }
+    }
+}
+
+/// Leave out attributes until each body is within the limits.
+fn fit(schema: &mut Sch, limits: Limits) {
+    let entities = schema.entities.iter_mut().map(|e| &mut e.attrs);
+    let actions = schema.actions.iter_mut().map(|a| &mut a.attrs);
+    for attrs in entities.chain(actions) {
+        attrs.retain(|a| a.ty.levels() < limits.levels);
+        while Ty::Rec(false, attrs.clone()).form().len() > limits.bytes {
+            attrs.pop();
         }
     }
 }

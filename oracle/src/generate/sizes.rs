@@ -1,13 +1,12 @@
 //! Forms around every size and count.
 
 use super::asks::uid_form;
-use super::{Gen, ATTRS};
+use super::{Asked, Gen, ATTRS};
+use crate::limits::Limits;
 use crate::questions::operation::*;
-use crate::trees::{
-    job_form, list_form, ActionEntry, Ask, Attr, EntityEntry, FunctionEntry, Sch, Ty, Val,
-};
+use crate::trees::{list_form, ActionEntry, Ask, Attr, EntityEntry, FunctionEntry, Sch, Ty, Val};
 
-fn ask(op: u8, mode: u8, attr: u16, t0: Vec<u8>, t1: Vec<u8>) -> Ask {
+pub fn ask(op: u8, mode: u8, attr: u16, t0: Vec<u8>, t1: Vec<u8>) -> Ask {
     Ask {
         op,
         mode,
@@ -18,11 +17,11 @@ fn ask(op: u8, mode: u8, attr: u16, t0: Vec<u8>, t1: Vec<u8>) -> Ask {
 }
 
 /// So many even names, ascending from a place.
-fn names(start: usize, count: usize) -> Vec<u16> {
+pub fn names(start: usize, count: usize) -> Vec<u16> {
     (start..start + count).map(|n| 2 * n as u16).collect()
 }
 
-fn attr(name: u16, required: bool, ty: Ty) -> Attr {
+pub fn attr(name: u16, required: bool, ty: Ty) -> Attr {
     Attr { name, required, ty }
 }
 
@@ -52,26 +51,43 @@ impl Gen {
 
     /// A length around the largest of a form.
     fn edge(&mut self) -> usize {
+        let most = self.limits.bytes;
         match self.rng.percent(40) {
-            true => self.rng.from(4096, 4097),
-            false => self.rng.from(4093, 4099),
+            true => self.rng.from(most, most + 1),
+            false => self.rng.from(most - 3, most + 3),
         }
     }
 
+    /// A number that is drawn for the standard form length, for this one.
+    fn scaled(&self, n: usize) -> usize {
+        n * self.limits.bytes / Limits::STANDARD.bytes
+    }
+
     /// Few large questions.
-    pub fn job_of_sizes(&mut self) -> Vec<u8> {
+    pub fn sized(&mut self) -> Asked {
+        let kind = self.rng.below(8);
+        self.sized_by(kind)
+    }
+
+    /// One kind of them; those from 8 on are no job's.
+    pub fn sized_by(&mut self, kind: usize) -> Asked {
         let mut schema = Sch::default();
         let mut asks = Vec::new();
-        match self.rng.below(8) {
+        match kind {
             0 => self.sized_forms(&mut asks),
             1 => self.sized_values(&mut asks),
             2 => self.sized_bounds(&mut asks),
             3 => self.sized_folds(&mut asks),
             4 | 5 => self.sized_attributes(&mut schema, &mut asks),
             6 => self.sized_literals(&mut schema, &mut asks),
-            _ => self.sized_list(&mut asks),
+            7 => self.sized_list(&mut asks),
+            8 => self.sized_members(&mut asks),
+            9 => self.sized_bodies(&mut schema, &mut asks),
+            10 => self.sized_arguments(&mut schema, &mut asks),
+            _ => self.sized_chains(&mut asks),
         }
-        job_form(&schema.form(), &asks)
+        let schema = schema.form();
+        Asked { schema, asks }
     }
 
     fn sized_forms(&mut self, asks: &mut Vec<Ask>) {
@@ -96,8 +112,9 @@ impl Gen {
 
     /// Two unions whose union has so many names, below so many sets.
     fn unions(&mut self) -> (Ty, Ty) {
-        let total = self.rng.from(2044, 2049);
-        let left = self.rng.from(5, 2040);
+        let most = self.limits.bytes;
+        let total = self.rng.from((most - 8) / 2, (most + 2) / 2);
+        let left = self.rng.from(5, most / 2 - 8);
         let overlap = self.rng.below(left.min(total - left)).min(3);
         let a = Ty::Ent(names(0, left));
         let b = Ty::Ent(names(left - overlap, total - left + overlap));
@@ -118,6 +135,7 @@ impl Gen {
         let unlike = self.rng.percent(40);
         let total = self.edge() - if unlike { 6 } else { 0 };
         let left = self.rng.from(600, 3500);
+        let left = self.scaled(left).min(total - 19);
         let big = union_of_length(left, 0);
         let other = union_of_length(total - 14 - left, 0);
         let required = self.rng.percent(50);
@@ -198,7 +216,10 @@ impl Gen {
     /// Action bodies around the largest: the literal is one byte longer.
     fn sized_literals(&mut self, schema: &mut Sch, asks: &mut Vec<Ask>) {
         for id in 0..3 {
-            let length = self.rng.from(4093, 4096 + self.rng.clone().below(20) / 19);
+            let most = self.limits.bytes;
+            let length = self
+                .rng
+                .from(most - 3, most + self.rng.clone().below(20) / 19);
             schema.actions.push(ActionEntry {
                 ty: 1,
                 id,
@@ -214,15 +235,88 @@ impl Gen {
         let types: Vec<Vec<u8>> = (0..n)
             .map(|at| {
                 let count = self.rng.from(20, 300);
-                Ty::Ent(names(at * 280, count)).form()
+                Ty::Ent(names(at * 280, self.scaled(count).max(1))).form()
             })
             .collect();
         let mode = self.rng.mode();
         asks.push(ask(FOLD, mode, 0, list_form(&types), Vec::new()));
     }
 
+    /// Members of a list around the largest, in some cases many of them.
+    fn sized_members(&mut self, asks: &mut Vec<Ask>) {
+        let few = self.rng.percent(60);
+        let most = if few { 3 } else { 12 };
+        for mode in 0..3 {
+            let count = self.rng.from(1, most);
+            let length = self.edge();
+            let mut list = vec![union_of_length(self.limits.bytes, 0).form(); count];
+            list[count - 1] = self.type_of_length(length);
+            asks.push(ask(FOLD, mode, 0, list_form(&list), Vec::new()));
+        }
+    }
+
+    /// Bodies of a schema around the largest, of one entity type or action.
+    fn sized_bodies(&mut self, schema: &mut Sch, asks: &mut Vec<Ask>) {
+        let body = union_of_length(self.edge() - 9, 0);
+        let attrs = vec![attr(1, self.rng.percent(50), body)];
+        self.hold(schema, attrs, asks);
+    }
+
+    /// A schema with one such body, and questions that find it.
+    pub fn hold(&mut self, schema: &mut Sch, attrs: Vec<Attr>, asks: &mut Vec<Ask>) {
+        match self.rng.percent(50) {
+            true => schema.entities.push(EntityEntry {
+                name: 2,
+                enumerated: self.rng.percent(20),
+                open: false,
+                attrs,
+            }),
+            false => schema.actions.push(ActionEntry {
+                ty: 1,
+                id: 0,
+                attrs,
+            }),
+        }
+        let entity = Ty::Ent(vec![2]).form();
+        for op in [LOOKUP, MAY_HAVE, NAMES] {
+            let name = if op == NAMES { 0 } else { 1 };
+            asks.push(ask(op, 0, name, entity.clone(), Vec::new()));
+        }
+        asks.push(ask(SUBTYPE, self.rng.mode(), 0, vec![1], vec![3]));
+        asks.push(ask(LITERAL, 0, 0, uid_form(1, 0), Vec::new()));
+        asks.push(ask(CONFORMS, 0, 0, entity, uid_form(2, 0)));
+    }
+
+    /// A function whose arguments have about as many bytes as a form may have:
+    /// no limit is theirs.
+    fn sized_arguments(&mut self, schema: &mut Sch, asks: &mut Vec<Ask>) {
+        let count = self.limits.bytes / 3 + self.rng.below(3);
+        schema.functions.push(FunctionEntry {
+            args: vec![(1, 0); count],
+            ..counted_function(5)
+        });
+        for arg in [Val::Bool(true), Val::Str(Vec::new())] {
+            let call = Val::Call(5, vec![arg]).form();
+            asks.push(ask(CONFORMS, 0, 0, Ty::Ext(7).form(), call));
+        }
+    }
+
+    /// Long forms below as many sets as there are levels for, and one more.
+    fn sized_chains(&mut self, asks: &mut Vec<Ask>) {
+        for _ in 0..2 {
+            let sets = self.limits.levels - self.rng.below(2);
+            let length = self.edge().max(sets + 5);
+            let odd = length - sets - (length - sets + 1) % 2;
+            let mut form = vec![7; length - odd];
+            form.extend(union_of_length(odd, 0).form());
+            asks.push(ask(CONVERT, 0, 0, form.clone(), Vec::new()));
+            asks.push(ask(BOUND, self.rng.mode(), 0, form.clone(), vec![0]));
+            asks.push(ask(CONSISTENT, 0, 0, vec![6], form));
+        }
+    }
+
     /// Entries and types as many as allowed, and one more.
-    pub fn job_of_counts(&mut self) -> Vec<u8> {
+    pub fn counted(&mut self) -> Asked {
         let mut schema = Sch::default();
         let mut asks = Vec::new();
         match self.rng.below(4) {
@@ -251,7 +345,17 @@ impl Gen {
         asks.push(ask(NAMES, 0, 0, Ty::Ent(names(3, 200)).form(), Vec::new()));
         let call = Val::Call(at / 4, Vec::new()).form();
         asks.push(ask(CONFORMS, 0, 0, vec![12, 7, 0], call));
-        job_form(&schema.form(), &asks)
+        let schema = schema.form();
+        Asked { schema, asks }
+    }
+
+    /// A schema of so many entity types and actions, and so many functions.
+    pub fn schema_of_counts(&mut self, entries: usize, functions: usize) -> Sch {
+        Sch {
+            entities: (0..entries).map(|at| self.counted_entity(at)).collect(),
+            actions: (0..entries).map(counted_action).collect(),
+            functions: (0..functions).map(counted_function).collect(),
+        }
     }
 
     fn counted_entity(&mut self, at: usize) -> EntityEntry {
@@ -259,51 +363,58 @@ impl Gen {
             name: 2 * at as u16,
             enumerated: at % 2 == 0,
             open: false,
-            attrs: vec![attr(1, true, Ty::Atom(4))],
+            attrs: match self.limits.levels {
+                1 => Vec::new(),
+                _ => vec![attr(1, true, Ty::Atom(4))],
+            },
         }
     }
 
     /// A schema and a list of 32,766 to 32,770 bytes, for calls outside jobs.
     pub fn large_blocks(&mut self) -> (Vec<u8>, Vec<u8>) {
         let target = self.rng.from(32_766, 32_770);
-        let mut schema = Sch::default();
-        let mut left = target - 6;
-        let mut at = 0;
+        let schema = self.large_schema(Sch::default(), target);
+        let mut types = Vec::new();
+        let mut left = target - 2;
         while left > 0 {
-            let length = chunk(left);
+            let length = self.chunk(left);
+            types.push(union_of_length(length - 2, 0).form());
+            left -= length;
+        }
+        (schema, list_form(&types))
+    }
+
+    /// A schema of no entity type with so many put in that it has that length.
+    pub fn large_schema(&self, mut schema: Sch, length: usize) -> Vec<u8> {
+        let mut left = length - schema.form().len();
+        while left > 0 {
+            let length = self.chunk(left);
             let body = union_of_length(length - 14, 0);
             schema.entities.push(EntityEntry {
-                name: 2 * at,
+                name: 2 * schema.entities.len() as u16,
                 enumerated: false,
                 open: false,
                 attrs: vec![attr(1, true, body)],
             });
             left -= length;
-            at += 1;
         }
-        let mut types = Vec::new();
-        let mut left = target - 2;
-        while left > 0 {
-            let length = chunk(left);
-            types.push(union_of_length(length - 2, 0).form());
-            left -= length;
-        }
-        (schema.form(), list_form(&types))
+        schema.form()
     }
-}
 
-/// How much of what is left one entry takes: never so much that less than 100
-/// bytes stay.
-fn chunk(left: usize) -> usize {
-    match left {
-        0..=4000 => left,
-        4001..=4100 => left - 2000,
-        _ => 4000,
+    /// How much of what is left one entry takes: never so much that less than
+    /// 100 bytes stay.
+    fn chunk(&self, left: usize) -> usize {
+        let most = self.limits.bytes - 96;
+        match left {
+            n if n <= most => left,
+            n if n <= most + 100 => left - most / 2,
+            _ => most,
+        }
     }
 }
 
 /// A union of exactly that length, below a set if the length is even.
-fn union_of_length(length: usize, start: usize) -> Ty {
+pub fn union_of_length(length: usize, start: usize) -> Ty {
     match length {
         0 | 1 => Ty::Atom(4),
         2 => Ty::Set(Box::new(Ty::Atom(4))),
@@ -314,7 +425,7 @@ fn union_of_length(length: usize, start: usize) -> Ty {
     }
 }
 
-fn counted_action(at: usize) -> ActionEntry {
+pub fn counted_action(at: usize) -> ActionEntry {
     ActionEntry {
         ty: 1,
         id: at as u16,
@@ -322,7 +433,7 @@ fn counted_action(at: usize) -> ActionEntry {
     }
 }
 
-fn counted_function(at: usize) -> FunctionEntry {
+pub fn counted_function(at: usize) -> FunctionEntry {
     FunctionEntry {
         name: at as u16,
         returns: Some(7),

@@ -4,8 +4,9 @@ use super::{Gen, ACTION_TYPES, ATTRS, ENTITIES, EXTENSIONS};
 use crate::trees::{Attr, Ty};
 
 impl Gen {
-    /// A type of at most `levels` levels.
+    /// A type of at most `levels` levels, and no more than the limits have.
     pub fn ty(&mut self, levels: usize) -> Ty {
+        let levels = levels.min(self.limits.levels);
         let composite = if levels > 1 { 100 } else { 55 };
         match self.rng.below(composite) {
             n @ 0..=27 => Ty::Atom((n / 4) as u8),
@@ -45,8 +46,12 @@ impl Gen {
         names
     }
 
-    /// Attributes with ascending names.
+    /// Attributes with ascending names; none where no level is left for them.
     pub fn attrs(&mut self, levels: usize) -> Vec<Attr> {
+        let levels = levels.min(self.limits.levels - 1);
+        if levels == 0 {
+            return Vec::new();
+        }
         let percent = *self.rng.pick(&[5, 20, 35, 35, 70]);
         let mut attrs = Vec::new();
         for name in ATTRS {
@@ -77,11 +82,12 @@ impl Gen {
         attrs
     }
 
-    /// Two related types below the same 10 to 16 levels, but for a flag here
-    /// and there.
+    /// Two related types below the same holders, about as many as there are
+    /// levels, but for a flag here and there.
     fn deep_pair(&mut self) -> (Ty, Ty) {
         let (mut a, mut b) = self.pair_from(2);
-        for _ in 0..self.rng.from(10, 16) {
+        let most = self.limits.levels;
+        for _ in 0..self.rng.from(most.saturating_sub(6), most) {
             (a, b) = self.held(a, b);
         }
         (a, b)
@@ -132,10 +138,16 @@ impl Gen {
         (a, b)
     }
 
-    /// A type of 13 to 18 levels.
+    /// A type of three levels less than the most to two more.
     pub fn deep_type(&mut self) -> Ty {
-        let mut ty = self.ty(2);
-        let levels = self.rng.from(13, 18);
+        let most = self.limits.levels;
+        let ty = self.ty(2);
+        let levels = self.rng.from(most.saturating_sub(3), most + 2);
+        self.below_holders(ty, levels)
+    }
+
+    /// The type below so many holders that it has so many levels.
+    pub fn below_holders(&mut self, mut ty: Ty, levels: usize) -> Ty {
         while ty.levels() < levels {
             ty = match self.rng.below(10) {
                 0..=4 => Ty::Set(Box::new(ty)),

@@ -4,8 +4,9 @@ use super::{Gen, ACTION_TYPES, ATTRS, ENTITIES, FUNCTIONS};
 use crate::trees::{FunctionEntry, Sch, Ty, Val};
 
 impl Gen {
-    /// Any value of at most `levels` levels.
+    /// Any value of at most `levels` levels, and no more than the limits have.
     pub fn value(&mut self, levels: usize) -> Val {
+        let levels = levels.min(self.limits.levels);
         let kinds = if levels > 1 { 8 } else { 5 };
         match self.rng.below(kinds) {
             0 => Val::Bool(self.rng.percent(50)),
@@ -179,10 +180,17 @@ impl Gen {
         }
     }
 
-    /// A nest of 13 to 18 levels around a value.
+    /// A nest around a value, of three levels less than the most to two more.
     pub fn deep_value(&mut self) -> Val {
-        let mut value = self.value(1);
-        for _ in 0..self.rng.from(12, 17) {
+        let most = self.limits.levels;
+        let value = self.value(1);
+        let holders = self.rng.from(most.saturating_sub(4), most + 1);
+        self.nest(value, holders)
+    }
+
+    /// The value below so many holders.
+    pub fn nest(&mut self, mut value: Val, holders: usize) -> Val {
+        for _ in 0..holders {
             value = match self.rng.below(4) {
                 0 => Val::Rec(vec![(*self.rng.pick(ATTRS), value)]),
                 1 => Val::Call(*self.rng.pick(FUNCTIONS), vec![value]),
@@ -202,7 +210,7 @@ impl Gen {
         let found: Vec<&FunctionEntry> = schema.functions.iter().filter(loops).collect();
         let f = found.first()?;
         let mut value = Val::Call(f.name, Vec::new());
-        for _ in 0..self.rng.from(1, 17) {
+        for _ in 0..self.rng.from(1, self.limits.levels + 1) {
             value = Val::Call(f.name, vec![value]);
         }
         Some((Ty::Ext(f.returns?), value))

@@ -21,7 +21,8 @@ impl Rules {
         if self.fault(120) && entry.enumerated {
             return None;
         }
-        find(&entry.attrs, attr)
+        let found = find(&entry.attrs, attr)?;
+        (!self.ends_early(300, [found.ty.levels()])).then_some(found)
     }
 
     /// One attribute folded over the types, ascending, until it is absent or
@@ -47,7 +48,7 @@ impl Rules {
             let Ok(step) = self.bound(self.or(122, mode, Mode::Strict), &ty, &next.ty) else {
                 return self.or(123, Folded::Absent, Folded::Found(required, ty));
             };
-            too_long |= step.form().len() > limit;
+            too_long |= self.capped(287, step.form().len()) > limit;
             if too_long && !self.fault(124) {
                 return self.or(125, Folded::TooLong, Folded::Absent);
             }

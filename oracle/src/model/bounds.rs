@@ -2,6 +2,7 @@
 
 use super::relations::find;
 use super::{Mode, Rules};
+use crate::limits::Limits;
 use crate::trees::{Attr, Ty};
 
 impl Rules {
@@ -29,7 +30,8 @@ impl Rules {
         match self.bound(self.or(232, mode, mode.tightened()), x, y) {
             Ok(element) => {
                 let set = Ty::Set(Box::new(element));
-                let long = self.fault_in_loose(222, mode) && set.form().len() > 4096;
+                let over = |set: &Ty| set.form().len() > Limits::STANDARD.bytes;
+                let long = self.fault_in_loose(222, mode) && over(&set);
                 Ok(if long { Ty::Atom(6) } else { set })
             }
             Err(reason) if self.leaves_untyped(mode, reason) => Ok(Ty::Atom(6)),
@@ -162,6 +164,9 @@ impl Rules {
         }
         let mut last = Ty::Atom(0);
         for (step, ty) in order.iter().enumerate() {
+            if self.fault(293) && last.form().len() > Limits::STANDARD.bytes {
+                last = Ty::Atom(0);
+            }
             let bound = self.bound(mode, &last, ty)?;
             let loosened = bound == Ty::Atom(6) && last != bound && **ty != bound;
             let next = loosened && self.fault_in_loose(248, mode);
@@ -170,7 +175,7 @@ impl Rules {
             }
             last = bound;
             let asked = !self.fault(116) && !(self.fault(117) && step == 0);
-            if asked && last.form().len() > limit {
+            if asked && self.capped(287, last.form().len()) > limit {
                 if !self.fault_in_loose(223, mode) || !is_set(&last) {
                     return Err(9);
                 }

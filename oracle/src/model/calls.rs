@@ -4,6 +4,7 @@ use super::attributes::Folded;
 use super::conformance::Walk;
 use super::relations::find;
 use super::{Mode, Rules};
+use crate::limits::Limits;
 use crate::questions::{operation::*, Call, Outcome, Part};
 use crate::trees::{Attr, Sch, Ty, Val};
 
@@ -22,14 +23,33 @@ fn said(yes: bool) -> Result<Outcome, u8> {
     })
 }
 
+/// The fault by which each operation does not ask its limits.
+const UNASKED: [u32; COUNT] = [301, 302, 264, 303, 304, 305, 265, 266, 306, 307, 308];
+
+/// Does the operation take a schema?
+pub fn takes_schema(op: u8) -> bool {
+    !matches!(op, DISJOINT | CONSISTENT | CONVERT)
+}
+
 impl Rules {
     pub fn answer(self, call: &Call<'_>) -> Outcome {
-        self.answer_under(call, &self.whole_schema(call.schema))
+        let limits = self.taken(call.limits);
+        let call = Call { limits, ..*call };
+        let schema = match self.limits_pass(&call) {
+            true => self.whole_schema(limits, call.schema),
+            false => None,
+        };
+        self.answer_under(&call, &schema)
+    }
+
+    fn limits_pass(self, call: &Call<'_>) -> bool {
+        let unasked = UNASKED.get(call.op as usize);
+        self.allowed(call.limits) || unasked.is_some_and(|fault| self.fault(*fault))
     }
 
     /// The same, where the schema has been read.
     pub fn answer_under(self, call: &Call<'_>, schema: &Option<Sch>) -> Outcome {
-        let outcome = match call.op {
+        let outcome = self.limited(call).and_then(|()| match call.op {
             SUBTYPE | BOUND => self.compared(call, schema),
             DISJOINT => self.disjoined(call, schema),
             LOOKUP | MAY_HAVE | NAMES => self.attributed(call, schema),
@@ -39,8 +59,29 @@ impl Rules {
             FOLD => self.folded(call, schema),
             LITERAL => self.literal_typed(call, schema),
             _ => Ok(Outcome::Nothing),
-        };
+        });
         outcome.unwrap_or_else(Outcome::Refused)
+    }
+
+    /// The first question of every call.
+    fn limited(self, call: &Call<'_>) -> Result<(), u8> {
+        if self.fault(262) {
+            self.mode_asked(call)?;
+        }
+        if self.fault(263) && takes_schema(call.op) {
+            self.mode_asked(call)?;
+            let schema = self.whole_schema(call.limits.nearest(), call.schema);
+            ask(2, schema.is_some())?;
+        }
+        ask(20, self.limits_pass(call))
+    }
+
+    /// The mode's question, where the operation takes one.
+    pub fn mode_asked(self, call: &Call<'_>) -> Result<(), u8> {
+        match call.op {
+            SUBTYPE | BOUND | FOLD => self.mode(call).map(|_| ()),
+            _ => Ok(()),
+        }
     }
 
     fn mode(self, call: &Call<'_>) -> Result<Mode, u8> {
@@ -52,12 +93,17 @@ impl Rules {
         }
     }
 
+    /// A type that the call is handed.
+    fn given(self, limits: Limits, form: &[u8]) -> Option<Ty> {
+        self.whole_type(self.kept_standard(limits, 249, 258), form)
+    }
+
     fn first(self, call: &Call<'_>) -> Result<Ty, u8> {
-        self.whole_type(call.t0).ok_or(3)
+        self.given(call.limits, call.t0).ok_or(3)
     }
 
     fn second(self, call: &Call<'_>) -> Result<Ty, u8> {
-        self.whole_type(call.t1).ok_or(4)
+        self.given(call.limits, call.t1).ok_or(4)
     }
 
     /// The mode and the schema, in that order.
@@ -71,7 +117,7 @@ impl Rules {
         }
         let mode = self.mode(call)?;
         if self.fault(181) {
-            ask(3, call.op == FOLD || self.whole_type(call.t0).is_some())?;
+            ask(3, call.op == FOLD || self.first(call).is_ok())?;
         }
         Ok((mode, schema.as_ref().ok_or(2)?))
     }
@@ -82,13 +128,22 @@ impl Rules {
             true => call.work.div_ceil(2),
             false => self.or(187, call.work / 2, call.work),
         };
-        let limit = self.or(186, half.min(4096), half);
+        let fault = match call.op {
+            FOLD => 253,
+            LOOKUP => 254,
+            _ => 255,
+        };
+        let bytes = self.or(fault, call.limits.bytes, Limits::STANDARD.bytes);
+        let limit = self.or(186, half.min(bytes), half);
         self.or(190, limit, limit.min(call.room))
     }
 
-    fn fitting(self, call: &Call<'_>, form: Vec<u8>) -> Result<Vec<u8>, u8> {
+    fn fitting(self, call: &Call<'_>, mut form: Vec<u8>) -> Result<Vec<u8>, u8> {
+        let fault = if call.op == LITERAL { 257 } else { 256 };
+        let bytes = self.or(fault, call.limits.bytes, Limits::STANDARD.bytes);
         let room = self.or(188, call.room, call.room.saturating_sub(1));
-        let room = self.or(189, room.min(4096), room);
+        let room = self.or(189, room.min(bytes), room);
+        form.truncate(self.capped(286, form.len()));
         match form.len() <= room {
             true => Ok(form),
             false => Err(self.or(198, 10, 9)),
@@ -105,7 +160,10 @@ impl Rules {
             self.second(call)?;
         }
         let (a, b) = (self.first(call)?, self.second(call)?);
+        let levels = [a.levels(), b.levels()];
         match call.op {
+            SUBTYPE if self.ends_early(294, levels) => said(false),
+            BOUND if self.ends_early(295, levels) => Err(15),
             SUBTYPE => {
                 let strict = self.fault_in_loose(238, mode);
                 said(self.subtype(if strict { Mode::Strict } else { mode }, &a, &b))
@@ -127,7 +185,7 @@ impl Rules {
 
     fn folded(self, call: &Call<'_>, schema: &Option<Sch>) -> Result<Outcome, u8> {
         let (mode, _) = self.mode_and_schema(call, schema)?;
-        let types = self.whole_list(call.t0).ok_or(3)?;
+        let types = self.whole_list(call.limits, call.t0).ok_or(3)?;
         let bound = self.fold(mode, &types, self.step_limit(call))?;
         self.written(call, bound.form())
     }
@@ -167,28 +225,32 @@ impl Rules {
     fn agreed(self, call: &Call<'_>, schema: &Option<Sch>) -> Result<Outcome, u8> {
         ask(2, schema.is_some() || !self.fault(193))?;
         if self.fault(184) {
-            let second = self.whole_type(call.t1);
-            ask(6, !second.is_some_and(|t| !self.plain(&t)))?;
+            let second = self.second(call);
+            ask(6, !second.is_ok_and(|t| !self.plain(&t)))?;
         }
         let (a, b) = (self.first(call)?, self.second(call)?);
         ask(6, self.plain(&b))?;
-        said(self.consistent(&a, &b))
+        let early = self.ends_early(296, [a.levels(), b.levels()]);
+        said(!early && self.consistent(&a, &b))
     }
 
     fn converted(self, call: &Call<'_>, schema: &Option<Sch>) -> Result<Outcome, u8> {
         ask(2, schema.is_some() || !self.fault(192))?;
         let ty = self.first(call)?;
+        ask(8, !self.ends_early(297, [ty.levels()]))?;
         self.written(call, self.convert(&ty).ok_or(8)?.form())
     }
 
     fn conformed(self, call: &Call<'_>, schema: &Option<Sch>) -> Result<Outcome, u8> {
         let schema = schema.as_ref().ok_or(2)?;
         if self.fault(183) {
-            ask(5, self.whole_value(call.t1).is_some())?;
+            ask(5, self.whole_value(call.limits, call.t1).is_some())?;
         }
         let ty = self.first(call)?;
-        let value = self.whole_value(call.t1).ok_or(5)?;
+        let value = self.whole_value(call.limits, call.t1).ok_or(5)?;
         match self.conforms(schema, &ty, &value) {
+            _ if self.ends_early(298, [value.levels()]) => said(false),
+            _ if self.ends_early(299, [ty.levels()]) => said(false),
             Walk::Unknown => Err(7),
             walk => said(walk == Walk::Yes),
         }
@@ -196,7 +258,7 @@ impl Rules {
 
     fn literal_typed(self, call: &Call<'_>, schema: &Option<Sch>) -> Result<Outcome, u8> {
         let schema = schema.as_ref().ok_or(2)?;
-        let value = self.whole_value(call.t0).ok_or(5)?;
+        let value = self.whole_value(call.limits, call.t0).ok_or(5)?;
         let (ty, id) = match value {
             Val::Uid(ty, id) => (ty, id),
             _ if self.fault(194) => return Ok(Outcome::Nothing),
@@ -207,32 +269,57 @@ impl Rules {
             Some(ty) => self.written(call, ty.form()),
         }
     }
-}
 
-/// The second entry of lookup.
-pub fn part(rules: Rules, schema: &[u8], form: &[u8], attr: u16) -> Part {
-    if rules.whole_schema(schema).is_none() {
-        return Part::Refused(2);
+    /// The second entry of lookup.
+    pub fn part(self, call: &Call<'_>) -> Part {
+        let limits = self.taken(call.limits);
+        let schema = self.whole_schema(limits, call.schema);
+        self.part_under(&Call { limits, ..*call }, &schema)
     }
-    let Some(ty) = rules.whole_type(form) else {
-        return Part::Refused(3);
-    };
-    let (Ty::Rec(_, attrs) | Ty::Act(_, attrs)) = &ty else {
-        return Part::Nothing;
-    };
-    let Some(found) = find(attrs, attr) else {
-        return Part::Nothing;
-    };
-    let body = found.ty.form();
-    let other = |a: &&Attr| rules.or(214, a.name < attr, a.ty != found.ty);
-    let before = attrs.iter().take_while(other);
-    let after: usize = attrs
-        .iter()
-        .skip(before.count())
-        .map(|a| a.ty.form().len())
-        .sum();
-    let first = form.windows(body.len()).position(|w| w == body);
-    let start = rules.or(215, Some(form.len() - after), first);
-    let start = start.expect("the body is a part of the form");
-    Part::Attribute(found.required, start..start + body.len())
+
+    /// The same, where the schema has been read.
+    pub fn part_under(self, call: &Call<'_>, schema: &Option<Sch>) -> Part {
+        if !self.allowed(call.limits) && !self.fault(267) {
+            return Part::Refused(20);
+        }
+        if schema.is_none() {
+            return Part::Refused(2);
+        }
+        let limits = self.or(292, call.limits, Limits::STANDARD);
+        let Some(ty) = self.given(limits, call.t0) else {
+            return Part::Refused(3);
+        };
+        self.part_of(&ty, call.t0, call.attr)
+    }
+
+    fn part_of(self, ty: &Ty, form: &[u8], attr: u16) -> Part {
+        let (Ty::Rec(_, attrs) | Ty::Act(_, attrs)) = ty else {
+            return Part::Nothing;
+        };
+        let Some(found) = find(attrs, attr) else {
+            return Part::Nothing;
+        };
+        let body = found.ty.form();
+        let other = |a: &&Attr| self.or(214, a.name < attr, a.ty != found.ty);
+        let before = attrs.iter().take_while(other);
+        let after: usize = attrs
+            .iter()
+            .skip(before.count())
+            .map(|a| a.ty.form().len())
+            .sum();
+        let first = form.windows(body.len()).position(|w| w == body);
+        let start = self.or(215, Some(form.len() - after), first);
+        let start = start.expect("the body is a part of the form");
+        Part::Attribute(found.required, start..start + body.len())
+    }
+
+    /// Is the workspace all zero after this outcome?
+    pub fn clears_work(self, outcome: &Outcome) -> bool {
+        !self.fault(284) || *outcome != Outcome::Refused(20)
+    }
+
+    /// Is the result buffer left as it was by this refusal?
+    pub fn spares_result(self, outcome: &Outcome) -> bool {
+        !self.fault(285) || *outcome != Outcome::Refused(20)
+    }
 }

@@ -2,6 +2,7 @@
 
 use super::read::Reading;
 use super::Rules;
+use crate::limits::Limits;
 use crate::questions::{Call, Outcome};
 
 struct Entry {
@@ -49,6 +50,7 @@ impl Rules {
                 (t0, t1) = (t1, t0);
             }
             calls.push(Call {
+                limits: Limits::STANDARD,
                 op: e.op,
                 mode: e.mode,
                 attr: e.attr,
@@ -93,13 +95,14 @@ pub fn lines(rules: Rules, input: &[u8]) -> Vec<u8> {
     let Some(calls) = rules.calls(input) else {
         return b"- 16 -\n".to_vec();
     };
-    let schema = calls.first().and_then(|c| rules.whole_schema(c.schema));
+    let schema = calls.first().map_or(&[] as &[u8], |c| c.schema);
+    let kept = rules.keep(Limits::STANDARD, schema);
     let mut out = String::new();
     if calls.is_empty() && rules.fault(212) {
         return b"- 16 -\n".to_vec();
     }
     for (index, call) in calls.iter().enumerate() {
-        let outcome = rules.answer_under(call, &schema);
+        let outcome = rules.answer_kept(&kept, call);
         out.push_str(&rules.line(index, &outcome));
         if rules.fault(211) && matches!(outcome, Outcome::Refused(_)) {
             break;

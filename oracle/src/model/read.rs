@@ -1,6 +1,7 @@
 //! Is a form whole, and which tree is it?
 
 use super::Rules;
+use crate::limits::Limits;
 use crate::trees::{ActionEntry, Attr, EntityEntry, FunctionEntry, Sch, Ty, Val};
 
 /// A position in the bytes of one block.
@@ -196,67 +197,74 @@ fn ascending<T: PartialOrd>(all: &[T], lax: bool) -> bool {
 }
 
 impl Rules {
-    fn type_levels(self) -> usize {
-        self.or(3, self.or(4, 16, 15), 17)
-    }
-
-    fn type_bytes(self) -> usize {
-        self.or(1, self.or(2, 4096, 4095), 4097)
-    }
-
-    pub fn whole_type(self, form: &[u8]) -> Option<Ty> {
+    pub fn whole_type(self, limits: Limits, form: &[u8]) -> Option<Ty> {
         let mut r = Reading::new(self, form);
-        if form.len() > self.type_bytes() {
+        let bytes = self.or(2, limits.bytes, limits.bytes.saturating_sub(1));
+        let levels = self.or(4, limits.levels, limits.levels.saturating_sub(1));
+        if form.len() > self.or(1, bytes, limits.bytes + 1) {
             return None;
         }
-        let ty = r.ty(self.type_levels())?;
+        let ty = r.ty(self.or(3, levels, limits.levels + 1))?;
         (r.at_end() || self.fault(12)).then_some(ty)
     }
 
-    pub fn whole_value(self, form: &[u8]) -> Option<Val> {
+    pub fn whole_value(self, limits: Limits, form: &[u8]) -> Option<Val> {
+        let limits = self.kept_standard(limits, 250, 259);
         let mut r = Reading::new(self, form);
-        if form.len() > self.or(15, 4096, 4097) {
+        if form.len() > self.or(15, limits.bytes, limits.bytes + 1) {
             return None;
         }
-        let value = r.val(self.or(16, 16, 17))?;
+        let value = r.val(self.or(16, limits.levels, limits.levels + 1))?;
         (r.at_end() || self.fault(22)).then_some(value)
     }
 
-    pub fn whole_list(self, form: &[u8]) -> Option<Vec<Ty>> {
+    /// The largest of a block, which no limit changes.
+    fn block(self, limits: Limits, fault: u32) -> usize {
+        self.or(fault, 32768, limits.bytes.saturating_mul(8))
+    }
+
+    pub fn whole_list(self, limits: Limits, form: &[u8]) -> Option<Vec<Ty>> {
         let mut r = Reading::new(self, form);
         let n = r.u16()? as usize;
-        if n > self.or(34, 64, 65) || form.len() > self.or(35, 32768, 32769) {
+        let most = self.or(291, 64, limits.levels.saturating_mul(4));
+        let largest = self.block(limits, 289);
+        if n > self.or(34, most, 65) || form.len() > self.or(35, largest, 32769) {
             return None;
         }
         let lengths = (0..n).map(|_| r.u16()).collect::<Option<Vec<u16>>>()?;
+        let limits = self.kept_standard(limits, 251, 260);
         let mut types = Vec::new();
         for length in lengths {
-            types.push(self.whole_type(r.run(length as usize)?)?);
+            types.push(self.whole_type(limits, r.run(length as usize)?)?);
         }
         (r.at_end() || self.fault(36)).then_some(types)
     }
 
-    pub fn whole_schema(self, form: &[u8]) -> Option<Sch> {
+    pub fn whole_schema(self, limits: Limits, form: &[u8]) -> Option<Sch> {
         let mut r = Reading::new(self, form);
         let (n, m, k) = (r.u16()? as usize, r.u16()? as usize, r.u16()? as usize);
-        let counted =
-            n <= self.or(23, 256, 257) && m <= self.or(24, 256, 257) && k <= self.or(25, 64, 65);
-        if !counted || form.len() > self.or(26, 32768, 32769) {
+        let most = self.or(290, 256, limits.levels.saturating_mul(16));
+        let functions = self.or(291, 64, limits.levels.saturating_mul(4));
+        let counted = n <= self.or(23, most, 257)
+            && m <= self.or(24, most, 257)
+            && k <= self.or(25, functions, 65);
+        if !counted || form.len() > self.or(26, self.block(limits, 288), 32769) {
             return None;
         }
         let entries = r.run(5 * n + 6 * m + 7 * k)?;
         let mut e = Reading::new(self, entries);
+        let limits = self.kept_standard(limits, 252, 261);
         let schema = Sch {
-            entities: self.entity_entries(n, &mut e, &mut r)?,
-            actions: self.action_entries(m, &mut e, &mut r)?,
-            functions: self.function_entries(k, &mut e, &mut r)?,
+            entities: self.entity_entries(limits, n, &mut e, &mut r)?,
+            actions: self.action_entries(limits, m, &mut e, &mut r)?,
+            functions: self.function_entries(limits, k, &mut e, &mut r)?,
         };
         (r.at_end() || self.fault(27)).then_some(schema)
     }
 
-    fn record(self, form: &[u8]) -> Option<(bool, Vec<Attr>)> {
-        let ty = self.whole_type(form)?;
-        if self.fault(46) && ty.levels() > 15 {
+    fn record(self, limits: Limits, form: &[u8]) -> Option<(bool, Vec<Attr>)> {
+        let ty = self.whole_type(limits, form)?;
+        if self.fault(46) && ty.levels() >= limits.levels {
             return None;
         }
         match ty {
@@ -268,6 +276,7 @@ impl Rules {
 
     fn entity_entries(
         self,
+        limits: Limits,
         n: usize,
         e: &mut Reading<'_>,
         bodies: &mut Reading<'_>,
@@ -276,7 +285,7 @@ impl Rules {
         for _ in 0..n {
             let (name, enumerated) = (e.u16()?, e.bit(28)?);
             let length = e.u16()? as usize;
-            let (open, attrs) = self.record(bodies.run(length)?)?;
+            let (open, attrs) = self.record(limits, bodies.run(length)?)?;
             let named = name % 2 == 0 || self.fault(29);
             if !named || (enumerated && open && !self.fault(30)) {
                 return None;
@@ -294,6 +303,7 @@ impl Rules {
 
     fn action_entries(
         self,
+        limits: Limits,
         n: usize,
         e: &mut Reading<'_>,
         bodies: &mut Reading<'_>,
@@ -302,7 +312,7 @@ impl Rules {
         for _ in 0..n {
             let (ty, id) = (e.u16()?, e.u16()?);
             let length = e.u16()? as usize;
-            let (open, attrs) = self.record(bodies.run(length)?)?;
+            let (open, attrs) = self.record(limits, bodies.run(length)?)?;
             if (ty % 2 == 0 && !self.fault(32)) || (open && !self.fault(33)) {
                 return None;
             }
@@ -316,6 +326,7 @@ impl Rules {
 
     fn function_entries(
         self,
+        limits: Limits,
         n: usize,
         e: &mut Reading<'_>,
         bodies: &mut Reading<'_>,
@@ -325,6 +336,9 @@ impl Rules {
             let (name, returns, extension) = (e.u16()?, e.bit(39)?, e.u16()?);
             let length = e.u16()? as usize;
             let args = self.arguments(bodies.run(length)?)?;
+            if self.fault(309) && length > limits.bytes {
+                return None;
+            }
             if !returns && extension != 0 && !self.fault(40) {
                 return None;
             }

@@ -1,7 +1,7 @@
 //! Claims about mode 2, which the model judges: its bounds and folds beside
 //! the published permissive ones, order and conformance.
 
-use super::{actions_alike, conforms, given, has_set, Given, Tallies};
+use super::{actions_alike, conforms, given, has_set, Given, Tallies, STANDARD};
 use crate::forms::{read_type, write_type, Schema};
 use crate::loose::{bound, bound_by_published, is_subtype, permissive, untyped, Formed};
 use crate::model::{Mode, Rules};
@@ -20,7 +20,7 @@ pub(super) fn claims(tallies: &mut Tallies, schema: &Schema, types: [&Given; 3],
     beside_others(tallies, schema, [a, b], &joined);
     below_permissive(tallies, schema, [a, b], &joined);
     of_sets(tallies, [a, b], &joined);
-    let ty = joined.ok().and_then(|form| read_type(&form));
+    let ty = joined.ok().and_then(|form| read_type(STANDARD, &form));
     if let Some(joined) = &ty {
         above(tallies, schema, [a, b], joined, value);
     }
@@ -40,7 +40,7 @@ fn alone(tallies: &mut Tallies, schema: &Schema, types: [&Given; 2], joined: &Fo
     let Ok(form) = joined else { return };
     let short = form.len() <= a.form.len() + b.form.len();
     claim("loose: a bound is no longer than both together", short);
-    let whole = read_type(form).is_some() || form.len() > 4096;
+    let whole = read_type(STANDARD, form).is_some() || form.len() > STANDARD.bytes;
     claim("loose: a bound is whole but for its length", whole);
 }
 
@@ -90,7 +90,8 @@ fn below_permissive(tallies: &mut Tallies, schema: &Schema, types: [&Given; 2], 
     };
     let long = form.len() >= upper.len();
     claim("loose: a bound is no shorter than the permissive one", long);
-    if let (Some(lower), Some(upper)) = (read_type(form), read_type(&upper)) {
+    let [lower, upper] = [form, &upper].map(|f| read_type(STANDARD, f));
+    if let (Some(lower), Some(upper)) = (lower, upper) {
         let below = under(schema, &lower, &upper);
         claim("loose: a bound is below the permissive one", below);
         let same = lower == upper;
