@@ -6,6 +6,7 @@ use crate::library::{self, Checked, OWN};
 use crate::timing::{consuming, repeated, Timed};
 use oracle::cedar_policy_core::ast::RestrictedExpr;
 use oracle::forms::{plain, read_list, read_schema, read_type, read_value, Schema};
+use oracle::limits::Limits;
 use oracle::published;
 use oracle::questions::{operation::*, Call};
 use oracle::smol_str::SmolStr;
@@ -14,6 +15,7 @@ use oracle::ValidationMode::Permissive;
 
 /// One question of one size, owned.
 pub struct Case {
+    pub limits: Limits,
     pub operation: &'static str,
     pub input: String,
     pub op: u8,
@@ -27,13 +29,11 @@ impl Case {
     pub fn call(&self) -> Call<'_> {
         Call {
             op: self.op,
-            mode: 1,
             attr: self.attr,
             schema: &self.schema,
             t0: &self.t0,
             t1: &self.t1,
-            room: library::ROOM,
-            work: library::WORK,
+            ..library::call_under(self.limits)
         }
     }
 
@@ -45,7 +45,7 @@ impl Case {
 
     fn decoded(&self) -> Decoded {
         Decoded {
-            schema: read_schema(&self.schema).expect("a whole schema"),
+            schema: read_schema(self.limits, &self.schema).expect("a whole schema"),
             attr: SmolStr::from_number(self.attr),
         }
     }
@@ -53,8 +53,9 @@ impl Case {
     /// The published function, its inputs decoded before.
     pub fn published(&self) -> Timed<'_> {
         let Decoded { schema, attr } = self.decoded();
-        let first = || read_type(&self.t0).expect("a whole type");
-        let second = || read_type(&self.t1).expect("a whole type");
+        let first = || read_type(self.limits, &self.t0).expect("a whole type");
+        let second = || read_type(self.limits, &self.t1).expect("a whole type");
+        let value = |form| read_value(self.limits, form).expect("a whole value");
         match self.op {
             SUBTYPE => {
                 let (a, b) = (first(), second());
@@ -89,15 +90,15 @@ impl Case {
                 consuming(move || a.clone(), published::convert)
             }
             CONFORMS => {
-                let (a, v) = (first(), read_value(&self.t1).expect("a whole value"));
+                let (a, v) = (first(), value(&self.t1));
                 repeated(move || published::typecheck_restricted_expr(&schema, &a, &v))
             }
             FOLD => {
-                let list = read_list(&self.t0).expect("a whole list");
+                let list = read_list(self.limits, &self.t0).expect("a whole list");
                 repeated(move || published::reduce_to_least_upper_bound(&schema, &list, Permissive))
             }
             _ => {
-                let Some(RestrictedExpr::Euid(uid)) = read_value(&self.t0) else {
+                let RestrictedExpr::Euid(uid) = value(&self.t0) else {
                     panic!("a literal's uid")
                 };
                 repeated(move || published::euid_literal(&schema, &uid))
@@ -107,15 +108,29 @@ impl Case {
 
     /// The library's entry, which checks the schema at every call.
     pub fn unchecked(&self) -> Timed<'_> {
-        let (mut out, mut work) = library::buffers();
+        let (mut out, mut work) = library::buffers(self.limits);
         repeated(move || library::entry(&self.call(), &mut out, &mut work))
     }
 
     /// The library with a schema that was checked before.
     pub fn checked(&self) -> Timed<'_> {
-        let (mut out, mut work) = library::buffers();
-        let check = Checked::of(&self.schema);
+        let (mut out, mut work) = library::buffers(self.limits);
+        let check = Checked::of(self.limits, &self.schema);
         repeated(move || library::through(check, &self.call(), &mut out, &mut work))
+    }
+
+    /// The answers must be the same before anything is timed.
+    pub fn same_answer(&self) {
+        let call = self.call();
+        let told = oracle::questions::answer(&self.asked());
+        let (mut out, mut work) = library::buffers(self.limits);
+        let number = library::entry(&call, &mut out, &mut work);
+        let entry = library::outcome(number, call.t0, &out);
+        let check = Checked::of(self.limits, &self.schema);
+        let number = library::through(check, &call, &mut out, &mut work);
+        let through = library::outcome(number, call.t0, &out);
+        assert_eq!(told, entry, "{} {}", self.operation, self.input);
+        assert_eq!(told, through, "{} {}", self.operation, self.input);
     }
 }
 
@@ -133,6 +148,7 @@ fn of_size(size: Size) -> Vec<Case> {
     let schema = inputs::schema(size).form();
     let side = |s: u8| inputs::record(size.width, size.levels, s).form();
     let case = |operation, input: &str, op, attr, t0: Vec<u8>, t1: Vec<u8>| Case {
+        limits: Limits::STANDARD,
         operation,
         input: format!("{}, {}", size.name, input),
         op,

@@ -5,6 +5,7 @@ use crate::inputs::{self, WIDE};
 use crate::library::{self, Checked};
 use crate::timing::{best, best_run, repeated, Timed};
 use oracle::jobs::{lines, JOB_BYTES};
+use oracle::limits::Limits;
 use oracle::programs::ask;
 use oracle::questions::{operation::*, Call};
 use oracle::trees::{job_form, Ask, Sch, Ty};
@@ -68,6 +69,7 @@ fn in_jobs(schema: &[u8], asks: &[Ask]) -> [f64; 2] {
 /// Nanoseconds of a library call: with the schema checked before, and with the
 /// check in the call.
 fn in_calls(schema: &[u8], ask: &Ask) -> Vec<f64> {
+    let limits = Limits::STANDARD;
     let call = Call {
         op: ask.op,
         mode: ask.mode,
@@ -75,11 +77,10 @@ fn in_calls(schema: &[u8], ask: &Ask) -> Vec<f64> {
         schema,
         t0: &ask.t0,
         t1: &ask.t1,
-        room: library::ROOM,
-        work: library::WORK,
+        ..library::call_under(limits)
     };
-    let check = Checked::of(schema);
-    let (mut out, mut work) = library::buffers();
+    let check = Checked::of(limits, schema);
+    let (mut out, mut work) = library::buffers(limits);
     let checked = best(&mut [repeated(|| {
         library::through(check, &call, &mut out, &mut work)
     })]);

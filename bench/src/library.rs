@@ -1,20 +1,34 @@
 //! The static library, as the oracle's harness calls it.
 
-use oracle::harness::{Candidate, Reply};
+use oracle::candidates::{Candidate, Reply};
 use oracle::library::linked::{CHECKED, ENTRIES};
 use oracle::library::{CheckedLibrary, Library};
+use oracle::limits::Limits;
 use oracle::questions::{Call, Outcome, Part};
 
 /// The second entry of lookup, beside the operations of a job.
 pub const OWN: u8 = 11;
 
-/// A result buffer that holds any answer, a workspace that serves any step.
-pub const ROOM: usize = 4096;
-pub const WORK: usize = 8192;
+/// A call with nothing in it, in permissive mode: its result buffer holds any
+/// answer under its limits, its workspace serves any step.
+pub fn call_under(limits: Limits) -> Call<'static> {
+    Call {
+        limits,
+        op: 0,
+        mode: 1,
+        attr: 0,
+        schema: &[],
+        t0: &[],
+        t1: &[],
+        room: limits.bytes,
+        work: 2 * limits.bytes,
+    }
+}
 
-/// The buffers of a case. Nothing clears them between calls but the library.
-pub fn buffers() -> (Vec<u8>, Vec<u8>) {
-    (vec![0; ROOM], vec![0; WORK])
+/// The buffers of a call. Nothing clears them between calls but the library.
+pub fn buffers(limits: Limits) -> (Vec<u8>, Vec<u8>) {
+    let Call { room, work, .. } = call_under(limits);
+    (vec![0; room], vec![0; work])
 }
 
 const THROUGH: CheckedLibrary = CheckedLibrary(ENTRIES, CHECKED);
@@ -24,8 +38,8 @@ const THROUGH: CheckedLibrary = CheckedLibrary(ENTRIES, CHECKED);
 pub struct Checked(u64);
 
 impl Checked {
-    pub fn of(schema: &[u8]) -> Checked {
-        Checked(THROUGH.check(schema))
+    pub fn of(limits: Limits, schema: &[u8]) -> Checked {
+        Checked(THROUGH.check(limits, schema))
     }
 }
 
@@ -40,7 +54,7 @@ pub fn entry(call: &Call<'_>, out: &mut [u8], work: &mut [u8]) -> Answer {
     let mut library = Library(ENTRIES);
     match call.op {
         OWN => {
-            let part = library.part(call.schema, call.t0, call.attr);
+            let part = library.part(call);
             Answer::Part(part.expect("the library has the second entry"))
         }
         _ => Answer::Reply(library.call(call, out, work)),
@@ -50,7 +64,7 @@ pub fn entry(call: &Call<'_>, out: &mut [u8], work: &mut [u8]) -> Answer {
 /// The same with a schema that was checked before.
 pub fn through(check: Checked, call: &Call<'_>, out: &mut [u8], work: &mut [u8]) -> Answer {
     match call.op {
-        OWN => Answer::Part(THROUGH.part_with(check.0, call.schema, call.t0, call.attr)),
+        OWN => Answer::Part(THROUGH.part_with(check.0, call)),
         _ => Answer::Reply(THROUGH.call_with(check.0, call, out, work)),
     }
 }

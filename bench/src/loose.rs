@@ -6,6 +6,7 @@ use crate::figure;
 use crate::inputs::{atom, record};
 use crate::library::{self, Checked};
 use crate::timing::{best, repeated, Timed};
+use oracle::limits::Limits;
 use oracle::questions::{answer, operation::*, Call, Outcome};
 use oracle::trees::{list_form, Attr, Ty};
 
@@ -15,6 +16,7 @@ const LOOSE: u8 = 2;
 
 /// A bound of two types, or a fold of them in turn, under an empty schema.
 struct Question {
+    limits: Limits,
     what: String,
     op: u8,
     t0: Vec<u8>,
@@ -24,6 +26,7 @@ struct Question {
 impl Question {
     fn bound(what: &str, side: impl Fn(u8) -> Ty) -> Question {
         Question {
+            limits: Limits::STANDARD,
             what: what.to_string(),
             op: BOUND,
             t0: side(0).form(),
@@ -34,10 +37,18 @@ impl Question {
     fn fold(what: &str, types: u8, side: impl Fn(u8) -> Ty) -> Question {
         let list: Vec<Vec<u8>> = (0..types).map(|i| side(i % 2).form()).collect();
         Question {
+            limits: Limits::STANDARD,
             what: format!("{what}, fold of {types}"),
             op: FOLD,
             t0: list_form(&list),
             t1: Vec::new(),
+        }
+    }
+
+    fn under_the_largest(self) -> Question {
+        Question {
+            limits: Limits::LARGEST,
+            ..self
         }
     }
 
@@ -49,28 +60,27 @@ impl Question {
         Call {
             op: self.op,
             mode,
-            attr: 0,
             schema: &SCHEMA,
             t0: &self.t0,
             t1: &self.t1,
-            room: library::ROOM,
-            work: library::WORK,
+            ..library::call_under(self.limits)
         }
     }
 
     /// The library's answer, which must be the oracle's.
     fn answer(&self, mode: u8) -> Outcome {
         let call = self.call(mode);
-        let (mut out, mut work) = library::buffers();
-        let number = library::through(Checked::of(&SCHEMA), &call, &mut out, &mut work);
+        let (mut out, mut work) = library::buffers(self.limits);
+        let check = Checked::of(self.limits, &SCHEMA);
+        let number = library::through(check, &call, &mut out, &mut work);
         let told = library::outcome(number, call.t0, &out);
         assert_eq!(told, answer(&call), "{}, mode {mode}", self.what);
         told
     }
 
     fn timed(&self, mode: u8) -> Timed<'_> {
-        let check = Checked::of(&SCHEMA);
-        let (mut out, mut work) = library::buffers();
+        let check = Checked::of(self.limits, &SCHEMA);
+        let (mut out, mut work) = library::buffers(self.limits);
         repeated(move || library::through(check, &self.call(mode), &mut out, &mut work))
     }
 }
@@ -135,6 +145,8 @@ fn alike() -> Vec<Question> {
         Question::bound("14 sets of a record of 4", |s| chain(14, record(4, 2, s))),
         Question::bound("16 levels, sets and records of 4", |s| turns(4, 7, s)),
         Question::bound("16 levels, sets and records of 80", |s| turns(80, 7, s)),
+        Question::bound("32 levels, sets and records of 77", |s| turns(77, 15, s))
+            .under_the_largest(),
         Question::bound("sets of actions of 4 attributes", |s| set(action(4, s))),
         Question::bound("sets of actions of 200", |s| set(action(200, s))),
         Question::bound("records of 4 sets of actions of 50", |s| {
@@ -167,6 +179,8 @@ fn untyped() -> Vec<Question> {
         let what = format!("{} levels, sets and records of 80", side(0).levels());
         all.push(Question::bound(&what, side));
     }
+    let deepest = |s| nested(77, 15, &|_| unlike(s));
+    all.push(Question::bound("32 levels, sets and records of 77", deepest).under_the_largest());
     for records in [1, 3, 6] {
         let side = |s| nested(16, records, &|_| unlike_action(4, s));
         let what = format!("{} levels, with sets of unlike actions", side(0).levels());

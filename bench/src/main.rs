@@ -5,25 +5,12 @@ mod cases;
 mod growth;
 mod inputs;
 mod jobs;
+mod largest;
 mod library;
 mod loose;
 mod timing;
 
 use cases::Case;
-
-/// The answers must be the same before anything is timed.
-fn same_answer(case: &Case) {
-    let call = case.call();
-    let told = oracle::questions::answer(&case.asked());
-    let (mut out, mut work) = library::buffers();
-    let number = library::entry(&call, &mut out, &mut work);
-    let entry = library::outcome(number, call.t0, &out);
-    let check = library::Checked::of(&case.schema);
-    let number = library::through(check, &call, &mut out, &mut work);
-    let through = library::outcome(number, call.t0, &out);
-    assert_eq!(told, entry, "{} {}", case.operation, case.input);
-    assert_eq!(told, through, "{} {}", case.operation, case.input);
-}
 
 /// Three figures that a person reads at a glance.
 fn figure(ns: f64) -> String {
@@ -35,7 +22,7 @@ fn figure(ns: f64) -> String {
 
 fn main() {
     let cases = cases::all();
-    cases.iter().for_each(same_answer);
+    cases.iter().for_each(Case::same_answer);
     println!("| Operation | Input | Rust, ns | schema checked, ns | ratio | schema in each call, ns | ratio |");
     println!("|---|---|---|---|---|---|---|");
     for case in &cases {
@@ -56,6 +43,8 @@ fn main() {
     growth::print();
     println!();
     loose::print();
+    println!();
+    largest::print();
     println!();
     jobs::print();
 }
