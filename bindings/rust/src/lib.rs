@@ -78,6 +78,15 @@ pub enum Mode {
     Loose = 2,
 }
 
+/// A function of the library that asks something of two types.
+type OfTwo = unsafe extern "C" fn(usize, usize, *const u8, usize, *const u8, usize) -> u64;
+
+fn of_two(ask: OfTwo, limits: Limits, t0: &[u8], t1: &[u8]) -> Result<bool, Refusal> {
+    let (levels, bytes) = (limits.levels(), limits.bytes());
+    // Each pointer stands with the length of its slice.
+    yes_or_no(unsafe { ask(levels, bytes, t0.as_ptr(), t0.len(), t1.as_ptr(), t1.len()) })
+}
+
 /// Whether both types are of kind 10 or 11 and share no name, so that no value
 /// has both. A no says nothing.
 ///
@@ -88,17 +97,7 @@ pub enum Mode {
 /// assert_eq!(are_types_disjoint(Limits::default(), &two, &four), Ok(true));
 /// ```
 pub fn are_types_disjoint(limits: Limits, t0: &[u8], t1: &[u8]) -> Result<bool, Refusal> {
-    // Each pointer stands with the length of its slice.
-    yes_or_no(unsafe {
-        ffi::tirncheav_are_types_disjoint(
-            limits.levels(),
-            limits.bytes(),
-            t0.as_ptr(),
-            t0.len(),
-            t1.as_ptr(),
-            t1.len(),
-        )
-    })
+    of_two(ffi::tirncheav_are_types_disjoint, limits, t0, t1)
 }
 
 /// Whether a type is consistent with a plain one, by the Rust's test: neither
@@ -111,17 +110,7 @@ pub fn are_types_disjoint(limits: Limits, t0: &[u8], t1: &[u8]) -> Result<bool, 
 /// assert_eq!(is_consistent_with(Limits::default(), &[4], &[1]), Err(Refusal::Plain));
 /// ```
 pub fn is_consistent_with(limits: Limits, t0: &[u8], t1: &[u8]) -> Result<bool, Refusal> {
-    // Each pointer stands with the length of its slice.
-    yes_or_no(unsafe {
-        ffi::tirncheav_is_consistent_with(
-            limits.levels(),
-            limits.bytes(),
-            t0.as_ptr(),
-            t0.len(),
-            t1.as_ptr(),
-            t1.len(),
-        )
-    })
+    of_two(ffi::tirncheav_is_consistent_with, limits, t0, t1)
 }
 
 /// The core type of a type, written to the front of `out`.

@@ -17,6 +17,7 @@ pub standard-allowed : allowed standard ≡ true
 standard-allowed = refl
 
 module _ (lim : Limits) (h : allowed lim ≡ true) where
+  -- Both limits are within their ranges.
   in-ranges : T (leb 1 (lim .levels) && leb (lim .levels) mostLevels) × T (leb fewestBytes (lim .bytes) && leb (lim .bytes) mostBytes)
   in-ranges =
       T-and (leb 1 (lim .levels) && leb (lim .levels) mostLevels) (leb fewestBytes (lim .bytes) && leb (lim .bytes) mostBytes) (subst T (sym h) tt)

@@ -64,6 +64,7 @@ packed-limits o n =
     let levels = allowed-levels (asLimits (o .limits)) (n .fair) .1 in
     same-limits (omega (arith, levels, both .1)) (omega (arith, levels, both .1))
 
+-- The number of a check tells the limits that it was made under.
 pub limits-told : (l : LimitsStruct) (b : List ℕ) → allowed (asLimits l) ≡ true → limitsIn (checkNumber (checked l b)) ≡ l
 limits-told l b fair =
     ap limitsIn (number-packed l b fair) ∙ packed-limits (offsetsOf (checked l b)) (near l b (offsetsOf (checked l b)) fair refl) ∙ own-limits l b
