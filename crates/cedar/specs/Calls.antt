@@ -22,7 +22,7 @@ use Rattle.cedar.specs.Attribute.{ownAttr, lookup, mayHave, allNames}
 use Rattle.cedar.specs.Consistency.{plain, consistent}
 use Rattle.cedar.specs.Conversion.{convert}
 use Rattle.cedar.specs.Literal.{literal}
-use Rattle.cedar.specs.Conformance.{Verdict, holds, fails, failsInside, unknown, Counts, shorter, conforms, asUid}
+use Rattle.cedar.specs.Conformance.{Verdict, holds, fails, failsInside, unknown, Counts, shorter, exact, conforms, asUid}
 
 -- One question: its number where nothing answers it, else the call goes on with the answer.
 abbrev pub ask : {A : Type 0} → ℕ → Option A → (A → Outcome) → Outcome
@@ -176,3 +176,7 @@ conformsBy c lim schema t v =
 -- Part 9, `typecheck_restricted_expr`: arguments pairwise to the shorter end.
 abbrev pub conformsCall : Limits → List ℕ → List ℕ → List ℕ → Outcome
 conformsCall lim schema t v = conformsBy shorter lim schema t v
+
+-- Full conformance: part 9's walk, in which a call with another count than its function declares is a no.
+abbrev pub fullCall : Limits → List ℕ → List ℕ → List ℕ → Outcome
+fullCall lim schema t v = conformsBy exact lim schema t v

@@ -137,7 +137,8 @@ argExtension argLong = none
 argExtension argString = none
 argExtension (argExt e) = some e
 
--- What a call may have besides the arguments that its function declares: `shorter` walks both lists to the shorter end.
+-- How many arguments a call may have: any number, both lists being walked to the shorter end, or exactly as many as its function
+-- declares.
 pub data Counts : Type 0 where
   shorter exact : Counts
 

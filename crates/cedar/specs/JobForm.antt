@@ -10,15 +10,15 @@ use Rattle.cedar.specs.Table.{rows}
 use Rattle.cedar.specs.Limits.{blockBytes}
 use Rattle.cedar.specs.Whole.{within}
 
--- The operations 0 to 10, in the order of their numbers.
+-- The operations 0 to 11, in the order of their numbers.
 pub data Operation : Type 0 where
-  subtypeOp boundOp disjointOp lookupOp mayHaveOp namesOp consistentOp convertOp conformsOp foldOp literalOp : Operation
+  subtypeOp boundOp disjointOp lookupOp mayHaveOp namesOp consistentOp convertOp conformsOp foldOp literalOp fullOp : Operation
 
 -- The operation of a number.
 abbrev pub operationOf : ℕ → Option Operation
 operationOf k =
     getD (some subtypeOp ∷ some boundOp ∷ some disjointOp ∷ some lookupOp ∷ some mayHaveOp ∷ some namesOp ∷ some consistentOp ∷ some convertOp ∷ some
-    conformsOp ∷ some foldOp ∷ some literalOp ∷ []) k none
+    conformsOp ∷ some foldOp ∷ some literalOp ∷ some fullOp ∷ []) k none
 
 -- Only subtype, bound and fold take a mode.
 abbrev pub takesMode : Operation → Bool
@@ -33,6 +33,7 @@ takesMode convertOp = false
 takesMode conformsOp = false
 takesMode foldOp = true
 takesMode literalOp = false
+takesMode fullOp = false
 
 -- Only lookup and may-have take an attribute.
 abbrev pub takesAttribute : Operation → Bool
@@ -47,8 +48,9 @@ takesAttribute convertOp = false
 takesAttribute conformsOp = false
 takesAttribute foldOp = false
 takesAttribute literalOp = false
+takesAttribute fullOp = false
 
--- Subtype, bound, disjoint, consistent and conforms take two bodies, the others one.
+-- Subtype, bound, disjoint, consistent and both conformances take two bodies, the others one.
 abbrev pub takesSecond : Operation → Bool
 takesSecond subtypeOp = true
 takesSecond boundOp = true
@@ -61,6 +63,7 @@ takesSecond convertOp = false
 takesSecond conformsOp = true
 takesSecond foldOp = false
 takesSecond literalOp = false
+takesSecond fullOp = true
 
 -- A question: its operation, mode number, attribute name, and the length of its first body.
 pub record Question : Type 0 where

@@ -37,3 +37,5 @@ pub mod Sequence
 pub mod SequenceExample
 pub mod Starred
 pub mod Loose
+pub mod Full
+pub mod FullExample

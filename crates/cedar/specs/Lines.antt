@@ -8,9 +8,9 @@ use Rattle.cedar.specs.Limits.{Limits, standard}
 use Rattle.cedar.specs.Result.{badJob}
 use Rattle.cedar.specs.Outcome.{Outcome, refused, said, nothing, typed, attribute, named, bytesOf}
 use Rattle.cedar.specs.Calls.{literalCall, disjointCall, subtypeCall, boundCall, foldCall, lookupCall, mayHaveCall, namesCall, consistentCall}
-use Rattle.cedar.specs.Calls.{convertCall, conformsCall}
+use Rattle.cedar.specs.Calls.{convertCall, conformsCall, fullCall}
 use Rattle.cedar.specs.JobForm.{Operation, subtypeOp, boundOp, disjointOp, lookupOp, mayHaveOp, namesOp, consistentOp, convertOp, conformsOp, foldOp}
-use Rattle.cedar.specs.JobForm.{literalOp, Question, wholeJob}
+use Rattle.cedar.specs.JobForm.{literalOp, fullOp, Question, wholeJob}
 
 -- The bytes of a job's workspace.
 abbrev pub jobWork : ℕ
@@ -33,6 +33,7 @@ askCall convertOp lim m a s x y = convertCall lim x jobRoom
 askCall conformsOp lim m a s x y = conformsCall lim s x y
 askCall foldOp lim m a s x y = foldCall lim m s x jobRoom jobWork
 askCall literalOp lim m a s x y = literalCall lim s x jobRoom
+askCall fullOp lim m a s x y = fullCall lim s x y
 
 -- The outcome of a question.
 abbrev pub outcomeOf : List ℕ → Question × (List ℕ × List ℕ) → Outcome

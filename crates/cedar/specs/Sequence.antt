@@ -134,7 +134,8 @@ pub record Kept (lim : Limits) (c : Counts) (schema t v : List ℕ) : Type 0 whe
       → (a : ℕ) → mayHaveCall lim schema a t ≡ said false → attributeOf lim a w ≡ none
 
 -- The claim: under one schema, any bytes, in every run from types given, any bytes, a value that conforms to a listed type keeps
--- what is said of it for every listed type that was made from that one. 01's limits are `standard`, its count of arguments `shorter`.
+-- what is said of it for every listed type that was made from that one. 01's limits are `standard`, its count of arguments `shorter`;
+-- full conformance is by `exact`.
 abbrev pub RunKeeps : Limits → Type 0
 RunKeeps lim = (c : Counts) (schema : List ℕ) (given : List (List ℕ)) (steps : List Step) → Bytes schema → EachBytes given
     → (i j : ℕ) (x y : Listed) → standing (run lim schema given steps) i ≡ some x → standing (run lim schema given steps) j ≡ some y

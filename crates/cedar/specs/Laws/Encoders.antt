@@ -9,7 +9,7 @@ use Rattle.cedar.specs.Bytes.{u16, flag}
 use Rattle.cedar.specs.TypeForm.{enc}
 use Rattle.cedar.specs.SchemaForm.{encBody}
 use Rattle.cedar.specs.JobForm.{Operation, subtypeOp, boundOp, disjointOp, lookupOp, mayHaveOp, namesOp, consistentOp, convertOp, conformsOp, foldOp}
-use Rattle.cedar.specs.JobForm.{literalOp, Question, Job}
+use Rattle.cedar.specs.JobForm.{literalOp, fullOp, Question, Job}
 
 module _ {H A : Type 0} where
   -- The entries of a table.
@@ -98,6 +98,7 @@ operationCode convertOp = 7
 operationCode conformsOp = 8
 operationCode foldOp = 9
 operationCode literalOp = 10
+operationCode fullOp = 11
 
 -- A question's entry as bytes.
 abbrev pub writeQuestion : Question → ℕ → List ℕ

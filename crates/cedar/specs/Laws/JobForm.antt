@@ -12,7 +12,7 @@ use lib.Seq.{drop-at, take-at, take-append-seam, drop-append-seam, length-take-l
 use Rattle.cedar.specs.Bytes.{u16, _>>=_, guard, byte, word, finish, Bytes}
 use Rattle.cedar.specs.Table.{rows}
 use Rattle.cedar.specs.JobForm.{Operation, subtypeOp, boundOp, disjointOp, lookupOp, mayHaveOp, namesOp, consistentOp, convertOp, conformsOp, foldOp}
-use Rattle.cedar.specs.JobForm.{literalOp, operationOf}
+use Rattle.cedar.specs.JobForm.{literalOp, fullOp, operationOf}
 use Rattle.cedar.specs.JobForm.{takesMode, takesAttribute, takesSecond, Question, takenOrZero, readQuestion, anyQuestion, splitBodies, Job, parseJob}
 use Rattle.cedar.specs.Laws.Encoders.{heads, tails, operationCode, writeQuestion, joinBodies, encJob}
 use Rattle.cedar.specs.Laws.Tests.{T-and, and-T, none-some}
@@ -31,6 +31,7 @@ operationOf-code convertOp = refl
 operationOf-code conformsOp = refl
 operationOf-code foldOp = refl
 operationOf-code literalOp = refl
+operationOf-code fullOp = refl
 
 code-of : (k : ℕ) (o p : Operation) → some p ≡ some o → operationCode p ≡ k → operationCode o ≡ k
 code-of k o p e q = ap operationCode (sym (Option·some-injective _ _ e)) ∙ q
@@ -47,7 +48,8 @@ operationCode-of (suc (suc (suc (suc (suc (suc (suc zero))))))) o e = code-of 7 
 operationCode-of (suc (suc (suc (suc (suc (suc (suc (suc zero)))))))) o e = code-of 8 o conformsOp e refl
 operationCode-of (suc (suc (suc (suc (suc (suc (suc (suc (suc zero))))))))) o e = code-of 9 o foldOp e refl
 operationCode-of (suc (suc (suc (suc (suc (suc (suc (suc (suc (suc zero)))))))))) o e = code-of 10 o literalOp e refl
-operationCode-of (suc (suc (suc (suc (suc (suc (suc (suc (suc (suc (suc k))))))))))) o e = none-some e
+operationCode-of (suc (suc (suc (suc (suc (suc (suc (suc (suc (suc (suc zero))))))))))) o e = code-of 11 o fullOp e refl
+operationCode-of (suc (suc (suc (suc (suc (suc (suc (suc (suc (suc (suc (suc k)))))))))))) o e = none-some e
 
 -- A question whose bodies are so long together: the first is no longer, and the fields that it does not take are 0.
 abbrev pub QuestionFits : Question → ℕ → Type 0

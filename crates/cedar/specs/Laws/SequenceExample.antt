@@ -148,11 +148,11 @@ unfolding parse bound sub enc
 run-example = refl
 
 -- Bytes, tested.
-areBytes : List ℕ → Bool
+unfoldable pub areBytes : List ℕ → Bool
 areBytes [] = true
 areBytes (x ∷ l) = ltb x 256 && areBytes l
 
-areBytes→ : (l : List ℕ) → T (areBytes l) → Bytes l
+pub areBytes→ : (l : List ℕ) → T (areBytes l) → Bytes l
 unfolding areBytes
 areBytes→ [] h = tt
 areBytes→ (x ∷ l) h = let (p, q) = T-and (ltb x 256) (areBytes l) h in (ltb→lt x 256 p, areBytes→ l q)
