@@ -1,4 +1,5 @@
 pub mod Verdicts
+pub mod Counts
 pub mod Kinds
 pub mod Walks
 pub mod Laws

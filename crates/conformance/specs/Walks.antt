@@ -6,7 +6,7 @@ use mathlib.Core.List.{List}
 use lib.Dec.{eqb}
 use lib.ListN.{getD}
 use Rattle.cedar.specs.Types.{Attrs, Values, Pairs, Schema}
-use Rattle.cedar.specs.Conformance.{Verdict, shorter, verdict, andThen, eachPair, hasRequired, conformsAt}
+use Rattle.cedar.specs.Conformance.{Verdict, Counts, verdict, andThen, eachPair, hasRequired, conformsAt}
 use Rattle.cedar.specs.TypeForm.{recKind, attrsOf}
 use Rattle.cedar.specs.ValueForm.{recordKind, valuesFrom, pairsFrom}
 use Rattle.forms.specs.Rows.{tableOf}
@@ -34,8 +34,8 @@ abbrev pub argumentsOf : ℕ → List ℕ → Values
 argumentsOf l b = valuesFrom (tableOf memberRow (λ _. decV l) 3 b)
 
 -- What is said of a record's pairs: each one first, then the required names.
-abbrev pub recordSaid : Schema → Bool → Attrs → Pairs → Verdict
-recordSaid s o xs ps = andThen (eachPair (λ n x. conformsAt shorter s o xs n x) ps) (verdict (hasRequired xs ps))
+abbrev pub recordSaid : Counts → Schema → Bool → Attrs → Pairs → Verdict
+recordSaid rule s o xs ps = andThen (eachPair (λ n x. conformsAt rule s o xs n x) ps) (verdict (hasRequired xs ps))
 
 -- A record type and a record value, whole, with parts of some level.
 pub record Records (t v : List ℕ) : Type 0 where

@@ -1,4 +1,6 @@
 // Function calls as values of an extension, and the arguments of calls.
+use crate::counts::Counts;
+use crate::counts::left_over;
 use crate::verdicts::Verdict;
 use crate::verdicts::inside;
 use crate::verdicts::tested;
@@ -16,17 +18,19 @@ ghost use mathlib.Core.Bool.{true};
 ghost use Prim.Native.Nat.{_≤_};
 ghost use lib.ListN.{length};
 ghost use Rattle.cedar.specs.ValueForm.{callKind};
-ghost use Rattle.cedar.specs.Conformance.{shorter, ofArgument, ofArguments, isExtension};
+ghost use Rattle.cedar.specs.Conformance.{ofArgument, ofArguments, isExtension};
 ghost use Rattle.forms.specs.Limits.{asLimits};
 ghost use Rattle.forms.specs.Parts.{rd};
 ghost use Rattle.schemas.specs.SchemaBytes.{decS, argFits, argAt, argsFit, argsOf};
 ghost use Rattle.schemas.specs.Entries.{Sectioned};
 ghost use Rattle.forms.specs.ValueBytes.{wholeVAs, wholeV, decV};
 ghost use Rattle.conformance.specs.Walks.{argumentsOf};
+ghost use Rattle.conformance.specs.Counts.{countsOf};
 ghost use Rattle.conformance.specs.Verdicts.{verdictOf};
 
 // Whether a call, with parts of so many levels, is a value of the extension: its function is known, returns it, and the arguments fit.
 pub fn call_returns(
+    counts: Counts,
     schema: &[u8],
     sections: Sections,
     v: &[u8],
@@ -35,7 +39,7 @@ pub fn call_returns(
 ) -> Verdict
     requires { ⌜ Sectioned (now schema) sections ⌝ }
     requires { ⌜ wholeVAs (wholeV levels) callKind (now v) ≡ true ⌝ }
-    ensures { λ r. ⌜ r ≡ verdictOf (isExtension shorter (decS (asLimits (sections .limits)) (now (schema .entry))) extension (rd (now (v .entry)) 1, argumentsOf levels (now (v .entry)))) ⌝ }
+    ensures { λ r. ⌜ r ≡ verdictOf (isExtension (countsOf counts) (decS (asLimits (sections .limits)) (now (schema .entry))) extension (rd (now (v .entry)) 1, argumentsOf levels (now (v .entry)))) ⌝ }
 {
     let name = u16_at(v, ValueOffset::FUNCTION);
     let FoundFunction::At(f) = find_function(schema, sections, name) else {
@@ -49,11 +53,12 @@ pub fn call_returns(
     }
     let start = f.start;
     let end = f.end;
-    arguments_fit(schema, sections, &schema[start..end], v, levels)
+    arguments_fit(counts, schema, sections, &schema[start..end], v, levels)
 }
 
-// Whether the arguments of a call fit those asked for, pairwise to the shorter end.
+// Whether the arguments of a call fit those asked for: pairwise to the shorter end, then their count.
 fn arguments_fit(
+    counts: Counts,
     schema: &[u8],
     sections: Sections,
     asked: &[u8],
@@ -63,7 +68,7 @@ fn arguments_fit(
     requires { ⌜ Sectioned (now schema) sections ⌝ }
     requires { ⌜ argsFit (now asked) ≡ true ⌝ }
     requires { ⌜ wholeVAs (wholeV levels) callKind (now v) ≡ true ⌝ }
-    ensures { λ r. ⌜ r ≡ verdictOf (ofArguments shorter (decS (asLimits (sections .limits)) (now (schema .entry))) (argumentsOf levels (now (v .entry))) (argsOf (now (asked .entry)))) ⌝ }
+    ensures { λ r. ⌜ r ≡ verdictOf (ofArguments (countsOf counts) (decS (asLimits (sections .limits)) (now (schema .entry))) (argumentsOf levels (now (v .entry))) (argsOf (now (asked .entry)))) ⌝ }
 {
     let n = u16_at(v, ValueOffset::CALL_COUNT);
     let end = ValueOffset::CALL_ENTRIES + Width::MEMBER * n;
@@ -73,10 +78,10 @@ fn arguments_fit(
     let mut k = asked;
     while 0 < left {
         if k.len() == 0 {
-            return Verdict::Holds;
+            return left_over(counts);
         }
         let len = u16_at(e, 0);
-        let said = argument_fits(schema, sections, k, &b[0..len], levels);
+        let said = argument_fits(counts, schema, sections, k, &b[0..len], levels);
         let Verdict::Holds = said else {
             return said;
         };
@@ -85,11 +90,15 @@ fn arguments_fit(
         k = &k[Width::ARGUMENT..];
         left -= 1;
     }
+    if 0 < k.len() {
+        return left_over(counts);
+    }
     Verdict::Holds
 }
 
 // Whether a value fits the first of the arguments asked for: a kind of value, or a call that returns an extension.
 fn argument_fits(
+    counts: Counts,
     schema: &[u8],
     sections: Sections,
     asked: &[u8],
@@ -99,7 +108,7 @@ fn argument_fits(
     requires { ⌜ Sectioned (now schema) sections ⌝ }
     requires { ⌜ (3 ≤ length (now asked)) × (argFits (now asked) ≡ true) ⌝ }
     requires { ⌜ wholeV levels (now v) ≡ true ⌝ }
-    ensures { λ r. ⌜ r ≡ verdictOf (ofArgument shorter (decS (asLimits (sections .limits)) (now (schema .entry))) (decV levels (now (v .entry))) (argAt (now (asked .entry)))) ⌝ }
+    ensures { λ r. ⌜ r ≡ verdictOf (ofArgument (countsOf counts) (decS (asLimits (sections .limits)) (now (schema .entry))) (decV levels (now (v .entry))) (argAt (now (asked .entry)))) ⌝ }
 {
     let k = asked[0];
     let j = v[0];
@@ -111,13 +120,8 @@ fn argument_fits(
             if j != ValueKind::CALL {
                 return Verdict::Fails;
             }
-            inside(call_returns(
-                schema,
-                sections,
-                v,
-                u16_at(asked, SchemaOffset::ARGUMENT_EXTENSION),
-                levels - 1,
-            ))
+            let name = u16_at(asked, SchemaOffset::ARGUMENT_EXTENSION);
+            inside(call_returns(counts, schema, sections, v, name, levels - 1))
         }
     }
 }

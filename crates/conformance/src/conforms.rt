@@ -1,5 +1,6 @@
 // Whether a value has a type: `typecheck_restricted_expr`, element by element, by falling level.
 use crate::calls::call_returns;
+use crate::counts::Counts;
 use crate::entities::is_action_of;
 use crate::entities::stands;
 use crate::kinds::takes_kind;
@@ -21,29 +22,44 @@ ghost use mathlib.Core.Bool.{true};
 ghost use lib.Dec.{eqb};
 ghost use Rattle.cedar.specs.TypeForm.{recKind};
 ghost use Rattle.cedar.specs.ValueForm.{setKind, recordKind};
-ghost use Rattle.cedar.specs.Conformance.{shorter, eachValue, conforms as has, conformsAt};
+ghost use Rattle.cedar.specs.Conformance.{eachValue, conforms as has, conformsAt};
 ghost use Rattle.forms.specs.Limits.{asLimits};
 ghost use Rattle.forms.specs.TypeBytes.{wholeAs, whole, dec, decA, Sound};
 ghost use Rattle.schemas.specs.SchemaBytes.{decS};
 ghost use Rattle.schemas.specs.Entries.{Sectioned};
 ghost use Rattle.forms.specs.ValueBytes.{wholeVAs, wholeV, decV};
 ghost use Rattle.conformance.specs.Walks.{isOpen, attributesOf, membersOf, pairsOf, recordSaid};
+ghost use Rattle.conformance.specs.Counts.{countsOf};
 ghost use Rattle.conformance.specs.Verdicts.{verdictOf};
 
 // Whether v has the type t. Parts are handed on, not t and v as they came, which would be copied through memory at each call.
-pub fn conforms(schema: &[u8], sections: Sections, t: &[u8], v: &[u8], levels: usize) -> Verdict
+pub fn conforms(
+    counts: Counts,
+    schema: &[u8],
+    sections: Sections,
+    t: &[u8],
+    v: &[u8],
+    levels: usize,
+) -> Verdict
     requires { ⌜ Sectioned (now schema) sections ⌝ }
     requires { ⌜ whole levels (now t) ≡ true ⌝ }
     requires { ⌜ wholeV levels (now v) ≡ true ⌝ }
-    ensures { λ r. ⌜ r ≡ verdictOf (has shorter (decS (asLimits (sections .limits)) (now (schema .entry))) (dec levels (now (t .entry))) (decV levels (now (v .entry)))) ⌝ }
+    ensures { λ r. ⌜ r ≡ verdictOf (has (countsOf counts) (decS (asLimits (sections .limits)) (now (schema .entry))) (dec levels (now (t .entry))) (decV levels (now (v .entry)))) ⌝ }
 {
     let k = t[0];
     if !takes_kind(k, v[0]) {
         return Verdict::Fails;
     }
     match k {
-        Kind::SET => members_conform(schema, sections, &t[Offset::ELEMENT..], &v[0..], levels - 1),
-        Kind::RECORD => record_conforms(schema, sections, &t[0..], &v[0..], levels - 1),
+        Kind::SET => members_conform(
+            counts,
+            schema,
+            sections,
+            &t[Offset::ELEMENT..],
+            &v[0..],
+            levels - 1,
+        ),
+        Kind::RECORD => record_conforms(counts, schema, sections, &t[0..], &v[0..], levels - 1),
         Kind::ENTITY => tested(stands(
             &t[Offset::ENTITY_NAMES..],
             u16_at(t, Offset::ENTITY_COUNT),
@@ -55,18 +71,25 @@ pub fn conforms(schema: &[u8], sections: Sections, t: &[u8], v: &[u8], levels: u
         )),
         Kind::EXTENSION => {
             let name = u16_at(t, Offset::EXTENSION_NAME);
-            call_returns(schema, sections, &v[0..], name, levels - 1)
+            call_returns(counts, schema, sections, &v[0..], name, levels - 1)
         }
         _ => Verdict::Holds,
     }
 }
 
 // Whether each member of the set v has the type t.
-fn members_conform(schema: &[u8], sections: Sections, t: &[u8], v: &[u8], levels: usize) -> Verdict
+fn members_conform(
+    counts: Counts,
+    schema: &[u8],
+    sections: Sections,
+    t: &[u8],
+    v: &[u8],
+    levels: usize,
+) -> Verdict
     requires { ⌜ Sectioned (now schema) sections ⌝ }
     requires { ⌜ whole levels (now t) ≡ true ⌝ }
     requires { ⌜ wholeVAs (wholeV levels) setKind (now v) ≡ true ⌝ }
-    ensures { λ r. ⌜ r ≡ verdictOf (eachValue (λ x. has shorter (decS (asLimits (sections .limits)) (now (schema .entry))) (dec levels (now (t .entry))) x) (membersOf levels (now (v .entry)))) ⌝ }
+    ensures { λ r. ⌜ r ≡ verdictOf (eachValue (λ x. has (countsOf counts) (decS (asLimits (sections .limits)) (now (schema .entry))) (dec levels (now (t .entry))) x) (membersOf levels (now (v .entry)))) ⌝ }
 {
     let n = u16_at(v, ValueOffset::SET_COUNT);
     let end = ValueOffset::SET_ENTRIES + Width::MEMBER * n;
@@ -75,7 +98,7 @@ fn members_conform(schema: &[u8], sections: Sections, t: &[u8], v: &[u8], levels
     let mut left = n;
     while 0 < left {
         let len = u16_at(e, 0);
-        let said = conforms(schema, sections, t, &b[0..len], levels);
+        let said = conforms(counts, schema, sections, t, &b[0..len], levels);
         let Verdict::Holds = said else {
             return said;
         };
@@ -88,11 +111,18 @@ fn members_conform(schema: &[u8], sections: Sections, t: &[u8], v: &[u8], levels
 
 // Whether the record v has the record type t: each pair first, then the required names. Names ascend in both: attributes that are
 // passed for one pair are passed for the next.
-fn record_conforms(schema: &[u8], sections: Sections, t: &[u8], v: &[u8], levels: usize) -> Verdict
+fn record_conforms(
+    counts: Counts,
+    schema: &[u8],
+    sections: Sections,
+    t: &[u8],
+    v: &[u8],
+    levels: usize,
+) -> Verdict
     requires { ⌜ Sectioned (now schema) sections ⌝ }
     requires { ⌜ wholeAs (whole levels) recKind (now t) ≡ true ⌝ }
     requires { ⌜ wholeVAs (wholeV levels) recordKind (now v) ≡ true ⌝ }
-    ensures { λ r. ⌜ r ≡ verdictOf (recordSaid (decS (asLimits (sections .limits)) (now (schema .entry))) (isOpen (now (t .entry))) (attributesOf levels (now (t .entry))) (pairsOf levels (now (v .entry)))) ⌝ }
+    ensures { λ r. ⌜ r ≡ verdictOf (recordSaid (countsOf counts) (decS (asLimits (sections .limits)) (now (schema .entry))) (isOpen (now (t .entry))) (attributesOf levels (now (t .entry))) (pairsOf levels (now (v .entry)))) ⌝ }
 {
     let m = u16_at(t, Offset::RECORD_COUNT);
     let n = u16_at(v, ValueOffset::RECORD_COUNT);
@@ -116,7 +146,18 @@ fn record_conforms(schema: &[u8], sections: Sections, t: &[u8], v: &[u8], levels
         ahead -= passed;
         let x = &b[0..len];
         let openness = t[Offset::OPEN];
-        let said = pair_conforms(schema, sections, openness, f, c, ahead, name, x, levels);
+        let said = pair_conforms(
+            counts,
+            schema,
+            sections,
+            openness,
+            f,
+            c,
+            ahead,
+            name,
+            x,
+            levels,
+        );
         let Verdict::Holds = said else {
             return said;
         };
@@ -129,6 +170,7 @@ fn record_conforms(schema: &[u8], sections: Sections, t: &[u8], v: &[u8], levels
 
 // Whether a name's value has the name's type. Where the type lacks the name, an open record takes any value.
 fn pair_conforms(
+    counts: Counts,
     schema: &[u8],
     sections: Sections,
     openness: u8,
@@ -142,7 +184,7 @@ fn pair_conforms(
     requires { ⌜ Sectioned (now schema) sections ⌝ }
     requires { ⌜ Sound levels n 0 (now f) (now c) ⌝ }
     requires { ⌜ wholeV levels (now v) ≡ true ⌝ }
-    ensures { λ r. ⌜ r ≡ verdictOf (conformsAt shorter (decS (asLimits (sections .limits)) (now (schema .entry))) (eqb openness 1) (decA (dec levels) n (now (f .entry)) (now (c .entry))) name (decV levels (now (v .entry)))) ⌝ }
+    ensures { λ r. ⌜ r ≡ verdictOf (conformsAt (countsOf counts) (decS (asLimits (sections .limits)) (now (schema .entry))) (eqb openness 1) (decA (dec levels) n (now (f .entry)) (now (c .entry))) name (decV levels (now (v .entry)))) ⌝ }
 {
     let Found::At(i, start) = find(Width::ATTRIBUTE, f, c, n, name) else {
         return tested(openness == Openness::OPEN);
@@ -150,5 +192,5 @@ fn pair_conforms(
     let at = Width::ATTRIBUTE * i;
     let attribute = &f[at..];
     let end = start + u16_at(attribute, Offset::BODY_LENGTH);
-    conforms(schema, sections, &c[start..end], v, levels)
+    conforms(counts, schema, sections, &c[start..end], v, levels)
 }

@@ -11,7 +11,7 @@ use borrow.Author.Tests.{ne-eqb}
 use Rattle.cedar.specs.Types.{Arg, argBool, argLong, argString, argExt, Value, boolean, number, text, uid, setOf, recordOf, call, Values, end, value, Schema}
 use Rattle.cedar.specs.Types.{Function, maybe}
 use Rattle.cedar.specs.ValueForm.{valueKind, callKind, valuesFrom}
-use Rattle.cedar.specs.Conformance.{Verdict as Said, holds, fails, failsInside, unknown, verdict, andThen, shorter, ofArgument, ofArguments, isExtension}
+use Rattle.cedar.specs.Conformance.{Verdict as Said, holds, fails, failsInside, unknown, verdict, andThen, Counts, shorter, exact, leftOver, ofArgument, ofArguments, isExtension}
 use Rattle.cedar.specs.Conformance.{functionOf, returnsExt, isArg, argExtension}
 use Rattle.forms.specs.Parts.{part, rest, rd}
 use Rattle.forms.specs.Rows.{rowsOf}
@@ -28,24 +28,24 @@ use Rattle.conformance.specs.Laws.Tables.{by-table}
 use Rattle.conformance.specs.Laws.Ahead.{Ahead, ahead-again, decoded, decoded-none, table-ahead, table-decoded}
 
 -- Arguments that are no call, by the kind of value.
-module _ (s : Schema) (d : List ℕ → Value) (b : List ℕ) (j : ℕ) (h : j < 8) where
-  pub fits-bool : ofArgument shorter s (decVAs d (valueKind j) b) argBool ≡ verdict (leb j 1)
+module _ (rule : Counts) (s : Schema) (d : List ℕ → Value) (b : List ℕ) (j : ℕ) (h : j < 8) where
+  pub fits-bool : ofArgument rule s (decVAs d (valueKind j) b) argBool ≡ verdict (leb j 1)
   unfolding ofArgument
-  fits-bool = by-table (λ i. ofArgument shorter s (decVAs d (valueKind i) b) argBool) (λ i. verdict (leb i 1)) 8 refl j h
+  fits-bool = by-table (λ i. ofArgument rule s (decVAs d (valueKind i) b) argBool) (λ i. verdict (leb i 1)) 8 refl j h
 
-  pub fits-long : ofArgument shorter s (decVAs d (valueKind j) b) argLong ≡ verdict (eqb j 2)
+  pub fits-long : ofArgument rule s (decVAs d (valueKind j) b) argLong ≡ verdict (eqb j 2)
   unfolding ofArgument
-  fits-long = by-table (λ i. ofArgument shorter s (decVAs d (valueKind i) b) argLong) (λ i. verdict (eqb i 2)) 8 refl j h
+  fits-long = by-table (λ i. ofArgument rule s (decVAs d (valueKind i) b) argLong) (λ i. verdict (eqb i 2)) 8 refl j h
 
-  pub fits-string : ofArgument shorter s (decVAs d (valueKind j) b) argString ≡ verdict (eqb j 3)
+  pub fits-string : ofArgument rule s (decVAs d (valueKind j) b) argString ≡ verdict (eqb j 3)
   unfolding ofArgument
-  fits-string = by-table (λ i. ofArgument shorter s (decVAs d (valueKind i) b) argString) (λ i. verdict (eqb i 3)) 8 refl j h
+  fits-string = by-table (λ i. ofArgument rule s (decVAs d (valueKind i) b) argString) (λ i. verdict (eqb i 3)) 8 refl j h
 
-  pub fits-other : (e : ℕ) → (j ≡ 7 → ⊥) → ofArgument shorter s (decVAs d (valueKind j) b) (argExt e) ≡ fails
+  pub fits-other : (e : ℕ) → (j ≡ 7 → ⊥) → ofArgument rule s (decVAs d (valueKind j) b) (argExt e) ≡ fails
   unfolding ofArgument
   fits-other e p =
-      by-table (λ i. ofArgument shorter s (decVAs d (valueKind i) b) (argExt e))
-      (λ i. cond (eqb i 7) (ofArgument shorter s (decVAs d (valueKind 7) b) (argExt e)) fails) 8 refl j h
+      by-table (λ i. ofArgument rule s (decVAs d (valueKind i) b) (argExt e))
+      (λ i. cond (eqb i 7) (ofArgument rule s (decVAs d (valueKind 7) b) (argExt e)) fails) 8 refl j h
       ∙ rw (ne-eqb j 7 p) refl
 
 -- Inside an argument no function is unknown.
@@ -64,6 +64,10 @@ inside-test : (x : Bool) → insideOf (verdictOf (verdict x)) ≡ verdictOf (ver
 inside-test true = refl
 inside-test false = refl
 
+inside-over : (rule : Counts) → insideOf (verdictOf (leftOver rule)) ≡ verdictOf (leftOver rule)
+inside-over shorter = refl
+inside-over exact = refl
+
 inside-call : (o : Option ℕ) (p : Option Function) (r : Function → Said) → ((g : Function) → insideOf (verdictOf (r g)) ≡ verdictOf (r g)) →
     insideOf (verdictOf (maybe fails (λ e. maybe failsInside (λ g. andThen (verdict (returnsExt g e)) (r g)) p) o))
     ≡ verdictOf (maybe fails (λ e. maybe failsInside (λ g. andThen (verdict (returnsExt g e)) (r g)) p) o)
@@ -74,92 +78,99 @@ inside-call (some e) (some g) r h = inside-then (returnsExt g e) (r g) (h g)
 mutual
   unfolding ofArgument ofArguments
 
-  fits-inside : (s : Schema) (v : Value) (a : Arg) → insideOf (verdictOf (ofArgument shorter s v a)) ≡ verdictOf (ofArgument shorter s v a)
-  fits-inside s (boolean b) a = inside-test (isArg a (boolean b))
-  fits-inside s (number b) a = inside-test (isArg a (number b))
-  fits-inside s (text b) a = inside-test (isArg a (text b))
-  fits-inside s (uid k i) a = refl
-  fits-inside s (setOf vs) a = refl
-  fits-inside s (recordOf ps) a = refl
-  fits-inside s (call f vs) a = inside-call (argExtension a) (functionOf s f) (λ g. ofArguments shorter s vs (g .args)) (λ g. all-inside s vs (g .args))
+  fits-inside : (rule : Counts) (s : Schema) (v : Value) (a : Arg) → insideOf (verdictOf (ofArgument rule s v a)) ≡ verdictOf (ofArgument rule s v a)
+  fits-inside rule s (boolean b) a = inside-test (isArg a (boolean b))
+  fits-inside rule s (number b) a = inside-test (isArg a (number b))
+  fits-inside rule s (text b) a = inside-test (isArg a (text b))
+  fits-inside rule s (uid k i) a = refl
+  fits-inside rule s (setOf vs) a = refl
+  fits-inside rule s (recordOf ps) a = refl
+  fits-inside rule s (call f vs) a = inside-call (argExtension a) (functionOf s f) (λ g. ofArguments rule s vs (g .args)) (λ g. all-inside rule s vs (g .args))
 
-  all-inside : (s : Schema) (vs : Values) (ks : List Arg) → insideOf (verdictOf (ofArguments shorter s vs ks)) ≡ verdictOf (ofArguments shorter s vs ks)
-  all-inside s end [] = refl
-  all-inside s end (a ∷ ks) = refl
-  all-inside s (value v vs) [] = refl
-  all-inside s (value v vs) (a ∷ ks) = inside-both (ofArgument shorter s v a) (ofArguments shorter s vs ks) (fits-inside s v a) (all-inside s vs ks)
+  all-inside : (rule : Counts) (s : Schema) (vs : Values) (ks : List Arg) → insideOf (verdictOf (ofArguments rule s vs ks)) ≡ verdictOf (ofArguments rule s vs ks)
+  all-inside rule s end [] = refl
+  all-inside rule s end (a ∷ ks) = inside-over rule
+  all-inside rule s (value v vs) [] = inside-over rule
+  all-inside rule s (value v vs) (a ∷ ks) = inside-both (ofArgument rule s v a) (ofArguments rule s vs ks) (fits-inside rule s v a) (all-inside rule s vs ks)
 
 -- A call as an argument: as a value of the extension, where an unknown function is a no.
-pub call-inside : (s : Schema) (e f : ℕ) (vs : Values) →
-    insideOf (verdictOf (isExtension shorter s e (f, vs))) ≡ verdictOf (ofArgument shorter s (call f vs) (argExt e))
+pub call-inside : (rule : Counts) (s : Schema) (e f : ℕ) (vs : Values) →
+    insideOf (verdictOf (isExtension rule s e (f, vs))) ≡ verdictOf (ofArgument rule s (call f vs) (argExt e))
 unfolding ofArgument
-call-inside s e f vs = go (functionOf s f)
+call-inside rule s e f vs = go (functionOf s f)
   where
-    go : (o : Option Function) → insideOf (verdictOf (maybe unknown (λ g. andThen (verdict (returnsExt g e)) (ofArguments shorter s vs (g .args))) o))
-        ≡ verdictOf (maybe failsInside (λ g. andThen (verdict (returnsExt g e)) (ofArguments shorter s vs (g .args))) o)
+    go : (o : Option Function) → insideOf (verdictOf (maybe unknown (λ g. andThen (verdict (returnsExt g e)) (ofArguments rule s vs (g .args))) o))
+        ≡ verdictOf (maybe failsInside (λ g. andThen (verdict (returnsExt g e)) (ofArguments rule s vs (g .args))) o)
     go none = refl
-    go (some g) = inside-then (returnsExt g e) (ofArguments shorter s vs (g .args)) (all-inside s vs (g .args))
+    go (some g) = inside-then (returnsExt g e) (ofArguments rule s vs (g .args)) (all-inside rule s vs (g .args))
 
 -- The loop of `arguments_fit`: what is left answers for all.
-pub record ArgumentsAhead (l : ℕ) (s : Schema) (all : Said) (left : ℕ) (e b k : List ℕ) : Type 0 where
+pub record ArgumentsAhead (l : ℕ) (rule : Counts) (s : Schema) (all : Said) (left : ℕ) (e b k : List ℕ) : Type 0 where
   pub rows : Ahead memberRow (λ _. wholeV l) left tt e b
   pub asked : argsFit k ≡ true
-  pub same : all ≡ ofArguments shorter s (valuesFrom (rowsOf memberRow (λ _. decV l) left e b)) (argsOf k)
+  pub same : all ≡ ofArguments rule s (valuesFrom (rowsOf memberRow (λ _. decV l) left e b)) (argsOf k)
 
-pub arguments-start : (l : ℕ) (s : Schema) (v k : List ℕ) → wholeVAs (wholeV l) callKind v ≡ true → argsFit k ≡ true → (n : ℕ) → n ≡ rd v 3 →
-    ArgumentsAhead l s (ofArguments shorter s (argumentsOf l v) (argsOf k)) n (part 5 (5 + 2 * n) v) (rest (5 + 2 * n) v) k
-arguments-start l s v k h a n q =
+pub arguments-start : (l : ℕ) (rule : Counts) (s : Schema) (v k : List ℕ) → wholeVAs (wholeV l) callKind v ≡ true → argsFit k ≡ true → (n : ℕ) → n ≡ rd v 3 →
+    ArgumentsAhead l rule s (ofArguments rule s (argumentsOf l v) (argsOf k)) n (part 5 (5 + 2 * n) v) (rest (5 + 2 * n) v) k
+arguments-start l rule s v k h a n q =
     record {
       rows = table-ahead memberRow (λ _. wholeV l) tt 3 v h n q;
       asked = a;
-      same = ap (λ xs. ofArguments shorter s (valuesFrom xs) (argsOf k)) (table-decoded memberRow (λ _. wholeV l) tt 3 v h n q (λ _. decV l));
+      same = ap (λ xs. ofArguments rule s (valuesFrom xs) (argsOf k)) (table-decoded memberRow (λ _. wholeV l) tt 3 v h n q (λ _. decV l));
     }
 
-no-values : (s : Schema) (ks : List Arg) → holds ≡ ofArguments shorter s end ks
+no-more : (rule : Counts) (s : Schema) → ofArguments rule s end [] ≡ holds
 unfolding ofArguments
-no-values s [] = refl
-no-values s (a ∷ ks) = refl
+no-more rule s = refl
 
-no-asked : (s : Schema) (vs : Values) → holds ≡ ofArguments shorter s vs []
+no-values : (rule : Counts) (s : Schema) (a : Arg) (ks : List Arg) → ofArguments rule s end (a ∷ ks) ≡ leftOver rule
 unfolding ofArguments
-no-asked s end = refl
-no-asked s (value v vs) = refl
+no-values rule s a ks = refl
 
-both : (s : Schema) (v : Value) (vs : Values) (a : Arg) (ks : List Arg) →
-    ofArguments shorter s (value v vs) (a ∷ ks) ≡ andThen (ofArgument shorter s v a) (ofArguments shorter s vs ks)
+no-asked : (rule : Counts) (s : Schema) (v : Value) (vs : Values) → ofArguments rule s (value v vs) [] ≡ leftOver rule
 unfolding ofArguments
-both s v vs a ks = refl
+no-asked rule s v vs = refl
 
-module _ {l : ℕ} {s : Schema} {all : Said} {left : ℕ} {e b k : List ℕ} (i : ArgumentsAhead l s all left e b k) where
-  pub arguments-end : left ≤ 0 → Holds ≡ verdictOf all
-  arguments-end h =
-      ap verdictOf
-      (no-values s (argsOf k) ∙
-      sym (i .same ∙ ap (λ xs. ofArguments shorter s (valuesFrom xs) (argsOf k)) (decoded-none memberRow (λ _. decV l) left e b h)))
+both : (rule : Counts) (s : Schema) (v : Value) (vs : Values) (a : Arg) (ks : List Arg) →
+    ofArguments rule s (value v vs) (a ∷ ks) ≡ andThen (ofArgument rule s v a) (ofArguments rule s vs ks)
+unfolding ofArguments
+both rule s v vs a ks = refl
 
-  pub arguments-over : length k ≡ 0 → Holds ≡ verdictOf all
-  arguments-over h =
-      ap verdictOf
-      (no-asked s _ ∙
-      sym (i .same ∙ ap (λ ks. ofArguments shorter s (valuesFrom (rowsOf memberRow (λ _. decV l) left e b)) ks) (args-none k (omega arith))))
+module _ {l : ℕ} {rule : Counts} {s : Schema} {all : Said} {left : ℕ} {e b k : List ℕ} (i : ArgumentsAhead l rule s all left e b k) where
+  -- No value is left.
+  at-end : left ≤ 0 → {ks : List Arg} → argsOf k ≡ ks → all ≡ ofArguments rule s end ks
+  at-end h q = i .same ∙ ap₂ (λ xs ks. ofArguments rule s (valuesFrom xs) ks) (decoded-none memberRow (λ _. decV l) left e b h) q
+
+  pub arguments-end : left ≤ 0 → length k ≤ 0 → Holds ≡ verdictOf all
+  arguments-end h z = ap verdictOf (sym (at-end h (args-none k (omega arith)) ∙ no-more rule s))
+
+  module _ (x : Verdict) (y : x ≡ verdictOf (leftOver rule)) where
+    pub arguments-few : left ≤ 0 → 0 < length k → x ≡ verdictOf all
+    arguments-few h z = y ∙ ap verdictOf (sym (at-end h (args-first k (i .asked) z .is) ∙ no-values rule s _ _))
+
+    pub arguments-over : 0 < left → length k ≡ 0 → x ≡ verdictOf all
+    arguments-over p z =
+        y ∙ ap verdictOf
+        (sym (i .same ∙ ap₂ (λ xs ks. ofArguments rule s (valuesFrom xs) ks) (decoded memberRow (λ _. decV l) left e b p (rd e 0) refl)
+        (args-none k (omega arith)) ∙ no-asked rule s _ _))
 
   module _ (p : 0 < left) (h : length k ≡ 0 → ⊥) (n : ℕ) (q : n ≡ rd e 0) where
     pub arguments-first : ArgFirst k
     arguments-first = args-first k (i .asked) (pos (length k) h)
 
-    step : Then all (ofArgument shorter s (decV l (part 0 n b)) (argAt k))
-        (ofArguments shorter s (valuesFrom (rowsOf memberRow (λ _. decV l) (left - 1) (rest 2 e) (rest n b))) (argsOf (rest 3 k)))
+    step : Then all (ofArgument rule s (decV l (part 0 n b)) (argAt k))
+        (ofArguments rule s (valuesFrom (rowsOf memberRow (λ _. decV l) (left - 1) (rest 2 e) (rest n b))) (argsOf (rest 3 k)))
     step =
         record {
           is =
               i .same
-              ∙ ap₂ (λ xs ks. ofArguments shorter s (valuesFrom xs) ks) (decoded memberRow (λ _. decV l) left e b p n q) (arguments-first .is)
-              ∙ both s _ _ _ _;
+              ∙ ap₂ (λ xs ks. ofArguments rule s (valuesFrom xs) ks) (decoded memberRow (λ _. decV l) left e b p n q) (arguments-first .is)
+              ∙ both rule s _ _ _ _;
         }
 
-    module _ (x : Verdict) (y : x ≡ verdictOf (ofArgument shorter s (decV l (part 0 n b)) (argAt k))) where
+    module _ (x : Verdict) (y : x ≡ verdictOf (ofArgument rule s (decV l (part 0 n b)) (argAt k))) where
       pub arguments-stop : (x ≡ Holds → ⊥) → x ≡ verdictOf all
       arguments-stop g = then-stop step x y g
 
-      pub arguments-again : x ≡ Holds → ArgumentsAhead l s all (left - 1) (rest 2 e) (rest n b) (rest 3 k)
+      pub arguments-again : x ≡ Holds → ArgumentsAhead l rule s all (left - 1) (rest 2 e) (rest n b) (rest 3 k)
       arguments-again g = record { rows = ahead-again (i .rows) p n q; asked = arguments-first .more; same = then-on step x y g }

@@ -3,11 +3,12 @@ use Rattle.schemas.specs.Laws.Finders.{function-at, function-not}
 use Rattle.conformance.specs.Laws.Calls.{call-unknown, call-none, call-other, call-arguments, fit-bool, fit-long, fit-string, fit-not, fit-call}
 use Rattle.conformance.proofs.OtherVerdicts.{no-yes}
 use Rattle.schemas.specs.SchemaBytes.{decS, argsOf}
-use Rattle.cedar.specs.Conformance.{shorter, ofArguments}
+use Rattle.cedar.specs.Conformance.{ofArguments}
 use Rattle.forms.specs.Limits.{asLimits}
 use Rattle.conformance.specs.Walks.{argumentsOf}
+use Rattle.conformance.specs.Counts.{countsOf}
 use Rattle.forms.specs.ValueBytes.{memberRow, wholeV}
-use Rattle.conformance.specs.Laws.Arguments.{ArgumentsAhead, arguments-start, arguments-end, arguments-over, arguments-first, arguments-stop}
+use Rattle.conformance.specs.Laws.Arguments.{ArgumentsAhead, arguments-start, arguments-end, arguments-few, arguments-over, arguments-first, arguments-stop}
 use Rattle.conformance.specs.Laws.Arguments.{arguments-again}
 use Rattle.conformance.specs.Laws.Ahead.{table-count, table-entries, ahead-room, ahead-inside, ahead-body}
 use Rattle.conformance.specs.Laws.Values.{value-level, value-first, value-as}
@@ -27,6 +28,7 @@ use Rattle.conformance.proofs.calls.+argument_fits+arguments_fit+call_r
 use Rattle.conformance.proofs.calls.call_returns.Reads as call-returns
 use Rattle.conformance.proofs.calls.call_returns.Kinds as call-returns-kinds
 use Rattle.conformance.proofs.calls.+argument_fits+arguments_fit+call_returns.Lts-call_returns as call-returns-lts
+use Rattle.conformance.proofs.counts.left_over.Reads as left-over-reads
 use Rattle.conformance.proofs.verdicts.inside.Reads as inside-reads
 use Rattle.conformance.proofs.verdicts.tested.Reads as tested-reads
 use Rattle.forms.proofs.numbers.u16_at.Reads as u16-at-reads
@@ -35,13 +37,13 @@ use Rattle.conformance.proofs.calls.+argument_fits+arguments_fit+call_r
 use Rattle.conformance.proofs.calls.+argument_fits+arguments_fit+call_returns.Tie.{close}
 
 abbrev μ-argument-fits : Measures 3 argument-fits-kinds.ps ℕ
-μ-argument-fits κs a = 3 * a .1 .1 .1 .1 .0 + 1
+μ-argument-fits κs a = 3 * a .1 .1 .1 .1 .1 .0 + 1
 
 abbrev μ-arguments-fit : Measures 3 arguments-fit-kinds.ps ℕ
-μ-arguments-fit κs a = 3 * a .1 .1 .1 .1 .0 + 2
+μ-arguments-fit κs a = 3 * a .1 .1 .1 .1 .1 .0 + 2
 
 abbrev μ-call-returns : Measures 2 call-returns-kinds.ps ℕ
-μ-call-returns κs a = 3 * a .1 .1 .1 .1 .0 + 3
+μ-call-returns κs a = 3 * a .1 .1 .1 .1 .1 .0 + 3
 
 abbrev argument-fits-at : ℕ → In 3 argument-fits-kinds.ps
 argument-fits-at t =
@@ -92,7 +94,14 @@ argument-fits-callees t = (
 )
 
 abbrev arguments-fit-callees : ℕ → arguments-fit-lts.Claims
-arguments-fit-callees t = (u16-at-reads.Asked, u16-at-reads.Learnt, argument-fits-below t, argument-fits.Post)
+arguments-fit-callees t = (
+  u16-at-reads.Asked,
+  u16-at-reads.Learnt,
+  left-over-reads.Asked,
+  left-over-reads.Learnt,
+  argument-fits-below t,
+  argument-fits.Post,
+)
 
 abbrev call-returns-callees : ℕ → call-returns-lts.Claims
 call-returns-callees t = (
@@ -134,7 +143,7 @@ argument-fits-returns t c =
     let s = c .before .before .before .before .before .before .before in
     let m = c .before .match .rest in
     let args = s .args in
-    fit-not _ (args .asked .now) (args .levels) (args .v .now) (s .pre .1 .1 .0 .1) (s .pre .1 .1 .1) (m .0 .0 .1) (m .0 .1) (m .1) (c .if1 .taken)
+    fit-not _ _ (args .asked .now) (args .levels) (args .v .now) (s .pre .1 .1 .0 .1) (s .pre .1 .1 .1) (m .0 .0 .1) (m .0 .1) (m .1) (c .if1 .taken)
 
 -- src/calls.rt:94:54
 argument-fits-u16-at-requires : (t : ℕ) → argument-fits-lts.Need-u16-at-requires (argument-fits-callees t) (argument-fits-at t) argument-fits.Post
@@ -167,21 +176,21 @@ argument-fits-returns-2 : (t : ℕ) → argument-fits-lts.Need-returns-2 (argume
 argument-fits-returns-2 t c =
     let s = c .before .before .before .before .before .before .before in
     let args = s .args in
-    c .tested .ensures ∙ fit-bool _ (args .asked .now) (args .levels) (args .v .now) (s .pre .1 .1 .0 .1) (s .pre .1 .1 .1) (c .before .match .keys1)
+    c .tested .ensures ∙ fit-bool _ _ (args .asked .now) (args .levels) (args .v .now) (s .pre .1 .1 .0 .1) (s .pre .1 .1 .1) (c .before .match .keys1)
 
 -- src/calls.rt:78:1
 argument-fits-returns-3 : (t : ℕ) → argument-fits-lts.Need-returns-3 (argument-fits-callees t) (argument-fits-at t) argument-fits.Post
 argument-fits-returns-3 t c =
     let s = c .before .before .before .before .before .before .before in
     let args = s .args in
-    c .tested2 .ensures ∙ fit-long _ (args .asked .now) (args .levels) (args .v .now) (s .pre .1 .1 .0 .1) (s .pre .1 .1 .1) (c .before .match .keys2)
+    c .tested2 .ensures ∙ fit-long _ _ (args .asked .now) (args .levels) (args .v .now) (s .pre .1 .1 .0 .1) (s .pre .1 .1 .1) (c .before .match .keys2)
 
 -- src/calls.rt:78:1
 argument-fits-returns-4 : (t : ℕ) → argument-fits-lts.Need-returns-4 (argument-fits-callees t) (argument-fits-at t) argument-fits.Post
 argument-fits-returns-4 t c =
     let s = c .before .before .before .before .before .before .before in
     let args = s .args in
-    c .tested3 .ensures ∙ fit-string _ (args .asked .now) (args .levels) (args .v .now) (s .pre .1 .1 .0 .1) (s .pre .1 .1 .1) (c .before .match .keys3)
+    c .tested3 .ensures ∙ fit-string _ _ (args .asked .now) (args .levels) (args .v .now) (s .pre .1 .1 .0 .1) (s .pre .1 .1 .1) (c .before .match .keys3)
 
 -- src/calls.rt:78:1
 argument-fits-returns-5 : (t : ℕ) → argument-fits-lts.Need-returns-5 (argument-fits-callees t) (argument-fits-at t) argument-fits.Post
@@ -193,16 +202,16 @@ argument-fits-returns-5 t c =
     let s = c .before .before .before .before .before .before .before .before .before .before in
     let m = match-rest .rest in
     let args = s .args in
-    c .inside .ensures ∙ fit-call _ (args .asked .now) (args .levels) (args .v .now) (s .pre .1 .1 .0 .1) (s .pre .1 .1 .1) (m .0 .0 .1) (m .0 .1) (m .1)
+    c .inside .ensures ∙ fit-call _ _ (args .asked .now) (args .levels) (args .v .now) (s .pre .1 .1 .0 .1) (s .pre .1 .1 .1) (m .0 .0 .1) (m .0 .1) (m .1)
     (if1 .left) (u16-at .result) (u16-at .ensures .0) (call-returns-step .result) (call-returns-step .ensures)
 
 abbrev arguments-fit-Inv-loop : arguments-fit-lts.InvT-loop
-arguments-fit-Inv-loop schema sections asked v levels n end e₀ b₀ left₀ k₀ e b left k =
-    ArgumentsAhead levels (decS (asLimits (sections .limits)) schema) (ofArguments shorter (decS (asLimits (sections .limits)) schema)
+arguments-fit-Inv-loop counts schema sections asked v levels n end e₀ b₀ left₀ k₀ e b left k =
+    ArgumentsAhead levels (countsOf counts) (decS (asLimits (sections .limits)) schema) (ofArguments (countsOf counts) (decS (asLimits (sections .limits)) schema)
     (argumentsOf levels v) (argsOf asked)) left e b k
 
 abbrev arguments-fit-μ-loop : arguments-fit-lts.MeasureT-loop
-arguments-fit-μ-loop schema sections asked v levels n end e₀ b₀ left₀ k₀ e b left k = left
+arguments-fit-μ-loop counts schema sections asked v levels n end e₀ b₀ left₀ k₀ e b left k = left
 
 -- src/calls.rt:54:9
 arguments-fit-u16-at-requires : (t : ℕ) → arguments-fit-lts.Need-u16-at-requires (arguments-fit-callees t)
@@ -272,14 +281,21 @@ arguments-fit-loop-holds t c =
     let u16-at = c .before .before .u16-at in
     let s = c .before .before .before .before .before .before in
     let args = s .args in
-    arguments-start (args .levels) _ (args .v .now) (args .asked .now) (s .pre .1 .1 .1) (s .pre .1 .1 .0) (u16-at .result) (u16-at .ensures .0)
+    arguments-start (args .levels) _ _ (args .v .now) (args .asked .now) (s .pre .1 .1 .1) (s .pre .1 .1 .0) (u16-at .result) (u16-at .ensures .0)
 
--- src/calls.rt:62:13
+-- src/calls.rt:81:20
+arguments-fit-left-over-requires : (t : ℕ) → arguments-fit-lts.Need-left-over-requires (arguments-fit-callees t)
+    (arguments-fit-at t) arguments-fit.Post arguments-fit-Inv-loop arguments-fit-μ-loop
+arguments-fit-left-over-requires t c κs = search needs
+
+-- src/calls.rt:81:13
 arguments-fit-returns : (t : ℕ) → arguments-fit-lts.Need-returns (arguments-fit-callees t)
     (arguments-fit-at t) arguments-fit.Post arguments-fit-Inv-loop arguments-fit-μ-loop
 arguments-fit-returns t c =
-    let loop = c .before .before .loop in
-    arguments-over (loop .inv) (c .if1 .taken)
+    let if1 = c .before .if1 in
+    let loop-test = c .before .before .loop-test in
+    let loop = c .before .before .before .loop in
+    arguments-over (loop .inv) (c .left-over .result) (c .left-over .ensures) (loop-test .taken) (if1 .taken)
 
 -- src/calls.rt:64:13
 arguments-fit-u16-at-requires-2 : (t : ℕ) → arguments-fit-lts.Need-u16-at-requires-2 (arguments-fit-callees t)
@@ -414,10 +430,27 @@ arguments-fit-loop-again t c =
     let loop = c .before .before .before .before .before .before .before .before .before .before .loop in
     arguments-again (loop .inv) (loop-test .taken) (if1 .left) (u16-at2 .result) (u16-at2 .ensures .0) (f .result) (f .ensures) (enum-told .given .1)
 
--- src/calls.rt:48:1
+-- src/calls.rt:94:16
+arguments-fit-left-over-requires-2 : (t : ℕ) → arguments-fit-lts.Need-left-over-requires-2 (arguments-fit-callees t)
+    (arguments-fit-at t) arguments-fit.Post arguments-fit-Inv-loop arguments-fit-μ-loop
+arguments-fit-left-over-requires-2 t c κs = search needs
+
+-- src/calls.rt:94:9
 arguments-fit-returns-3 : (t : ℕ) → arguments-fit-lts.Need-returns-3 (arguments-fit-callees t)
     (arguments-fit-at t) arguments-fit.Post arguments-fit-Inv-loop arguments-fit-μ-loop
-arguments-fit-returns-3 t c = arguments-end ((c .before) .loop .inv) (c .loop-test .left)
+arguments-fit-returns-3 t c =
+    let if2 = c .before .if2 in
+    let loop-test = c .before .before .loop-test in
+    let loop = c .before .before .before .loop in
+    arguments-few (loop .inv) (c .left-over2 .result) (c .left-over2 .ensures) (loop-test .left) (if2 .taken)
+
+-- src/calls.rt:59:1
+arguments-fit-returns-4 : (t : ℕ) → arguments-fit-lts.Need-returns-4 (arguments-fit-callees t)
+    (arguments-fit-at t) arguments-fit.Post arguments-fit-Inv-loop arguments-fit-μ-loop
+arguments-fit-returns-4 t c =
+    let loop-test = c .before .loop-test in
+    let loop = c .before .before .loop in
+    arguments-end (loop .inv) (loop-test .left) (c .if2 .left)
 
 -- src/calls.rt:32:9
 call-returns-u16-at-requires : (t : ℕ) → call-returns-lts.Need-u16-at-requires (call-returns-callees t) (call-returns-at t) call-returns.Post
@@ -446,7 +479,7 @@ call-returns-returns t c =
     let s = c .before .before .before .before .before .before in
     let args = s .args in
     let by-function-not = function-not (s .pre .1 .0) (u16-at .result) (y .result) (y .ensures) (c .enum-told .given .1) in
-    call-unknown (decS (asLimits (args .sections .limits)) (args .schema .now)) (u16-at .result) (rd (args .v .now) 1) (args .extension) (u16-at .ensures .0)
+    call-unknown (countsOf (args .counts)) (decS (asLimits (args .sections .limits)) (args .schema .now)) (u16-at .result) (rd (args .v .now) 1) (args .extension) (u16-at .ensures .0)
     (argumentsOf (args .levels) (args .v .now)) by-function-not
 
 -- src/calls.rt:37:9
@@ -459,7 +492,7 @@ call-returns-returns-2 t c =
     let f = f-step .given .0 .0 in
     let g = function-at (s .pre .1 .0) (u16-at .result) (y .result) (y .ensures) f (f-step .given .1) in
     let args = s .args in
-    call-none (decS (asLimits (args .sections .limits)) (args .schema .now)) (u16-at .result) (rd (args .v .now) 1) (args .extension) (u16-at .ensures .0)
+    call-none (countsOf (args .counts)) (decS (asLimits (args .sections .limits)) (args .schema .now)) (u16-at .result) (rd (args .v .now) 1) (args .extension) (u16-at .ensures .0)
     (argumentsOf (args .levels) (args .v .now)) (f .returns) (f .extension) _ (g .is) (c .if1 .taken)
 
 -- src/calls.rt:40:9
@@ -473,7 +506,7 @@ call-returns-returns-3 t c =
     let f = f-step .given .0 .0 in
     let g = function-at (s .pre .1 .0) (u16-at .result) (y .result) (y .ensures) f (f-step .given .1) in
     let args = s .args in
-    call-other (decS (asLimits (args .sections .limits)) (args .schema .now)) (u16-at .result) (rd (args .v .now) 1) (args .extension) (u16-at .ensures .0)
+    call-other (countsOf (args .counts)) (decS (asLimits (args .sections .limits)) (args .schema .now)) (u16-at .result) (rd (args .v .now) 1) (args .extension) (u16-at .ensures .0)
     (argumentsOf (args .levels) (args .v .now)) (f .returns) (f .extension) _ (g .is) (if1 .left) (c .if2 .taken)
 
 -- src/calls.rt:44:37
@@ -527,7 +560,7 @@ call-returns-returns-4 t c =
     let f = f-step .given .0 .0 in
     let g = function-at (s .pre .1 .0) (u16-at .result) (y .result) (y .ensures) f (f-step .given .1) in
     let args = s .args in
-    c .arguments-fit .ensures ∙ call-arguments (decS (asLimits (args .sections .limits)) (args .schema .now)) (u16-at .result) (rd (args .v .now) 1)
+    c .arguments-fit .ensures ∙ call-arguments (countsOf (args .counts)) (decS (asLimits (args .sections .limits)) (args .schema .now)) (u16-at .result) (rd (args .v .now) 1)
     (args .extension) (u16-at .ensures .0)
     (argumentsOf (args .levels) (args .v .now)) (f .returns) (f .extension) _ (g .is) (if1 .left) (if2 .left)
 
@@ -565,6 +598,7 @@ pub +argument-fits+arguments-fit+call-returns-spec : {M : Type 1} → statement 
     (arguments-fit-part-b-start t)
     (arguments-fit-part-b-end t)
     (arguments-fit-loop-holds t)
+    (arguments-fit-left-over-requires t)
     (arguments-fit-returns t)
     (arguments-fit-u16-at-requires-2 t)
     (arguments-fit-sub-argument-fits t)
@@ -585,7 +619,9 @@ pub +argument-fits+arguments-fit+call-returns-spec : {M : Type 1} → statement 
     (arguments-fit-sub-left t)
     (arguments-fit-loop-less t)
     (arguments-fit-loop-again t)
-    (arguments-fit-returns-3 t))
+    (arguments-fit-left-over-requires-2 t)
+    (arguments-fit-returns-3 t)
+    (arguments-fit-returns-4 t))
     λ t. call-returns-lts.spec (call-returns-callees t)
     (call-returns-at t)
     call-returns.Post

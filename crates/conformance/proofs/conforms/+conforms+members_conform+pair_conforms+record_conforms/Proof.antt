@@ -6,7 +6,7 @@ use Rattle.conformance.proofs.OtherVerdicts.{no-yes}
 use Rattle.forms.specs.Limits.{asLimits}
 use Rattle.schemas.specs.SchemaBytes.{decS}
 use Rattle.forms.specs.TypeBytes.{attrRow, whole, dec}
-use Rattle.cedar.specs.Conformance.{shorter, eachValue, hasRequired, conforms as has, verdict}
+use Rattle.cedar.specs.Conformance.{eachValue, hasRequired, conforms as has, verdict}
 use Rattle.conformance.specs.Walks.{isOpen, attributesOf, membersOf, pairsOf, recordSaid}
 use Rattle.conformance.specs.Laws.Members.{MembersAhead, members-start, members-end, members-stop, members-again}
 use Rattle.conformance.specs.Laws.Ahead.{table-count, table-entries, ahead-room, ahead-inside, ahead-body}
@@ -16,6 +16,7 @@ use Rattle.conformance.specs.Laws.Conforms.{action-name, extension-call}
 use Rattle.conformance.specs.Laws.Values.{value-level, value-first, value-as}
 use Rattle.forms.specs.Laws.Parts.{length-rest, rest-0}
 use Rattle.forms.specs.Laws.Views.{not-empty, is-set, is-entity, is-action, is-extension}
+use Rattle.conformance.specs.Counts.{countsOf}
 use Rattle.conformance.specs.Verdicts.{verdictOf}
 use mathlib.Core.Bool.{Bool}
 use mathlib.Core.Path.{refl, ap, _∙_}
@@ -54,16 +55,16 @@ use Rattle.conformance.proofs.conforms.+conforms+members_conform+pair_c
 }
 
 abbrev μ-conforms : Measures 3 conforms-kinds.ps ℕ
-μ-conforms κs a = 3 * a .1 .1 .1 .1 .0
+μ-conforms κs a = 3 * a .1 .1 .1 .1 .1 .0
 
 abbrev μ-members-conform : Measures 3 members-conform-kinds.ps ℕ
-μ-members-conform κs a = 3 * a .1 .1 .1 .1 .0 + 1
+μ-members-conform κs a = 3 * a .1 .1 .1 .1 .1 .0 + 1
 
 abbrev μ-pair-conforms : Measures 4 pair-conforms-kinds.ps ℕ
-μ-pair-conforms κs a = 3 * a .1 .1 .1 .1 .1 .1 .1 .1 .0 + 1
+μ-pair-conforms κs a = 3 * a .1 .1 .1 .1 .1 .1 .1 .1 .1 .0 + 1
 
 abbrev μ-record-conforms : Measures 3 record-conforms-kinds.ps ℕ
-μ-record-conforms κs a = 3 * a .1 .1 .1 .1 .0 + 2
+μ-record-conforms κs a = 3 * a .1 .1 .1 .1 .1 .0 + 2
 
 abbrev conforms-at : ℕ → In 3 conforms-kinds.ps
 conforms-at t = and 3 conforms-kinds.ps (is 3 conforms-kinds.ps μ-conforms t) conforms.Pre
@@ -158,7 +159,7 @@ conforms-returns t c =
     let q = c .before .takes-kind in
     let s = c .before .before .before .before .before .before .before in
     let args = s .args in
-    kind-not _ (args .levels) (args .t .now) (args .v .now) (s .pre .1 .1 .0) (s .pre .1 .1 .1) (q .result) (q .ensures) (c .if1 .taken)
+    kind-not _ _ (args .levels) (args .t .now) (args .v .now) (s .pre .1 .1 .0) (s .pre .1 .1 .1) (q .result) (q .ensures) (c .if1 .taken)
 
 -- src/conforms.rt:45:56
 conforms-sub-members-conform : (t : ℕ) → conforms-lts.Need-sub-members-conform (conforms-callees t) (conforms-at t) conforms.Post
@@ -372,7 +373,7 @@ conforms-returns-2 t c =
     let args = s .args in
     let by-taken-kind = taken-kind (args .t .now) (args .v .now) (q .result) (q .ensures) (if1 .left) 7 5 (match-keys1 .keys1) refl in
     (rw (rest-0 (args .v .now)) at (c .members-conform .ensures)) ∙
-    set-members _ (args .levels) (args .t .now) (args .v .now) (s .pre .1 .1 .0) (s .pre .1 .1 .1) (match-keys1 .keys1) by-taken-kind
+    set-members _ _ (args .levels) (args .t .now) (args .v .now) (s .pre .1 .1 .0) (s .pre .1 .1 .1) (match-keys1 .keys1) by-taken-kind
 
 -- src/conforms.rt:34:1
 conforms-returns-3 : (t : ℕ) → conforms-lts.Need-returns-3 (conforms-callees t) (conforms-at t) conforms.Post
@@ -384,7 +385,7 @@ conforms-returns-3 t c =
     let args = s .args in
     let by-taken-kind = taken-kind (args .t .now) (args .v .now) (q .result) (q .ensures) (if1 .left) 8 6 (match-keys2 .keys2) refl in
     (rw (rest-0 (args .t .now), rest-0 (args .v .now)) at (c .record-conforms .ensures)) ∙
-    record-pairs _ (args .levels) (args .t .now) (args .v .now) (s .pre .1 .1 .0) (s .pre .1 .1 .1) (match-keys2 .keys2) by-taken-kind
+    record-pairs _ _ (args .levels) (args .t .now) (args .v .now) (s .pre .1 .1 .0) (s .pre .1 .1 .1) (match-keys2 .keys2) by-taken-kind
 
 -- src/conforms.rt:34:1
 conforms-returns-4 : (t : ℕ) → conforms-lts.Need-returns-4 (conforms-callees t) (conforms-at t) conforms.Post
@@ -399,7 +400,7 @@ conforms-returns-4 t c =
     let args = s .args in
     let by-taken-kind = taken-kind (args .t .now) (args .v .now) (q .result) (q .ensures) (if1 .left) 10 4 (match-keys3 .keys3) refl in
     c .tested .ensures ∙ ap (λ (b : Bool). verdictOf (verdict b)) (c .before .stands .ensures) ∙
-    entity-names _ (args .levels) (args .t .now) (args .v .now) (s .pre .1 .1 .0) (s .pre .1 .1 .1) (match-keys3 .keys3) by-taken-kind (u16-at .result)
+    entity-names _ _ (args .levels) (args .t .now) (args .v .now) (s .pre .1 .1 .0) (s .pre .1 .1 .1) (match-keys3 .keys3) by-taken-kind (u16-at .result)
     (u16-at2 .result) (u16-at .ensures .0) (u16-at2 .ensures .0)
 
 -- src/conforms.rt:34:1
@@ -414,7 +415,7 @@ conforms-returns-5 t c =
     let args = s .args in
     let by-taken-kind = taken-kind (args .t .now) (args .v .now) (q .result) (q .ensures) (if1 .left) 11 4 (match-keys4 .keys4) refl in
     c .tested2 .ensures ∙ ap (λ (b : Bool). verdictOf (verdict b)) (c .before .is-action-of .ensures) ∙
-    action-name _ (args .levels) (args .t .now) (args .v .now) (s .pre .1 .1 .0) (s .pre .1 .1 .1) (match-keys4 .keys4) by-taken-kind (u16-at3 .result)
+    action-name _ _ (args .levels) (args .t .now) (args .v .now) (s .pre .1 .1 .0) (s .pre .1 .1 .1) (match-keys4 .keys4) by-taken-kind (u16-at3 .result)
     (u16-at4 .result) (u16-at3 .ensures .0) (u16-at4 .ensures .0)
 
 -- src/conforms.rt:34:1
@@ -428,7 +429,7 @@ conforms-returns-6 t c =
     let args = s .args in
     let by-taken-kind = taken-kind (args .t .now) (args .v .now) (q .result) (q .ensures) (if1 .left) 12 7 (match-keys5 .keys5) refl in
     (rw (rest-0 (args .v .now)) at (c .call-returns .ensures)) ∙
-    extension-call _ (args .levels) (args .t .now) (args .v .now) (s .pre .1 .1 .0) (s .pre .1 .1 .1) (match-keys5 .keys5) by-taken-kind (u16-at5 .result)
+    extension-call _ _ (args .levels) (args .t .now) (args .v .now) (s .pre .1 .1 .0) (s .pre .1 .1 .1) (match-keys5 .keys5) by-taken-kind (u16-at5 .result)
     (u16-at5 .ensures .0)
 
 -- src/conforms.rt:34:1
@@ -438,16 +439,16 @@ conforms-returns-7 t c =
     let s = c .before .before .before .before .before .before .before .before in
     let m = c .match .rest in
     let args = s .args in
-    kind-atom-yes _ (args .levels) (args .t .now) (args .v .now) (s .pre .1 .1 .0) (s .pre .1 .1 .1) (q .result) (q .ensures) (c .before .if1 .left)
+    kind-atom-yes _ _ (args .levels) (args .t .now) (args .v .now) (s .pre .1 .1 .0) (s .pre .1 .1 .1) (q .result) (q .ensures) (c .before .if1 .left)
     (m .0 .0 .0 .0 .1) (m .0 .0 .0 .1) (m .0 .0 .1) (m .0 .1) (m .1)
 
 abbrev members-conform-Inv-loop : members-conform-lts.InvT-loop
-members-conform-Inv-loop schema sections t v levels n end e₀ b₀ left₀ e b left =
-    MembersAhead levels (λ x. has shorter (decS (asLimits (sections .limits)) schema) (dec levels t) x)
-    (eachValue (λ x. has shorter (decS (asLimits (sections .limits)) schema) (dec levels t) x) (membersOf levels v)) left e b
+members-conform-Inv-loop counts schema sections t v levels n end e₀ b₀ left₀ e b left =
+    MembersAhead levels (λ x. has (countsOf counts) (decS (asLimits (sections .limits)) schema) (dec levels t) x)
+    (eachValue (λ x. has (countsOf counts) (decS (asLimits (sections .limits)) schema) (dec levels t) x) (membersOf levels v)) left e b
 
 abbrev members-conform-μ-loop : members-conform-lts.MeasureT-loop
-members-conform-μ-loop schema sections t v levels n end e₀ b₀ left₀ e b left = left
+members-conform-μ-loop counts schema sections t v levels n end e₀ b₀ left₀ e b left = left
 
 abbrev members-conform-callees : ℕ → members-conform-lts.Claims
 members-conform-callees t = (
@@ -684,7 +685,7 @@ pair-conforms-returns t c =
     let f = c .before .before .before .find in
     let s = c .before .before .before .before .before .before .before .before in
     let args = s .args in
-    c .tested .ensures ∙ pair-absent _ _ (args .levels) (args .n) (args .name) (args .f .now) (args .c .now) _ (s .pre .1 .1 .0) (f .result) (f .ensures)
+    c .tested .ensures ∙ pair-absent _ _ _ (args .levels) (args .n) (args .name) (args .f .now) (args .c .now) _ (s .pre .1 .1 .0) (f .result) (f .ensures)
     (c .before .enum-told .given .1)
 
 -- src/conforms.rt:150:14
@@ -800,16 +801,16 @@ pair-conforms-returns-2 t c =
     let g = i .given in
     let args = s .args in
     c .conforms .ensures ∙ pair-found (args .levels) (args .n) (args .name) (args .f .now) (args .c .now) (s .pre .1 .1 .0) (f .result) (f .ensures) (g .0 .0)
-    (g .0 .1 .0) (g .1) (u16-at .result) (u16-at .ensures .0) _ _ _
+    (g .0 .1 .0) (g .1) (u16-at .result) (u16-at .ensures .0) _ _ _ _
 
 abbrev record-conforms-Inv-loop : record-conforms-lts.InvT-loop
-record-conforms-Inv-loop schema sections t v levels m n p q f₀ c₀ e₀ b₀ ahead₀ left₀ f c e b ahead left =
-    RecordAhead levels (decS (asLimits (sections .limits)) schema) (isOpen t) (recordSaid (decS (asLimits (sections .limits)) schema) (isOpen t)
+record-conforms-Inv-loop counts schema sections t v levels m n p q f₀ c₀ e₀ b₀ ahead₀ left₀ f c e b ahead left =
+    RecordAhead levels (countsOf counts) (decS (asLimits (sections .limits)) schema) (isOpen t) (recordSaid (countsOf counts) (decS (asLimits (sections .limits)) schema) (isOpen t)
     (attributesOf levels t) (pairsOf levels v))
     (verdict (hasRequired (attributesOf levels t) (pairsOf levels v))) ahead f c left e b
 
 abbrev record-conforms-μ-loop : record-conforms-lts.MeasureT-loop
-record-conforms-μ-loop schema sections t v levels m n p q f₀ c₀ e₀ b₀ ahead₀ left₀ f c e b ahead left = left
+record-conforms-μ-loop counts schema sections t v levels m n p q f₀ c₀ e₀ b₀ ahead₀ left₀ f c e b ahead left = left
 
 abbrev record-conforms-callees : ℕ → record-conforms-lts.Claims
 record-conforms-callees t = (
@@ -966,7 +967,7 @@ record-conforms-loop-holds t c =
     let u16-at = c .before .before .before .before .before .u16-at in
     let s = c .before .before .before .before .before .before .before .before .before in
     let args = s .args in
-    record-start (args .levels) _ (args .t .now) (args .v .now) (s .pre .1 .1 .0) (s .pre .1 .1 .1) (u16-at .result) (u16-at2 .result) (u16-at .ensures .0)
+    record-start (args .levels) _ _ (args .t .now) (args .v .now) (s .pre .1 .1 .0) (s .pre .1 .1 .1) (u16-at .result) (u16-at2 .result) (u16-at .ensures .0)
     (u16-at2 .ensures .0) (u16-at .ensures .1) _
 
 -- src/conforms.rt:108:13
