@@ -18,10 +18,10 @@ use Rattle.cedar.specs.Whole.{wholeSchema, wholeType}
 use Rattle.cedar.specs.Result.{Result, ok, err, badLimits, badSchema, badFirst}
 use Rattle.cedar.specs.Bound.{bound}
 use Rattle.cedar.specs.Attribute.{ownAttr}
-use Rattle.cedar.specs.Conformance.{shorter}
+use Rattle.cedar.specs.Conformance.{Counts}
 use Rattle.cedar.specs.Conforms.{Conforms}
 use Rattle.cedar.specs.Outcome.{Outcome, refused, said, nothing, typed, attribute, named, bytesOf, resultAfter}
-use Rattle.cedar.specs.Calls.{ask, modeOf, writeType, disjointCall, boundCall, lookupCall, ownAttributeCall, mayHaveCall, conformsCall}
+use Rattle.cedar.specs.Calls.{ask, modeOf, writeType, disjointCall, boundCall, lookupCall, ownAttributeCall, mayHaveCall, conformsBy}
 use Rattle.cedar.specs.Sequence.{written, LooksUp}
 use Rattle.cedar.specs.Laws.Calls.{ask-case, allowed-case, answer-case}
 use Rattle.validator.specs.Answers.{answerOf, Answered, AnsweredIn}
@@ -179,6 +179,7 @@ pub may-have-no : (lim : Limits) (schema : List ℕ) (a : ℕ) (t : List ℕ) (r
     (r ≡ No) ↔ (mayHaveCall lim schema a t ≡ said false)
 may-have-no lim schema a t r h = ((λ e. no-said (mayHaveCall lim schema a t) (sym h ∙ e)), (λ e. h ∙ ap answerOf e))
 
--- Conformance: Yes is conforming.
-pub conforms-said : (lim : Limits) (schema t v : List ℕ) (r : Answer) → r ≡ answerOf (conformsCall lim schema t v) → (r ≡ Yes) ↔ Conforms lim shorter schema t v
-conforms-said lim schema t v r h = ((λ e. yes-said (conformsCall lim schema t v) (sym h ∙ e)), (λ c. h ∙ ap answerOf c))
+-- Conformance, by either rule on counts: Yes is conforming.
+pub conforms-said : (rule : Counts) (lim : Limits) (schema t v : List ℕ) (r : Answer) → r ≡ answerOf (conformsBy rule lim schema t v) →
+    (r ≡ Yes) ↔ Conforms lim rule schema t v
+conforms-said rule lim schema t v r h = ((λ e. yes-said (conformsBy rule lim schema t v) (sym h ∙ e)), (λ c. h ∙ ap answerOf c))

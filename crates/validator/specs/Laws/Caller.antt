@@ -9,7 +9,7 @@ use lib.ListN.{length}
 use Rattle.cedar.specs.Types.{mem}
 use Rattle.cedar.specs.Bytes.{Bytes}
 use Rattle.cedar.specs.Limits.{Limits}
-use Rattle.cedar.specs.Conformance.{shorter}
+use Rattle.cedar.specs.Conformance.{Counts}
 use Rattle.cedar.specs.Conforms.{Conforms}
 use Rattle.cedar.specs.Calls.{boundCall}
 use Rattle.cedar.specs.Sequence.{Listed, Step, standing, EachBytes, givenFrom, written, copied, afterStep, afterSteps, Kept}
@@ -61,11 +61,12 @@ module _ (lim : Limits) (schema : List ℕ) where
   steps-called [] xs ks = refl
   steps-called (c ∷ cs) xs ks = ap (λ (l : List Listed). afterSteps lim schema l cs) (step-called xs c (ks .0)) ∙ steps-called cs (afterCalled (ks .0)) (ks .1)
 
--- The theorem of the caller's list: a value that conforms to a type on it keeps what is said of it for every type made from that one.
-pub caller-keeps : (lim : Limits) (schema : List ℕ) (given : List (List ℕ)) (steps : List Step) → Bytes schema → EachBytes given
+-- The theorem of the caller's list, by either rule on counts: a value that conforms to a type on it keeps what is said of it for every
+-- type made from that one.
+pub caller-keeps : (lim : Limits) (rule : Counts) (schema : List ℕ) (given : List (List ℕ)) (steps : List Step) → Bytes schema → EachBytes given
     → (ks : AllCalled lim schema (givenFrom 0 given) steps) → let listed = afterAllCalled lim schema (givenFrom 0 given) steps ks in
     (i j : ℕ) (x y : Listed) → standing listed i ≡ some x → standing listed j ≡ some y → T (mem i (y .madeFrom))
-    → (v : List ℕ) → Conforms lim shorter schema (x .form) v → Kept lim shorter schema (y .form) v
-caller-keeps lim schema given steps hs hg ks i j x y ei ej =
+    → (v : List ℕ) → Conforms lim rule schema (x .form) v → Kept lim rule schema (y .form) v
+caller-keeps lim rule schema given steps hs hg ks i j x y ei ej =
     let e = steps-called lim schema steps (givenFrom 0 given) ks in
-    run-keeps lim shorter schema given steps hs hg i j x y (ap (λ (l : List Listed). standing l i) e ∙ ei) (ap (λ (l : List Listed). standing l j) e ∙ ej)
+    run-keeps lim rule schema given steps hs hg i j x y (ap (λ (l : List Listed). standing l i) e ∙ ei) (ap (λ (l : List Listed). standing l j) e ∙ ej)

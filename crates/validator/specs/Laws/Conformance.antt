@@ -7,8 +7,8 @@ use Prim.Native.Nat.{ℕ}
 use Rattle.cedar.specs.Types.{Ty, Value, Schema}
 use Rattle.cedar.specs.Limits.{Limits, allowed}
 use Rattle.cedar.specs.Whole.{wholeSchema, wholeType, wholeValue}
-use Rattle.cedar.specs.Conformance.{Verdict as Said, holds, fails, failsInside, unknown, shorter, conforms}
-use Rattle.cedar.specs.Calls.{ofVerdict, conformsCall}
+use Rattle.cedar.specs.Conformance.{Verdict as Said, holds, fails, failsInside, unknown, Counts, conforms}
+use Rattle.cedar.specs.Calls.{ofVerdict, conformsBy}
 use Rattle.conformance.specs.declared.verdicts.Verdict.{Verdict}
 use Rattle.conformance.specs.declared.verdicts.Verdict.the-variants.{Holds, Fails, FailsInside, Unknown}
 use Rattle.conformance.specs.Verdicts.{verdictOf}
@@ -29,19 +29,19 @@ answered fails = refl
 answered failsInside = refl
 answered unknown = refl
 
-module _ (lim : Limits) (fair : allowed lim ≡ true) (schema t v : List ℕ) where
-  pub conforms-no-schema : wholeSchema lim schema ≡ none → Refused 2 ≡ answerOf (conformsCall lim schema t v)
+module _ (rule : Counts) (lim : Limits) (fair : allowed lim ≡ true) (schema t v : List ℕ) where
+  pub conforms-no-schema : wholeSchema lim schema ≡ none → Refused 2 ≡ answerOf (conformsBy rule lim schema t v)
   conforms-no-schema e = rw (fair, e) refl
 
   module _ (s : Schema) (e : wholeSchema lim schema ≡ some s) where
-    pub conforms-no-type : wholeType lim t ≡ none → Refused 3 ≡ answerOf (conformsCall lim schema t v)
+    pub conforms-no-type : wholeType lim t ≡ none → Refused 3 ≡ answerOf (conformsBy rule lim schema t v)
     conforms-no-type f = rw (fair, e, f) refl
 
     module _ (a : Ty) (f : wholeType lim t ≡ some a) where
-      pub conforms-no-value : wholeValue lim v ≡ none → Refused 5 ≡ answerOf (conformsCall lim schema t v)
+      pub conforms-no-value : wholeValue lim v ≡ none → Refused 5 ≡ answerOf (conformsBy rule lim schema t v)
       conforms-no-value g = rw (fair, e, f, g) refl
 
       -- The walk's verdict.
-      pub conforms-said : (x : Value) → wholeValue lim v ≡ some x → (d : Verdict) → d ≡ verdictOf (conforms shorter s a x) → (w : Verdict) → d ≡ w →
-          answerTo w ≡ answerOf (conformsCall lim schema t v)
-      conforms-said x g d q w z = ap answerTo (sym z ∙ q) ∙ answered (conforms shorter s a x) ∙ rw (fair, e, f, g) refl
+      pub conforms-said : (x : Value) → wholeValue lim v ≡ some x → (d : Verdict) → d ≡ verdictOf (conforms rule s a x) → (w : Verdict) → d ≡ w →
+          answerTo w ≡ answerOf (conformsBy rule lim schema t v)
+      conforms-said x g d q w z = ap answerTo (sym z ∙ q) ∙ answered (conforms rule s a x) ∙ rw (fair, e, f, g) refl

@@ -1,17 +1,17 @@
--- `validator::typecheck_restricted_expr::typecheck_restricted_expr_checked` meets its contract. Assumes nothing.
+-- `validator::typecheck_restricted_expr::conforms_checked` meets its contract. Assumes nothing.
 use mathlib.Core.Path.{_≡_, sym, ap}
-use Rattle.cedar.specs.Calls.{conformsCall}
-use Rattle.cedar.specs.Conformance.{shorter}
+use Rattle.cedar.specs.Calls.{conformsBy}
 use Rattle.validator.specs.Answers.{answerOf}
 use Rattle.cedar.specs.Limits.{Limits}
 use Rattle.cedar.specs.Laws.Limits.{conforms-refused}
 use Rattle.forms.specs.Limits.{asLimits}
 use Rattle.schemas.specs.SchemaBytes.{limitsOf}
+use Rattle.conformance.specs.Counts.{countsOf}
 use Rattle.validator.specs.Laws.Schemas.{kept-refused, kept-allowed, kept-missing, kept-sections, kept-under}
 use Rattle.validator.specs.Laws.Conformance.{conforms-no-schema}
 use borrow.Author.Needs.{needs}
-use Rattle.validator.proofs.typecheck_restricted_expr.typecheck_restricted_expr_checked.Statement.{statement}
-use Rattle.validator.proofs.typecheck_restricted_expr.typecheck_restricted_expr_checked.Tie as tie
+use Rattle.validator.proofs.typecheck_restricted_expr.conforms_checked.Statement.{statement}
+use Rattle.validator.proofs.typecheck_restricted_expr.conforms_checked.Tie as tie
 
 limits-requires : tie.Need-limits-requires
 limits-requires c κs = search needs
@@ -27,7 +27,7 @@ returns c =
     let args = start .args in
     let bad = kept-refused (args .schema .now) (args .check) (start .pre) (limits .limits .result) (limits .limits .ensures) (allowed .are-allowed .result)
     (allowed .are-allowed .ensures) (c .if1 .taken) in
-    sym (ap answerOf (conforms-refused (asLimits (limitsOf (args .check))) bad shorter (args .schema .now) (args .t .now) (args .v .now)))
+    sym (ap answerOf (conforms-refused (asLimits (limitsOf (args .check))) bad (countsOf (args .counts)) (args .schema .now) (args .t .now) (args .v .now)))
 
 enum-known-check : tie.Need-enum-known-check
 enum-known-check c = search needs
@@ -44,7 +44,7 @@ returns-2 c =
     let args = start .args in
     let fair = kept-allowed (args .schema .now) (args .check) (start .pre) (limits .limits .result) (limits .limits .ensures) (allowed .are-allowed .result)
     (allowed .are-allowed .ensures) (else1 .if1 .left) in
-    conforms-no-schema (asLimits (limitsOf (args .check))) fair (args .schema .now) (args .t .now) (args .v .now)
+    conforms-no-schema (countsOf (args .counts)) (asLimits (limitsOf (args .check))) fair (args .schema .now) (args .t .now) (args .v .now)
     (kept-missing (args .schema .now) (args .check) (start .pre) fair (c .enum-told .given .0 .0) (c .enum-told .given .1))
 
 conforms-under-requires : tie.Need-conforms-under-requires
@@ -60,10 +60,10 @@ returns-3 c =
     let start = check .before .before .before .before .before .before .before .before in
     let args = start .args in
     kept-under (args .schema .now) (args .check) (start .pre) (check .check .given .0 .0) (check .check .given .1)
-    (λ (lim : Limits). c .conforms-under .result ≡ answerOf (conformsCall lim (args .schema .now) (args .t .now) (args .v .now))) (c .conforms-under .ensures)
+    (λ (lim : Limits). c .conforms-under .result ≡ answerOf (conformsBy (countsOf (args .counts)) lim (args .schema .now) (args .t .now) (args .v .now))) (c .conforms-under .ensures)
 
-pub typecheck-restricted-expr-checked-spec : {M : Type 1} → statement M
-typecheck-restricted-expr-checked-spec =
+pub conforms-checked-spec : {M : Type 1} → statement M
+conforms-checked-spec =
     tie.close
     (tie.spec
     limits-requires

@@ -5,6 +5,7 @@ use Rattle.validator.specs.Laws.Values.{value-missing, value-there, valu
 use Rattle.validator.specs.Laws.Schemas.{sectioned-there}
 use Rattle.validator.specs.Laws.Questions.{type-missing, type-there, type-whole}
 use Rattle.conformance.specs.declared.verdicts.Verdict.the-variants.{Holds, Fails, FailsInside, Unknown}
+use Rattle.conformance.specs.Counts.{countsOf}
 use Rattle.schemas.specs.SchemaBytes.{decS}
 use Rattle.forms.specs.ValueBytes.{decV}
 use Rattle.forms.specs.TypeBytes.{dec}
@@ -22,7 +23,7 @@ returns c =
     let z = c .before .whole-type in
     let start = c .before .before .before .before .before .before in
     let s = start .args in
-    conforms-no-type (asLimits (s .«at» .limits)) (start .pre .fair) (s .schema .now) (s .t .now) (s .v .now) (decS (asLimits (s .«at» .limits))
+    conforms-no-type (countsOf (s .counts)) (asLimits (s .«at» .limits)) (start .pre .fair) (s .schema .now) (s .t .now) (s .v .now) (decS (asLimits (s .«at» .limits))
     (s .schema .now))
     (sectioned-there (s .schema .now) (s .«at») (start .pre)) (type-missing (asLimits (s .«at» .limits)) (s .t .now) (z .result) (z .ensures) (c .if1 .taken))
 
@@ -36,7 +37,7 @@ returns-2 c =
     let z = else1 .before .whole-type in
     let start = else1 .before .before .before .before .before .before in
     let s = start .args in
-    conforms-no-value (asLimits (s .«at» .limits)) (start .pre .fair) (s .schema .now) (s .t .now) (s .v .now) (decS (asLimits (s .«at» .limits))
+    conforms-no-value (countsOf (s .counts)) (asLimits (s .«at» .limits)) (start .pre .fair) (s .schema .now) (s .t .now) (s .v .now) (decS (asLimits (s .«at» .limits))
     (s .schema .now))
     (sectioned-there (s .schema .now) (s .«at») (start .pre)) (dec (s .«at» .limits .levels) (s .t .now))
     (type-there (asLimits (s .«at» .limits)) (s .t .now) (z .result) (z .ensures) (else1 .if1 .left)) (value-missing (asLimits (s .«at» .limits))
@@ -78,7 +79,7 @@ returns-3 c =
     let z = else1 .before .whole-type in
     let start = else1 .before .before .before .before .before .before in
     let s = start .args in
-    conforms-said (asLimits (s .«at» .limits)) (start .pre .fair) (s .schema .now) (s .t .now) (s .v .now) (decS (asLimits (s .«at» .limits)) (s .schema .now))
+    conforms-said (countsOf (s .counts)) (asLimits (s .«at» .limits)) (start .pre .fair) (s .schema .now) (s .t .now) (s .v .now) (decS (asLimits (s .«at» .limits)) (s .schema .now))
     (sectioned-there (s .schema .now) (s .«at») (start .pre)) (dec (s .«at» .limits .levels) (s .t .now))
     (type-there (asLimits (s .«at» .limits)) (s .t .now) (z .result) (z .ensures) (else1 .if1 .left)) (decV (s .«at» .limits .levels) (s .v .now))
     (value-there (asLimits (s .«at» .limits)) (s .v .now) (w .result) (w .ensures) (else2 .if2 .left)) (d .result) (d .ensures) Holds (c .enum-told .given .1)
@@ -92,7 +93,7 @@ returns-4 c =
     let z = else1 .before .whole-type in
     let start = else1 .before .before .before .before .before .before in
     let s = start .args in
-    conforms-said (asLimits (s .«at» .limits)) (start .pre .fair) (s .schema .now) (s .t .now) (s .v .now) (decS (asLimits (s .«at» .limits)) (s .schema .now))
+    conforms-said (countsOf (s .counts)) (asLimits (s .«at» .limits)) (start .pre .fair) (s .schema .now) (s .t .now) (s .v .now) (decS (asLimits (s .«at» .limits)) (s .schema .now))
     (sectioned-there (s .schema .now) (s .«at») (start .pre)) (dec (s .«at» .limits .levels) (s .t .now))
     (type-there (asLimits (s .«at» .limits)) (s .t .now) (z .result) (z .ensures) (else1 .if1 .left)) (decV (s .«at» .limits .levels) (s .v .now))
     (value-there (asLimits (s .«at» .limits)) (s .v .now) (w .result) (w .ensures) (else2 .if2 .left)) (d .result) (d .ensures) Fails (c .enum-told2 .given .1)
@@ -106,7 +107,7 @@ returns-5 c =
     let z = else1 .before .whole-type in
     let start = else1 .before .before .before .before .before .before in
     let s = start .args in
-    conforms-said (asLimits (s .«at» .limits)) (start .pre .fair) (s .schema .now) (s .t .now) (s .v .now) (decS (asLimits (s .«at» .limits)) (s .schema .now))
+    conforms-said (countsOf (s .counts)) (asLimits (s .«at» .limits)) (start .pre .fair) (s .schema .now) (s .t .now) (s .v .now) (decS (asLimits (s .«at» .limits)) (s .schema .now))
     (sectioned-there (s .schema .now) (s .«at») (start .pre)) (dec (s .«at» .limits .levels) (s .t .now))
     (type-there (asLimits (s .«at» .limits)) (s .t .now) (z .result) (z .ensures) (else1 .if1 .left)) (decV (s .«at» .limits .levels) (s .v .now))
     (value-there (asLimits (s .«at» .limits)) (s .v .now) (w .result) (w .ensures) (else2 .if2 .left)) (d .result) (d .ensures) FailsInside
@@ -121,7 +122,7 @@ returns-6 c =
     let z = else1 .before .whole-type in
     let start = else1 .before .before .before .before .before .before in
     let s = start .args in
-    conforms-said (asLimits (s .«at» .limits)) (start .pre .fair) (s .schema .now) (s .t .now) (s .v .now) (decS (asLimits (s .«at» .limits)) (s .schema .now))
+    conforms-said (countsOf (s .counts)) (asLimits (s .«at» .limits)) (start .pre .fair) (s .schema .now) (s .t .now) (s .v .now) (decS (asLimits (s .«at» .limits)) (s .schema .now))
     (sectioned-there (s .schema .now) (s .«at») (start .pre)) (dec (s .«at» .limits .levels) (s .t .now))
     (type-there (asLimits (s .«at» .limits)) (s .t .now) (z .result) (z .ensures) (else1 .if1 .left)) (decV (s .«at» .limits .levels) (s .v .now))
     (value-there (asLimits (s .«at» .limits)) (s .v .now) (w .result) (w .ensures) (else2 .if2 .left)) (d .result) (d .ensures) Unknown
