@@ -14,10 +14,11 @@ use validator::may_have_attr::may_have_attr;
 use validator::own_attribute_type::own_attribute_part;
 use validator::reduce_to_least_upper_bound::reduce_to_least_upper_bound;
 use validator::typecheck_restricted_expr::typecheck_restricted_expr;
+use validator::typecheck_restricted_expr::typecheck_restricted_expr_exact;
 ghost use mathlib.Core.Path.{_≡_};
 ghost use lib.ListN.{length};
 ghost use Rattle.cedar.specs.BodyPlace.{bodyIn};
-ghost use Rattle.cedar.specs.Calls.{subtypeCall, boundCall, foldCall, lookupCall, ownAttributeCall, mayHaveCall, namesCall, literalCall, conformsCall, disjointCall, consistentCall, convertCall};
+ghost use Rattle.cedar.specs.Calls.{subtypeCall, boundCall, foldCall, lookupCall, ownAttributeCall, mayHaveCall, namesCall, literalCall, conformsCall, fullCall, disjointCall, consistentCall, convertCall};
 ghost use Rattle.validator.specs.Answers.{answerOf};
 ghost use Rattle.validator.specs.Handed.{partOf};
 ghost use Rattle.exports.specs.Checks.{within};
@@ -182,6 +183,20 @@ pub extern "C" fn tirncheav_typecheck_restricted_expr(
     ensures { λ r. ⌜ r ≡ answerNumber (answerOf (conformsCall (within levels bytes) (now (schema .entry)) (now (t .entry)) (now (v .entry)))) ⌝ }
 {
     answer_number(typecheck_restricted_expr(Limits { levels, bytes }, schema, t, v))
+}
+
+// Has a value a type under a schema, each call with as many arguments as its function declares?
+#[no_mangle]
+pub extern "C" fn tirncheav_typecheck_restricted_expr_exact(
+    levels: usize,
+    bytes: usize,
+    schema: &[u8],
+    t: &[u8],
+    v: &[u8],
+) -> u64
+    ensures { λ r. ⌜ r ≡ answerNumber (answerOf (fullCall (within levels bytes) (now (schema .entry)) (now (t .entry)) (now (v .entry)))) ⌝ }
+{
+    answer_number(typecheck_restricted_expr_exact(Limits { levels, bytes }, schema, t, v))
 }
 
 // The type of a uid.

@@ -12,10 +12,11 @@ use validator::may_have_attr::may_have_attr_checked;
 use validator::own_attribute_type::own_attribute_part_checked;
 use validator::reduce_to_least_upper_bound::reduce_to_least_upper_bound_checked;
 use validator::typecheck_restricted_expr::typecheck_restricted_expr_checked;
+use validator::typecheck_restricted_expr::typecheck_restricted_expr_exact_checked;
 ghost use mathlib.Core.Path.{_≡_};
 ghost use lib.ListN.{length};
 ghost use Rattle.cedar.specs.BodyPlace.{bodyIn};
-ghost use Rattle.cedar.specs.Calls.{subtypeCall, boundCall, foldCall, lookupCall, ownAttributeCall, mayHaveCall, namesCall, literalCall, conformsCall};
+ghost use Rattle.cedar.specs.Calls.{subtypeCall, boundCall, foldCall, lookupCall, ownAttributeCall, mayHaveCall, namesCall, literalCall, conformsCall, fullCall};
 ghost use Rattle.forms.specs.Limits.{asLimits};
 ghost use Rattle.schemas.specs.SchemaBytes.{checked};
 ghost use Rattle.validator.specs.Answers.{answerOf};
@@ -155,6 +156,20 @@ pub extern "C" fn tirncheav_typecheck_restricted_expr_checked(
     ensures { λ r. ⌜ r ≡ answerNumber (answerOf (conformsCall (asLimits (limitsIn check)) (now (schema .entry)) (now (t .entry)) (now (v .entry)))) ⌝ }
 {
     answer_number(typecheck_restricted_expr_checked(schema, check_again(schema, check), t, v))
+}
+
+// Has a value a type under a schema, each call with as many arguments as its function declares?
+#[no_mangle]
+pub extern "C" fn tirncheav_typecheck_restricted_expr_exact_checked(
+    schema: &[u8],
+    check: u64,
+    t: &[u8],
+    v: &[u8],
+) -> u64
+    requires { ⌜ check ≡ checkNumber (checked (limitsIn check) (now schema)) ⌝ }
+    ensures { λ r. ⌜ r ≡ answerNumber (answerOf (fullCall (asLimits (limitsIn check)) (now (schema .entry)) (now (t .entry)) (now (v .entry)))) ⌝ }
+{
+    answer_number(typecheck_restricted_expr_exact_checked(schema, check_again(schema, check), t, v))
 }
 
 // The type of a uid.

@@ -23,9 +23,9 @@ use Rattle.cedar.specs.Attribute.{lookup, mayHave, allNames}
 use Rattle.cedar.specs.Consistency.{plain, consistent}
 use Rattle.cedar.specs.Conversion.{convert}
 use Rattle.cedar.specs.Literal.{literal}
-use Rattle.cedar.specs.Conformance.{Verdict, holds, fails, failsInside, unknown, shorter, conforms, asUid}
+use Rattle.cedar.specs.Conformance.{Verdict, holds, fails, failsInside, unknown, Counts, conforms, asUid}
 use Rattle.cedar.specs.Calls.{ask, modeOf, stepFits, answer, writeType, writeAttribute, writeNames, ofVerdict, literalCall, disjointCall, subtypeCall}
-use Rattle.cedar.specs.Calls.{boundCall, foldCall, lookupCall, mayHaveCall, namesCall, consistentCall, convertCall, conformsCall}
+use Rattle.cedar.specs.Calls.{boundCall, foldCall, lookupCall, mayHaveCall, namesCall, consistentCall, convertCall, conformsBy}
 use Rattle.cedar.specs.Laws.Limits.{allowed-bytes}
 use Rattle.validator.specs.Answers.{answerOf}
 use Rattle.validator.specs.declared.answers.Answer.{Answer}
@@ -106,10 +106,10 @@ module _ (lim : Limits) where
   convert-short t room =
       limited lim _ λ fair. asked _ (wholeType lim t) _ λ a. asked _ (convert a) _ λ c. type-short (allowed-bytes lim fair .1) room (ok c)
 
-  pub conforms-short : (schema t v : List ℕ) → Short (conformsCall lim schema t v)
-  conforms-short schema t v =
+  pub conforms-short : (rule : Counts) (schema t v : List ℕ) → Short (conformsBy rule lim schema t v)
+  conforms-short rule schema t v =
       limited lim _ λ _. asked _ (wholeSchema lim schema) _ λ s. asked _ (wholeType lim t) _ λ a. asked _ (wholeValue lim v) _ λ x.
-      verdict-short (conforms shorter s a x)
+      verdict-short (conforms rule s a x)
 
   module _ (schema : List ℕ) where
     pub literal-short : (v : List ℕ) (room : ℕ) → Short (literalCall lim schema v room)

@@ -1,4 +1,5 @@
 -- `exports::calls::tirncheav_typecheck_restricted_expr` meets its contract. Assumes nothing.
+use Rattle.cedar.specs.Conformance.{shorter}
 use Rattle.exports.specs.Checks.{within}
 use mathlib.Core.Path.{ap, _∙_}
 use Rattle.exports.specs.Numbers.{answerNumber}
@@ -14,7 +15,7 @@ answer-number-requires : tie.Need-answer-number-requires
 answer-number-requires c κs =
     let start = c .before .before .before .before in
     let args = start .args in
-    brief (c .typecheck-restricted-expr .result) (conforms-short (within (args .levels) (args .bytes)) (args .schema .now) (args .t .now) (args .v .now))
+    brief (c .typecheck-restricted-expr .result) (conforms-short (within (args .levels) (args .bytes)) shorter (args .schema .now) (args .t .now) (args .v .now))
     (c .typecheck-restricted-expr .ensures)
 
 returns : tie.Need-returns

@@ -1,6 +1,7 @@
 -- `exports::checked_calls::tirncheav_typecheck_restricted_expr_checked` meets its contract. Assumes nothing.
 use Rattle.cedar.specs.Calls.{conformsCall}
 use Rattle.validator.specs.Answers.{answerOf}
+use Rattle.cedar.specs.Conformance.{shorter}
 use Rattle.cedar.specs.Limits.{Limits}
 use Rattle.forms.specs.Limits.{asLimits}
 use Rattle.schemas.specs.SchemaBytes.{limitsOf}
@@ -28,7 +29,7 @@ answer-number-requires c κs =
     let again = c .before in
     let start = c .before .before .before .before .before in
     let args = start .args in
-    brief (c .typecheck-restricted-expr-checked .result) (conforms-short (asLimits (limitsOf (again .check-again .result))) (args .schema .now)
+    brief (c .typecheck-restricted-expr-checked .result) (conforms-short (asLimits (limitsOf (again .check-again .result))) shorter (args .schema .now)
     (args .t .now) (args .v .now))
     (c .typecheck-restricted-expr-checked .ensures)
 
