@@ -14,6 +14,7 @@ use exports::calls::tirncheav_may_have_attr;
 use exports::calls::tirncheav_own_attribute_type;
 use exports::calls::tirncheav_reduce_to_least_upper_bound;
 use exports::calls::tirncheav_typecheck_restricted_expr;
+use exports::calls::tirncheav_typecheck_restricted_expr_exact;
 use forms::limits::Limits;
 use trial::Form;
 use trial::result;
@@ -107,15 +108,14 @@ fn ask_convert() {
     print_result(b"convert", n, &out);
 }
 
-fn ask_conforms(schema: &[u8]) {
-    let n = tirncheav_typecheck_restricted_expr(
-        Limits::LEVELS,
-        Limits::BYTES,
-        schema,
-        &Form::ENTITY_2,
-        &Form::UID_2,
-    );
+fn ask_conforms(schema: &[u8], t: &[u8], v: &[u8]) {
+    let n = tirncheav_typecheck_restricted_expr(Limits::LEVELS, Limits::BYTES, schema, t, v);
     print_number(b"typecheck_restricted_expr", n);
+}
+
+fn ask_full(schema: &[u8], t: &[u8], v: &[u8]) {
+    let n = tirncheav_typecheck_restricted_expr_exact(Limits::LEVELS, Limits::BYTES, schema, t, v);
+    print_number(b"typecheck_restricted_expr_exact", n);
 }
 
 fn ask_literal(schema: &[u8]) {
@@ -144,6 +144,13 @@ pub(crate) fn ask_all(schema: &[u8]) {
     ask_names(schema);
     ask_consistent();
     ask_convert();
-    ask_conforms(schema);
+    ask_conforms(schema, &Form::ENTITY_2, &Form::UID_2);
+    ask_full(schema, &Form::ENTITY_2, &Form::UID_2);
     ask_literal(schema);
+}
+
+// The two conformances of a call with an argument too many.
+pub(crate) fn ask_counted(schema: &[u8]) {
+    ask_conforms(schema, &Form::EXTENSION, &Form::CALL);
+    ask_full(schema, &Form::EXTENSION, &Form::CALL);
 }

@@ -11,6 +11,7 @@ use exports::checked_calls::tirncheav_may_have_attr_checked;
 use exports::checked_calls::tirncheav_own_attribute_type_checked;
 use exports::checked_calls::tirncheav_reduce_to_least_upper_bound_checked;
 use exports::checked_calls::tirncheav_typecheck_restricted_expr_checked;
+use exports::checked_calls::tirncheav_typecheck_restricted_expr_exact_checked;
 use exports::checks::tirncheav_check_schema;
 use forms::limits::Limits;
 use trial::Form;
@@ -95,15 +96,16 @@ fn ask_names(schema: &[u8]) {
     print_both(b"all_attributes_checked", n, &out, &work);
 }
 
-fn ask_conforms(schema: &[u8]) {
+fn ask_conforms(schema: &[u8], t: &[u8], v: &[u8]) {
     let check = kept(schema);
-    let n = tirncheav_typecheck_restricted_expr_checked(
-        schema,
-        check,
-        &Form::ENTITY_2,
-        &Form::UID_2,
-    );
+    let n = tirncheav_typecheck_restricted_expr_checked(schema, check, t, v);
     print_number(b"typecheck_restricted_expr_checked", n);
+}
+
+fn ask_full(schema: &[u8], t: &[u8], v: &[u8]) {
+    let check = kept(schema);
+    let n = tirncheav_typecheck_restricted_expr_exact_checked(schema, check, t, v);
+    print_number(b"typecheck_restricted_expr_exact_checked", n);
 }
 
 fn ask_literal(schema: &[u8]) {
@@ -124,8 +126,15 @@ pub(crate) fn ask_all_checked(schema: &[u8]) {
     ask_own(schema);
     ask_may_have(schema);
     ask_names(schema);
-    ask_conforms(schema);
+    ask_conforms(schema, &Form::ENTITY_2, &Form::UID_2);
+    ask_full(schema, &Form::ENTITY_2, &Form::UID_2);
     ask_literal(schema);
+}
+
+// The two conformances of a call with an argument too many.
+pub(crate) fn ask_counted_checked(schema: &[u8]) {
+    ask_conforms(schema, &Form::EXTENSION, &Form::CALL);
+    ask_full(schema, &Form::EXTENSION, &Form::CALL);
 }
 
 // The entries that read nothing of a whole schema, under one that is not whole.

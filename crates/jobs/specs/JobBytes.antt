@@ -4,7 +4,7 @@ use mathlib.Core.List.{List, [], _∷_}
 use mathlib.Core.Bool.{Bool, _&&_, cond}
 use lib.Dec.{eqb, leb}
 use lib.ListN.{length, getD}
-use Rattle.cedar.specs.JobForm.{Operation, subtypeOp, boundOp, disjointOp, lookupOp, mayHaveOp, namesOp, consistentOp, convertOp, conformsOp, foldOp, literalOp}
+use Rattle.cedar.specs.JobForm.{Operation, subtypeOp, boundOp, disjointOp, lookupOp, mayHaveOp, namesOp, consistentOp, convertOp, conformsOp, foldOp, literalOp, fullOp}
 use Rattle.cedar.specs.JobForm.{takesMode, takesAttribute, takesSecond, takenOrZero, Question, Job}
 use Rattle.cedar.specs.Limits.{blockBytes}
 use Rattle.forms.specs.Parts.{part, rd}
@@ -14,9 +14,15 @@ use Rattle.schemas.specs.SchemaBytes.{checked}
 use Rattle.schemas.specs.declared.whole.Checked.{Checked}
 use Rattle.schemas.specs.declared.whole.Checked.the-variants.{Broken}
 
--- The operation of a number of at most 10.
+-- The number of the last operation.
+abbrev pub lastOperation : ℕ
+lastOperation = 11
+
+-- The operation of a number up to the last.
 abbrev pub opOf : ℕ → Operation
-opOf k = getD (subtypeOp ∷ boundOp ∷ disjointOp ∷ lookupOp ∷ mayHaveOp ∷ namesOp ∷ consistentOp ∷ convertOp ∷ conformsOp ∷ foldOp ∷ literalOp ∷ []) k subtypeOp
+opOf k =
+    getD (subtypeOp ∷ boundOp ∷ disjointOp ∷ lookupOp ∷ mayHaveOp ∷ namesOp ∷ consistentOp ∷ convertOp ∷ conformsOp ∷ foldOp ∷ literalOp ∷ fullOp ∷ []) k
+    subtypeOp
 
 -- The fields that an operation does not take are 0.
 abbrev pub fieldsFit : Operation → ℕ → ℕ → ℕ → Bool
@@ -24,7 +30,7 @@ fieldsFit o mode attribute second = takenOrZero (takesMode o) mode && (takenOrZe
 
 -- The entry at e: whether it is in order, what it asks, and how long its bodies are together.
 unfoldable pub entryFits : List ℕ → ℕ → Bool
-entryFits b e = leb (getD b e 0) 10 && fieldsFit (opOf (getD b e 0)) (getD b (e + 1) 0) (rd b (e + 2)) (rd b (e + 6))
+entryFits b e = leb (getD b e 0) lastOperation && fieldsFit (opOf (getD b e 0)) (getD b (e + 1) 0) (rd b (e + 2)) (rd b (e + 6))
 
 -- What the entry at e asks.
 unfoldable pub entryAt : List ℕ → ℕ → Question

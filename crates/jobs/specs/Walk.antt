@@ -14,7 +14,7 @@ use Rattle.jobs.specs.declared.questions.Cursor.{Cursor}
 use Rattle.jobs.specs.declared.questions.Question.{Question}
 use Rattle.jobs.specs.declared.steps.NextLine.{NextLine}
 use Rattle.jobs.specs.declared.steps.NextLine.the-variants.{Line, End}
-use Rattle.jobs.specs.JobBytes.{entryAt, lengthsAt, bodiesAt, bodiesFrom, schemaOf}
+use Rattle.jobs.specs.JobBytes.{lastOperation, entryAt, lengthsAt, bodiesAt, bodiesFrom, schemaOf}
 
 -- How many questions a job says it has, and where its first one stands.
 unfoldable pub countOf : List ℕ → ℕ
@@ -33,7 +33,7 @@ unfoldable pub standsAt : List ℕ → Cursor → Bool
 standsAt b c =
     ltb (c .index) (countOf b)
     && (leb (bodiesFrom b) (length b)
-    && (leb (getD b (entryOf c) 0) 10
+    && (leb (getD b (entryOf c) 0) lastOperation
     && (leb (c .body) (length b) && leb (lengthsAt b (entryOf c)) (length b - c .body))))
 
 -- The question there.

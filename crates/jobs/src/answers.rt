@@ -20,6 +20,7 @@ use validator::lookup_attribute_type::lookup_attribute_type_checked;
 use validator::may_have_attr::may_have_attr_checked;
 use validator::reduce_to_least_upper_bound::reduce_to_least_upper_bound_checked;
 use validator::typecheck_restricted_expr::typecheck_restricted_expr_checked;
+use validator::typecheck_restricted_expr::typecheck_restricted_expr_exact_checked;
 ghost use mathlib.Core.Path.{_≡_};
 ghost use mathlib.Core.Bool.{true};
 ghost use Prim.Native.Nat.{_≤_};
@@ -29,7 +30,7 @@ ghost use Rattle.cedar.specs.Calls.{foldCall, lookupCall, namesCall};
 ghost use Rattle.cedar.specs.Lines.{jobRoom, jobWork};
 ghost use Rattle.schemas.specs.SchemaBytes.{checked};
 ghost use Rattle.validator.specs.Answers.{Answered};
-ghost use Rattle.jobs.specs.JobBytes.{opOf, jobLimits, jobCheck};
+ghost use Rattle.jobs.specs.JobBytes.{lastOperation, opOf, jobLimits, jobCheck};
 ghost use Rattle.jobs.specs.Walk.{asked, standsAt, outcomeAt};
 
 // The fold of a list, with a job's workspace.
@@ -71,7 +72,7 @@ fn ask(
     second: &[u8],
     result: &mut [u8],
 ) -> Answer
-    requires { ⌜ q .operation ≤ 10 ⌝ }
+    requires { ⌜ q .operation ≤ lastOperation ⌝ }
     requires { ⌜ check ≡ checked jobLimits (now schema) ⌝ }
     requires { ⌜ length (now result) ≡ jobRoom ⌝ }
     ensures { λ r. ⌜ Answered (asked (opOf (q .operation)) (q .mode) (q .attribute) (now (schema .entry)) (now (first .entry)) (now (second .entry))) (now (result .entry)) (now (result .exit)) r ⌝ }
@@ -90,7 +91,8 @@ fn ask(
         Operation::CONVERT => convert(Limits::standard(), first, result),
         Operation::CONFORMS => typecheck_restricted_expr_checked(schema, check, first, second),
         Operation::FOLD => fold(schema, check, mode, first, result),
-        _ => euid_literal_checked(schema, check, first, result),
+        Operation::LITERAL => euid_literal_checked(schema, check, first, result),
+        _ => typecheck_restricted_expr_exact_checked(schema, check, first, second),
     }
 }
 

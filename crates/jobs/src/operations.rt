@@ -2,7 +2,7 @@
 ghost use mathlib.Core.Path.{_≡_};
 ghost use Prim.Native.Nat.{_≤_};
 ghost use Rattle.cedar.specs.JobForm.{takesMode, takesAttribute, takesSecond};
-ghost use Rattle.jobs.specs.JobBytes.{opOf};
+ghost use Rattle.jobs.specs.JobBytes.{lastOperation, opOf};
 
 pub struct Operation;
 
@@ -28,11 +28,15 @@ impl Operation {
     pub const FOLD: u8 = 9;
 
     pub const LITERAL: u8 = 10;
+
+    pub const FULL: u8 = 11;
+
+    pub const LAST: u8 = Operation::FULL;
 }
 
 // Whether an operation takes a mode.
 pub fn takes_mode(k: u8) -> bool
-    requires { ⌜ k ≤ 10 ⌝ }
+    requires { ⌜ k ≤ lastOperation ⌝ }
     ensures { λ r. ⌜ r ≡ takesMode (opOf k) ⌝ }
 {
     match k {
@@ -45,7 +49,7 @@ pub fn takes_mode(k: u8) -> bool
 
 // Whether an operation takes an attribute.
 pub fn takes_attribute(k: u8) -> bool
-    requires { ⌜ k ≤ 10 ⌝ }
+    requires { ⌜ k ≤ lastOperation ⌝ }
     ensures { λ r. ⌜ r ≡ takesAttribute (opOf k) ⌝ }
 {
     match k {
@@ -57,7 +61,7 @@ pub fn takes_attribute(k: u8) -> bool
 
 // Whether an operation takes a second body.
 pub fn takes_second(k: u8) -> bool
-    requires { ⌜ k ≤ 10 ⌝ }
+    requires { ⌜ k ≤ lastOperation ⌝ }
     ensures { λ r. ⌜ r ≡ takesSecond (opOf k) ⌝ }
 {
     match k {
@@ -66,6 +70,7 @@ pub fn takes_second(k: u8) -> bool
         Operation::DISJOINT => true,
         Operation::CONSISTENT => true,
         Operation::CONFORMS => true,
+        Operation::FULL => true,
         _ => false,
     }
 }

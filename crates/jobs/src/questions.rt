@@ -69,7 +69,7 @@ pub fn stands(job: &[u8], cursor: Cursor) -> bool
         return false;
     }
     let at = JobForm::ENTRIES + Entry::BYTES * index;
-    if Operation::LITERAL < job[at] {
+    if Operation::LAST < job[at] {
         return false;
     }
     if job.len() < body {

@@ -55,7 +55,7 @@ fn entry_fits(job: &[u8], at: usize) -> bool
     ensures { λ r. ⌜ r ≡ entryFits (now (job .entry)) at ⌝ }
 {
     let k = job[at];
-    if Operation::LITERAL < k {
+    if Operation::LAST < k {
         return false;
     }
     if !taken_or_zero(takes_mode(k), wide(job[at + Entry::MODE])) {

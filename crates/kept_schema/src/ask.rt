@@ -19,6 +19,7 @@ use validator::may_have_attr::may_have_attr_checked;
 use validator::own_attribute_type::own_attribute_type_checked;
 use validator::reduce_to_least_upper_bound::reduce_to_least_upper_bound_checked;
 use validator::typecheck_restricted_expr::typecheck_restricted_expr_checked;
+use validator::typecheck_restricted_expr::typecheck_restricted_expr_exact_checked;
 ghost use mathlib.Core.Path.{_≡_};
 ghost use Rattle.schemas.specs.SchemaBytes.{limitsOf, checked};
 
@@ -36,11 +37,18 @@ fn ask_may_have(schema: &[u8], check: Checked, t: &[u8])
     print_line(b"may_have_attr ", may);
 }
 
-fn ask_conforms(schema: &[u8], check: Checked)
+fn ask_conforms(schema: &[u8], check: Checked, t: &[u8], v: &[u8])
     requires { ⌜ check ≡ checked (limitsOf check) (now schema) ⌝ }
 {
-    let conforms = typecheck_restricted_expr_checked(schema, check, &Form::ENTITY_2, &Form::UID_2);
+    let conforms = typecheck_restricted_expr_checked(schema, check, t, v);
     print_line(b"typecheck_restricted_expr ", conforms);
+}
+
+fn ask_full(schema: &[u8], check: Checked, t: &[u8], v: &[u8])
+    requires { ⌜ check ≡ checked (limitsOf check) (now schema) ⌝ }
+{
+    let conforms = typecheck_restricted_expr_exact_checked(schema, check, t, v);
+    print_line(b"typecheck_restricted_expr_exact ", conforms);
 }
 
 fn ask_bound(schema: &[u8], check: Checked, mode: u8, t0: &[u8], t1: &[u8])
@@ -107,7 +115,10 @@ fn ask_each(schema: &[u8], check: Checked)
 {
     ask_subtype(schema, check, 1);
     ask_may_have(schema, check, &Form::ENTITY_2);
-    ask_conforms(schema, check);
+    ask_conforms(schema, check, &Form::ENTITY_2, &Form::UID_2);
+    ask_conforms(schema, check, &Form::EXTENSION, &Form::CALL);
+    ask_full(schema, check, &Form::ENTITY_2, &Form::UID_2);
+    ask_full(schema, check, &Form::EXTENSION, &Form::CALL);
     ask_bound(schema, check, 1, &Form::ENTITY_2, &Form::ENTITY_4);
     ask_bound(schema, check, 1, &Form::LONG, &Form::BROKEN);
     ask_fold(schema, check, 1);

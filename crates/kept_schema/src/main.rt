@@ -27,4 +27,5 @@ fn main() {
     ask_under(Limits::FEWEST_LEVELS - 1, Limits::BYTES);
     ask_under(Limits::LEVELS, Limits::FEWEST_BYTES - 1);
     ask_kept(Limits::standard(), &Form::BROKEN);
+    ask_kept(Limits::standard(), &Form::FUNCTION);
 }

@@ -19,6 +19,7 @@ use validator::own_attribute_type::own_attribute_part;
 use validator::own_attribute_type::own_attribute_type;
 use validator::reduce_to_least_upper_bound::reduce_to_least_upper_bound;
 use validator::typecheck_restricted_expr::typecheck_restricted_expr;
+use validator::typecheck_restricted_expr::typecheck_restricted_expr_exact;
 ghost use mathlib.Core.Path.{_≡_};
 ghost use Prim.Native.Nat.{_<_};
 ghost use lib.ListN.{length};
@@ -27,7 +28,7 @@ ghost use lib.ListN.{length};
 struct Calls;
 
 impl Calls {
-    const OWN: u8 = 11;
+    const OWN: u8 = 255;
 
     const UNTOUCHED: u8 = 165;
 }
@@ -59,7 +60,8 @@ fn ask(
         Operation::CONVERT => convert(limits, first, out),
         Operation::CONFORMS => typecheck_restricted_expr(limits, schema, first, second),
         Operation::FOLD => reduce_to_least_upper_bound(limits, mode, schema, first, out, work),
-        _ => euid_literal(limits, schema, first, out),
+        Operation::LITERAL => euid_literal(limits, schema, first, out),
+        _ => typecheck_restricted_expr_exact(limits, schema, first, second),
     }
 }
 

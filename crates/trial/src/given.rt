@@ -91,6 +91,13 @@ impl Form {
     pub const UID_2: [u8; 5] = [4, 2, 0, 7, 0];
 
     pub const UID_3: [u8; 5] = [4, 3, 0, 0, 0];
+
+    // A schema of one function, 2, which takes nothing and returns extension 7; that extension; a call of 2 with an argument.
+    pub const FUNCTION: [u8; 13] = [0, 0, 0, 0, 1, 0, 2, 0, 1, 7, 0, 0, 0];
+
+    pub const EXTENSION: [u8; 3] = [12, 7, 0];
+
+    pub const CALL: [u8; 8] = [7, 2, 0, 1, 0, 1, 0, 1];
 }
 
 // A result buffer before a call.

@@ -12,8 +12,8 @@ use Rattle.cedar.specs.Outcome.{Outcome, said, bytesOf}
 use Rattle.cedar.specs.Whole.{wholeType, wholeValue, wholeSchema}
 use Rattle.cedar.specs.Result.{badMode, badSchema, badFirst, badSecond, badValue, notPlain}
 use Rattle.cedar.specs.Consistency.{plain}
-use Rattle.cedar.specs.Conformance.{Verdict, holds, fails, failsInside, unknown, shorter, conforms}
-use Rattle.cedar.specs.Calls.{ask, modeOf, ofVerdict, disjointCall, subtypeCall, mayHaveCall, consistentCall, conformsCall}
+use Rattle.cedar.specs.Conformance.{Verdict, holds, fails, failsInside, unknown, Counts, conforms}
+use Rattle.cedar.specs.Calls.{ask, modeOf, ofVerdict, disjointCall, subtypeCall, mayHaveCall, consistentCall, conformsBy}
 use Rattle.cedar.specs.JobForm.{Operation}
 use Rattle.cedar.specs.Lines.{askCall}
 use Rattle.validator.specs.declared.answers.Answer.{Answer}
@@ -24,7 +24,7 @@ use Rattle.jobs.specs.declared.questions.Question.{Question}
 use Rattle.jobs.specs.declared.steps.NextLine.{NextLine}
 use Rattle.jobs.specs.declared.steps.NextLine.the-variants.{Line, End}
 use Rattle.writing.specs.Written.{Written}
-use Rattle.jobs.specs.JobBytes.{opOf, entryAt, bodiesAt, schemaFrom, bodiesFrom, schemaOf}
+use Rattle.jobs.specs.JobBytes.{lastOperation, opOf, entryAt, bodiesAt, schemaFrom, bodiesFrom, schemaOf}
 use Rattle.jobs.specs.LineBytes.{manyIn, lineIn, LineRoom}
 use Rattle.jobs.specs.Walk.{asked, standsAt, questionAt, nextAt, outcomeAt, lineAt, LineWritten}
 use Rattle.jobs.specs.Laws.Lines.{line-is, many-is}
@@ -63,10 +63,10 @@ quiet-consistent x y =
     quiet-ask badFirst (wholeType standard x) _ λ _. quiet-ask badSecond (wholeType standard y) _ λ b.
     quiet-ask notPlain (guard (plain b)) _ λ _. quiet-said _
 
-pub quiet-conforms : (s x y : List ℕ) → Quiet (conformsCall standard s x y)
-quiet-conforms s x y =
+pub quiet-conforms : (rule : Counts) (s x y : List ℕ) → Quiet (conformsBy rule standard s x y)
+quiet-conforms rule s x y =
     quiet-ask badSchema (wholeSchema standard s) _ λ z. quiet-ask badFirst (wholeType standard x) _ λ t.
-    quiet-ask badValue (wholeValue standard y) _ λ v. quiet-verdict (conforms shorter z t v)
+    quiet-ask badValue (wholeValue standard y) _ λ v. quiet-verdict (conforms rule z t v)
 
 -- An entry that lends no buffer leaves it as it was.
 pub answered-quiet : {o : Outcome} {r : Answer} (before : List ℕ) → Quiet o → r ≡ answerOf o → Answered o before before r
@@ -99,7 +99,7 @@ module _ (b : List ℕ) (c : Cursor) where
   answered-at {before} {after} {r} q e n f k g h = subst (λ (o : Outcome). Answered o before after r) (outcome-is q e n f k g) h
 
   pub record Parts (q : Question) : Type 0 where
-    pub known : q .operation ≤ 10
+    pub known : q .operation ≤ lastOperation
     pub first : q .first ≤ q .second
     pub second : q .second ≤ q .end
     pub end : q .end ≤ length b

@@ -17,7 +17,7 @@ use Rattle.forms.specs.Parts.{rd}
 use Rattle.forms.specs.Laws.Parts.{and-l, and-r, and-yes, and-not-l}
 use Rattle.forms.specs.Laws.Sure.{sure-some}
 use Rattle.jobs.specs.declared.questions.Cursor.{Cursor}
-use Rattle.jobs.specs.JobBytes.{entryFits, lengthsAt, bodiesFrom, schemaOf, fitsFrom, questionsFrom}
+use Rattle.jobs.specs.JobBytes.{lastOperation, entryFits, lengthsAt, bodiesFrom, schemaOf, fitsFrom, questionsFrom}
 use Rattle.jobs.specs.Walk.{countOf, startOf, entryOf, standsAt, questionAt, nextAt, outcomeAt, lineAt, linesAlong}
 use Rattle.jobs.specs.Laws.Whole.{whole-to}
 
@@ -51,7 +51,7 @@ pub record Stands (b : List ℕ) (c : Cursor) : Type 0 where
   pub long : 4 ≤ length b
   pub below : c .index < rd b 2
   pub inside : bodiesFrom b ≤ length b
-  pub operation : getD b (entryOf c) 0 ≤ 10
+  pub operation : getD b (entryOf c) 0 ≤ lastOperation
   pub body : c .body + lengthsAt b (entryOf c) ≤ length b
   pub entry : entryOf c + 8 ≤ length b
 
@@ -66,7 +66,7 @@ module _ (b : List ℕ) (c : Cursor) where
 
   module _ (p : c .index < countOf b) where
     after-count : standsAt b
-        c ≡ (leb (bodiesFrom b) (length b) && (leb (getD b e 0) 10 && (leb (c .body) (length b) && leb (lengthsAt b e) (length b - c .body))))
+        c ≡ (leb (bodiesFrom b) (length b) && (leb (getD b e 0) lastOperation && (leb (c .body) (length b) && leb (lengthsAt b e) (length b - c .body))))
     unfolding standsAt
     after-count = and-yes (ltb (c .index) (countOf b)) _ (lt-ltb (c .index) (countOf b) p)
 
@@ -77,15 +77,15 @@ module _ (b : List ℕ) (c : Cursor) where
       pub stands-entry : e + 8 ≤ length b
       stands-entry = omega (arith, counted b (c .index) p .1)
 
-      after-bodies : standsAt b c ≡ (leb (getD b e 0) 10 && (leb (c .body) (length b) && leb (lengthsAt b e) (length b - c .body)))
+      after-bodies : standsAt b c ≡ (leb (getD b e 0) lastOperation && (leb (c .body) (length b) && leb (lengthsAt b e) (length b - c .body)))
       after-bodies = after-count ∙ and-yes (leb (bodiesFrom b) (length b)) _ (le-leb (bodiesFrom b) (length b) q)
 
-      pub stands-unknown : 10 < getD b e 0 → false ≡ standsAt b c
-      stands-unknown h = and-not-l (leb (getD b e 0) 10) _ (lt-leb (getD b e 0) 10 h) ∙ sym after-bodies
+      pub stands-unknown : lastOperation < getD b e 0 → false ≡ standsAt b c
+      stands-unknown h = and-not-l (leb (getD b e 0) lastOperation) _ (lt-leb (getD b e 0) lastOperation h) ∙ sym after-bodies
 
-      module _ (r : getD b e 0 ≤ 10) where
+      module _ (r : getD b e 0 ≤ lastOperation) where
         after-operation : standsAt b c ≡ (leb (c .body) (length b) && leb (lengthsAt b e) (length b - c .body))
-        after-operation = after-bodies ∙ and-yes (leb (getD b e 0) 10) _ (le-leb (getD b e 0) 10 r)
+        after-operation = after-bodies ∙ and-yes (leb (getD b e 0) lastOperation) _ (le-leb (getD b e 0) lastOperation r)
 
         pub stands-over : length b < c .body → false ≡ standsAt b c
         stands-over h = and-not-l (leb (c .body) (length b)) _ (lt-leb (c .body) (length b) h) ∙ sym after-operation
@@ -99,7 +99,7 @@ module _ (b : List ℕ) (c : Cursor) where
   stands-is h =
       let h₁ = and-r (ltb (c .index) (countOf b)) _ h in
       let h₂ = and-r (leb (bodiesFrom b) (length b)) _ h₁ in
-      let h₃ = and-r (leb (getD b e 0) 10) _ h₂ in
+      let h₃ = and-r (leb (getD b e 0) lastOperation) _ h₂ in
       let p = ltb-true (c .index) (countOf b) (and-l (ltb (c .index) (countOf b)) _ h) in
       let q = leb-true (bodiesFrom b) (length b) (and-l (leb (bodiesFrom b) (length b)) _ h₁) in
       let r = leb-true (c .body) (length b) (and-l (leb (c .body) (length b)) _ h₃) in
@@ -108,7 +108,7 @@ module _ (b : List ℕ) (c : Cursor) where
         long = counted b (c .index) p .0;
         below = counted b (c .index) p .1;
         inside = q;
-        operation = leb-true (getD b e 0) 10 (and-l (leb (getD b e 0) 10) _ h₂);
+        operation = leb-true (getD b e 0) lastOperation (and-l (leb (getD b e 0) lastOperation) _ h₂);
         body = omega arith;
         entry = stands-entry p q;
       }
@@ -159,9 +159,9 @@ module _ (b : List ℕ) (n i a : ℕ) (h : Ahead b (suc n) i a) where
         and-r (leb (lengthsAt b e₁) (length b - a)) _ h₂,
       )
 
-  known : getD b e₁ 0 ≤ 10
+  known : getD b e₁ 0 ≤ lastOperation
   unfolding entryFits
-  known = leb-true (getD b e₁ 0) 10 (and-l (leb (getD b e₁ 0) 10) _ (parts .0))
+  known = leb-true (getD b e₁ 0) lastOperation (and-l (leb (getD b e₁ 0) lastOperation) _ (parts .0))
 
   ahead-stands : standsAt b (at b n i a) ≡ true
   ahead-stands =

@@ -18,7 +18,7 @@ use Rattle.cedar.specs.JobForm.{Operation, takesMode, takesAttribute, takesSeco
 use Rattle.forms.specs.Parts.{rd}
 use Rattle.forms.specs.Laws.Parts.{and-not-l, and-not-r, and-yes}
 use Rattle.forms.specs.Laws.Sure.{Sure, sure-same, sure-present, bind-to, map-to, guard-to, word-to, word-at, leb-same}
-use Rattle.jobs.specs.JobBytes.{opOf, entryFits, lengthsAt, fitsFrom, questionsFrom, schemaFrom, bodiesFrom, schemaOf, jobFits, jobOf}
+use Rattle.jobs.specs.JobBytes.{lastOperation, opOf, entryFits, lengthsAt, fitsFrom, questionsFrom, schemaFrom, bodiesFrom, schemaOf, jobFits, jobOf}
 use Rattle.jobs.specs.Laws.Questions.{questionRows, closed, closed-map, questions-to, fits-over}
 
 module _ (b : List ℕ) where
@@ -128,15 +128,15 @@ module _ (b : List ℕ) (e : ℕ) where
   abbrev o : Operation
   o = opOf (getD b e 0)
 
-  pub entry-over : 10 < getD b e 0 → false ≡ entryFits b e
+  pub entry-over : lastOperation < getD b e 0 → false ≡ entryFits b e
   unfolding entryFits
-  entry-over h = and-not-l (leb (getD b e 0) 10) _ (lt-leb (getD b e 0) 10 h)
+  entry-over h = and-not-l (leb (getD b e 0) lastOperation) _ (lt-leb (getD b e 0) lastOperation h)
 
-  module _ (h : getD b e 0 ≤ 10) (x : Bool) (p : x ≡ takenOrZero (takesMode o) (getD b (e + 1) 0)) where
+  module _ (h : getD b e 0 ≤ lastOperation) (x : Bool) (p : x ≡ takenOrZero (takesMode o) (getD b (e + 1) 0)) where
     entry-by : entryFits b e ≡ (x && (takenOrZero (takesAttribute o) (rd b (e + 2)) && takenOrZero (takesSecond o) (rd b (e + 6))))
     unfolding entryFits
     entry-by =
-        and-yes (leb (getD b e 0) 10) _ (le-leb (getD b e 0) 10 h) ∙
+        and-yes (leb (getD b e 0) lastOperation) _ (le-leb (getD b e 0) lastOperation h) ∙
         ap (λ (t : Bool). t && (takenOrZero (takesAttribute o) (rd b (e + 2)) && takenOrZero (takesSecond o) (rd b (e + 6)))) (sym p)
 
     pub entry-mode : not x ≡ true → false ≡ entryFits b e

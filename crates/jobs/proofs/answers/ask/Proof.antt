@@ -4,10 +4,11 @@ use Rattle.validator.specs.Answers.{answerOf, Answered}
 use Rattle.validator.specs.Laws.Schemas.{checked-own, checked-under}
 use Rattle.jobs.specs.Laws.Asking.{asked-is, answered-quiet, answered-room}
 use Rattle.jobs.specs.Laws.Asking.{quiet-subtype, quiet-disjoint, quiet-may-have, quiet-consistent, quiet-conforms}
-use Rattle.jobs.specs.Laws.Operations.{literal-is}
+use Rattle.jobs.specs.Laws.Operations.{full-is}
 use Rattle.jobs.specs.JobBytes.{opOf, jobLimits}
-use Rattle.cedar.specs.Calls.{disjointCall, subtypeCall, boundCall, mayHaveCall, consistentCall, convertCall, conformsCall, literalCall}
-use Rattle.cedar.specs.JobForm.{subtypeOp, boundOp, disjointOp, lookupOp, mayHaveOp, namesOp, consistentOp, convertOp, conformsOp, foldOp, literalOp}
+use Rattle.cedar.specs.Calls.{disjointCall, subtypeCall, boundCall, mayHaveCall, consistentCall, convertCall, conformsCall, literalCall, fullCall}
+use Rattle.cedar.specs.JobForm.{subtypeOp, boundOp, disjointOp, lookupOp, mayHaveOp, namesOp, consistentOp, convertOp, conformsOp, foldOp, literalOp, fullOp}
+use Rattle.cedar.specs.Conformance.{shorter, exact}
 use Rattle.cedar.specs.Limits.{Limits, standard}
 use Prim.Native.Nat.{ℕ}
 use borrow.Author.Needs.{needs}
@@ -64,6 +65,11 @@ fold-requires c κs = search needs
 euid-literal-checked-requires : tie.Need-euid-literal-checked-requires
 euid-literal-checked-requires c κs =
     let start = c .before .before .before .before .before .before in
+    checked-own jobLimits (start .args .schema .now) (start .args .check) (start .pre .1 .0)
+
+typecheck-restricted-expr-exact-checked-requires : tie.Need-typecheck-restricted-expr-exact-checked-requires
+typecheck-restricted-expr-exact-checked-requires c κs =
+    let start = c .before .before .before .before .before in
     checked-own jobLimits (start .args .schema .now) (start .args .check) (start .pre .1 .0)
 
 returns : tie.Need-returns
@@ -167,7 +173,7 @@ returns-9 c =
     let at = start .args in
     asked-is _ _ _ _ _ conformsOp (at .q .operation)
     (ap opOf (c .before .match .keys9))
-    (answered-quiet (at .result .now) (quiet-conforms (at .schema .now) (at .first .now) (at .second .now)) (checked-under jobLimits (at .schema .now)
+    (answered-quiet (at .result .now) (quiet-conforms shorter (at .schema .now) (at .first .now) (at .second .now)) (checked-under jobLimits (at .schema .now)
     (at .check) (start .pre .1 .0)
     (λ (lim : Limits). c .typecheck-restricted-expr-checked .result ≡ answerOf (conformsCall lim (at .schema .now) (at .first .now) (at .second .now)))
     (c .typecheck-restricted-expr-checked .ensures)))
@@ -188,17 +194,28 @@ same-length-6 c = search needs
 returns-11 : tie.Need-returns-11
 returns-11 c =
     let euid-literal-checked = c .before .before .euid-literal-checked in
-    let match-rest = c .before .before .before .before .match in
+    let match-keys11 = c .before .before .before .before .match in
     let start = c .before .before .before .before .before .before .before .before .before in
     let at = start .args in
-    let m = match-rest .rest in
-    let by-literal-is = literal-is (at .q .operation) (start .pre .0) (m .0 .0 .0 .0 .0 .0 .0 .0 .0 .1) (m .0 .0 .0 .0 .0 .0 .0 .0 .1)
-    (m .0 .0 .0 .0 .0 .0 .0 .1) (m .0 .0 .0 .0 .0 .0 .1) (m .0 .0 .0 .0 .0 .1) (m .0 .0 .0 .0 .1) (m .0 .0 .0 .1) (m .0 .0 .1) (m .0 .1) (m .1) in
     let by-answered-room = answered-room (λ (n : ℕ). literalCall standard (at .schema .now) (at .first .now) n) (start .pre .1 .1)
     (checked-under jobLimits (at .schema .now) (at .check) (start .pre .1 .0)
     (λ (lim : Limits). Answered (literalCall lim (at .schema .now) (at .first .now) (length (at .result .now))) (at .result .now)
     (euid-literal-checked .last .1 .1 .1 .0) (euid-literal-checked .result)) (euid-literal-checked .ensures)) in
-    asked-is _ _ _ _ _ literalOp (at .q .operation) by-literal-is by-answered-room
+    asked-is _ _ _ _ _ literalOp (at .q .operation) (ap opOf (match-keys11 .keys11)) by-answered-room
+
+returns-12 : tie.Need-returns-12
+returns-12 c =
+    let start = c .before .before .before .before .before .before in
+    let at = start .args in
+    let m = c .before .match .rest in
+    let by-full-is = full-is (at .q .operation) (start .pre .0) (m .0 .0 .0 .0 .0 .0 .0 .0 .0 .0 .1) (m .0 .0 .0 .0 .0 .0 .0 .0 .0 .1)
+    (m .0 .0 .0 .0 .0 .0 .0 .0 .1) (m .0 .0 .0 .0 .0 .0 .0 .1) (m .0 .0 .0 .0 .0 .0 .1) (m .0 .0 .0 .0 .0 .1) (m .0 .0 .0 .0 .1) (m .0 .0 .0 .1) (m .0 .0 .1)
+    (m .0 .1) (m .1) in
+    asked-is _ _ _ _ _ fullOp (at .q .operation) by-full-is
+    (answered-quiet (at .result .now) (quiet-conforms exact (at .schema .now) (at .first .now) (at .second .now)) (checked-under jobLimits (at .schema .now)
+    (at .check) (start .pre .1 .0)
+    (λ (lim : Limits). c .typecheck-restricted-expr-exact-checked .result ≡ answerOf (fullCall lim (at .schema .now) (at .first .now) (at .second .now)))
+    (c .typecheck-restricted-expr-exact-checked .ensures)))
 
 pub ask-spec : {M : Type 1} → statement M
 ask-spec =
@@ -218,6 +235,7 @@ ask-spec =
     typecheck-restricted-expr-checked-requires
     fold-requires
     euid-literal-checked-requires
+    typecheck-restricted-expr-exact-checked-requires
     returns
     same-length
     returns-2
@@ -234,4 +252,5 @@ ask-spec =
     same-length-5
     returns-10
     same-length-6
-    returns-11)
+    returns-11
+    returns-12)

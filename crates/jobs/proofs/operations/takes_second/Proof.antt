@@ -19,7 +19,12 @@ returns-5 : tie.Need-returns-5
 returns-5 c = search needs
 
 returns-6 : tie.Need-returns-6
-returns-6 c = let m = c .match .rest in second-not (c .before .args .k) (c .before .pre) (m .0 .0 .0 .0 .1) (m .0 .0 .0 .1) (m .0 .0 .1) (m .0 .1) (m .1)
+returns-6 c = search needs
+
+returns-7 : tie.Need-returns-7
+returns-7 c =
+    let m = c .match .rest in
+    second-not (c .before .args .k) (c .before .pre) (m .0 .0 .0 .0 .0 .1) (m .0 .0 .0 .0 .1) (m .0 .0 .0 .1) (m .0 .0 .1) (m .0 .1) (m .1)
 
 pub takes-second-spec : {M : Type 1} → statement M
-takes-second-spec = tie.close (tie.spec returns returns-2 returns-3 returns-4 returns-5 returns-6)
+takes-second-spec = tie.close (tie.spec returns returns-2 returns-3 returns-4 returns-5 returns-6 returns-7)
