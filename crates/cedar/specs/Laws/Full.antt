@@ -20,6 +20,7 @@ use Rattle.cedar.specs.Outcome.{Outcome, refused, said}
 use Rattle.cedar.specs.Calls.{ask, ofVerdict, conformsCall, fullCall}
 use Rattle.cedar.specs.Sequence.{Listed, Step, standing, EachBytes, run}
 use Rattle.cedar.specs.Laws.Tests.{or-inl, or-inr, or-map, none-some}
+use Rattle.cedar.specs.Laws.Verdicts.{yes→Holds}
 use Rattle.cedar.specs.Laws.Sequence.{run-keeps}
 
 -- As many values as arguments.
@@ -186,6 +187,14 @@ mutual
       SameOrNo (T (miscounted s x)) (conformsAt exact s o xs n x) (conformsAt shorter s o xs n x)
   walk-alike-at s o nil n x = inl refl
   walk-alike-at s o (attr k r t xs) n x = chosen (eqb n k) (walk-alike s t x) (walk-alike-at s o xs n x)
+
+-- A yes by exact counts is a yes to the shorter end, for any type and value.
+pub exact-yes : (s : Schema) (t : Ty) (v : Value) → conforms exact s t v ≡ holds → conforms shorter s t v ≡ holds
+exact-yes s t v e = go (walk-alike s t v)
+  where
+    go : SameOrNo (T (miscounted s v)) (conforms exact s t v) (conforms shorter s t v) → conforms shorter s t v ≡ holds
+    go (inl h) = sym h ∙ e
+    go (inr (h, p)) = absurd (yes→Holds fails (sym h ∙ e))
 
 -- One question, with what is asked next in a relation.
 asked : {A : Type 0} (R : Outcome → Outcome → Type 0) → ((o : Outcome) → R o o) → (n : ℕ) (o : Option A) (k l : A → Outcome) →

@@ -3,15 +3,17 @@
 use Prim.Native.Nat.{ℕ}
 use mathlib.Core.List.{List, [], _∷_}
 use mathlib.Core.Bool.{true, false}
-use mathlib.Core.Path.{_≡_, refl, ap, _∙_}
+use mathlib.Core.Path.{_≡_, refl, ap}
+use mathlib.Core.Option.{Option, some}
 use Rattle.cedar.specs.Types.{same}
-use Rattle.cedar.specs.Bytes.{Bytes}
+use Rattle.cedar.specs.Bytes.{Bytes, _>>=_}
 use Rattle.cedar.specs.TypeForm.{enc, parse}
 use Rattle.cedar.specs.ValueForm.{parseValue}
 use Rattle.cedar.specs.Limits.{standard}
 use Rattle.cedar.specs.Subtype.{sub}
 use Rattle.cedar.specs.Bound.{bound}
-use Rattle.cedar.specs.Conformance.{conforms, ofArgument}
+use Rattle.cedar.specs.Whole.{wholeSchema, wholeType, wholeValue}
+use Rattle.cedar.specs.Conformance.{Verdict, fails, failsInside, exact, conforms, ofArgument}
 use Rattle.cedar.specs.Outcome.{Outcome, refused, said}
 use Rattle.cedar.specs.Calls.{conformsCall, fullCall}
 use Rattle.cedar.specs.Sequence.{Listed, Step, standing, EachBytes, run}
@@ -73,7 +75,27 @@ pub told-apart : (told extension tooMany ≡ (said true, said false))
 unfolding parse parseValue conforms ofArgument
 told-apart = (refl, refl, refl, refl, refl, refl, refl, refl)
 
--- Closed (1: extension 7), closed (1: extension 7, 2: Long), open (1: extension 7), all required; and sets of the first and the third.
+-- A call of 6 with an unknown call, and with an argument more.
+abbrev unheardFirst : List ℕ
+unheardFirst = 7 ∷ 6 ∷ 0 ∷ 2 ∷ 0 ∷ 5 ∷ 0 ∷ 1 ∷ 0 ∷ 7 ∷ 9 ∷ 0 ∷ 0 ∷ 0 ∷ 1 ∷ []
+
+-- The walk's verdict on bytes, by exact counts.
+abbrev walked : List ℕ → List ℕ → Option Verdict
+walked t v = do
+  s ← wholeSchema standard schema
+  a ← wholeType standard t
+  x ← wholeValue standard v
+  some (conforms exact s a x)
+
+-- The two kinds of no: a wrong count alone is a plain one; after an unknown function inside an argument the count does not matter.
+pub kinds-of-no : (walked extension tooMany ≡ some fails)
+    × (walked extension (around 5 tooFew) ≡ some fails)
+    × (walked extension (around 5 unheard) ≡ some failsInside)
+    × (walked extension unheardFirst ≡ some failsInside)
+unfolding parse parseValue conforms ofArgument
+kinds-of-no = (refl, refl, refl, refl)
+
+-- Closed (1: extension 7), closed (1: extension 7, 2: Long) and open (1: extension 7), all required.
 abbrev one : List ℕ
 one = 8 ∷ 0 ∷ 1 ∷ 0 ∷ 1 ∷ 0 ∷ 1 ∷ 3 ∷ 0 ∷ 12 ∷ 7 ∷ 0 ∷ []
 
