@@ -51,6 +51,16 @@ fn ask_full(schema: &[u8], check: Checked, t: &[u8], v: &[u8])
     print_line(b"typecheck_restricted_expr_exact ", conforms);
 }
 
+// Both conformances of a uid, and of a call with an argument too many.
+fn ask_both(schema: &[u8], check: Checked)
+    requires { ⌜ check ≡ checked (limitsOf check) (now schema) ⌝ }
+{
+    ask_conforms(schema, check, &Form::ENTITY_2, &Form::UID_2);
+    ask_conforms(schema, check, &Form::EXTENSION, &Form::CALL);
+    ask_full(schema, check, &Form::ENTITY_2, &Form::UID_2);
+    ask_full(schema, check, &Form::EXTENSION, &Form::CALL);
+}
+
 fn ask_bound(schema: &[u8], check: Checked, mode: u8, t0: &[u8], t1: &[u8])
     requires { ⌜ check ≡ checked (limitsOf check) (now schema) ⌝ }
 {
@@ -115,10 +125,7 @@ fn ask_each(schema: &[u8], check: Checked)
 {
     ask_subtype(schema, check, 1);
     ask_may_have(schema, check, &Form::ENTITY_2);
-    ask_conforms(schema, check, &Form::ENTITY_2, &Form::UID_2);
-    ask_conforms(schema, check, &Form::EXTENSION, &Form::CALL);
-    ask_full(schema, check, &Form::ENTITY_2, &Form::UID_2);
-    ask_full(schema, check, &Form::EXTENSION, &Form::CALL);
+    ask_both(schema, check);
     ask_bound(schema, check, 1, &Form::ENTITY_2, &Form::ENTITY_4);
     ask_bound(schema, check, 1, &Form::LONG, &Form::BROKEN);
     ask_fold(schema, check, 1);
