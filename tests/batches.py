@@ -17,7 +17,7 @@ A text, line by line; '#' starts a comment.
     schema BYTES                its schema
     OPERATION WORD.. : BYTES    a question and its body, or its two bodies behind a colon each. The words: 'strict',
                                 'permissive', 'loose' or mode=N; attribute=N; in rooms.txt also room=N, workspace=N,
-                                levels=N and bytes=N
+                                levels=N and bytes=N. The operation 'own' is no job's: rooms.txt alone has it
     job BYTES                   the whole job as it is, good or bad
     > LINE                      what must be printed, in turn; '> N..M LINE' for each index from N to M, '> N* LINE' so many times.
                                 '<BYTES>' stands for the bytes in lower-case hexadecimal, '<>' for none
@@ -36,8 +36,9 @@ CRATES = HERE.parent / "crates"
 TEXTS = ["settled", "answers", "edges"]
 MODES = {"strict": "mode=0", "permissive": "mode=1", "loose": "mode=2"}
 STANDARD = {"levels": 16, "bytes": 4096}
-OPERATIONS = ["subtype", "bound", "disjoint", "lookup", "may-have", "names", "consistent", "convert", "conforms", "fold",
-              "literal", "own"]
+OF_JOBS = ["subtype", "bound", "disjoint", "lookup", "may-have", "names", "consistent", "convert", "conforms", "fold", "literal",
+           "full"]
+OPERATIONS = {**{name: number for number, name in enumerate(OF_JOBS)}, "own": 255}
 TOKEN = re.compile(r"\s*(?:%(?P<first>\d+)(?:\.\.(?P<last>\d+)(?P<each>\()?)?|(?P<times>\d+)\*\(|(?P<wraps>\d+)?@(?P<length>\()"
                    r"|(?P<close>\))|\$(?P<name>[\w-]+)|(?P<pair>[0-9a-f]{2}))")
 
@@ -92,7 +93,7 @@ def question(line, names):
         key, _, value = MODES.get(word, word).partition("=")
         given[key] = int(value)
     bodies = [parse(body, 0, names, False)[0] for body in bodies] + [b""]
-    return OPERATIONS.index(operation), given, bodies[0], bodies[1]
+    return OPERATIONS[operation], given, bodies[0], bodies[1]
 
 
 def job_form(schema, questions):

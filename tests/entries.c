@@ -29,6 +29,10 @@ static const uint8_t sets[] = {2, 0, 2, 0, 2, 0, 7, 4, 7, 5};
 static const uint8_t alike[] = {7, 11, 3, 0, 2, 0, 1, 0, 1, 1, 0, 2, 0, 1, 1, 0, 4, 4};
 static const uint8_t unlike[] = {7, 11, 3, 0, 2, 0, 1, 0, 1, 1, 0, 2, 0, 1, 1, 0, 4, 5};
 
+/* A schema of one function, 2, which takes nothing and returns extension 7; that extension; a call of 2 with an argument. */
+static const uint8_t function[] = {0, 0, 0, 0, 1, 0, 2, 0, 1, 7, 0, 0, 0};
+static const uint8_t extension[] = {12, 7, 0}, call[] = {7, 2, 0, 1, 0, 1, 0, 1};
+
 /* An entity of 2,047 types, and a result buffer for it with a byte over. */
 static uint8_t wide[4097], large[4098];
 static uint8_t out[12], work[15];
@@ -94,6 +98,8 @@ static void ask(size_t levels, size_t bytes) {
     print_line("convert", tirncheav_convert(levels, bytes, FORM(true_type), FORM(out)), 1);
     print_line("typecheck_restricted_expr",
                tirncheav_typecheck_restricted_expr(levels, bytes, FORM(schema), FORM(entity_2), FORM(uid_2)), 0);
+    print_line("typecheck_restricted_expr_exact",
+               tirncheav_typecheck_restricted_expr_exact(levels, bytes, FORM(schema), FORM(entity_2), FORM(uid_2)), 0);
     print_line("euid_literal", tirncheav_euid_literal(levels, bytes, FORM(schema), FORM(uid_3), FORM(out)), 1);
 }
 
@@ -113,6 +119,8 @@ static void ask_checked(const uint8_t *block, size_t n, uint64_t check) {
                tirncheav_all_attributes_checked(block, n, check, FORM(both), FORM(out), FORM(work)), 2);
     print_line("typecheck_restricted_expr_checked",
                tirncheav_typecheck_restricted_expr_checked(block, n, check, FORM(entity_2), FORM(uid_2)), 0);
+    print_line("typecheck_restricted_expr_exact_checked",
+               tirncheav_typecheck_restricted_expr_exact_checked(block, n, check, FORM(entity_2), FORM(uid_2)), 0);
     print_line("euid_literal_checked", tirncheav_euid_literal_checked(block, n, check, FORM(uid_3), FORM(out)), 1);
 }
 
@@ -123,6 +131,21 @@ static void ask_broken(uint64_t check) {
                tirncheav_least_upper_bound_checked(FORM(broken), check, 1, FORM(entity_2), FORM(entity_4), FORM(out)), 1);
     print_line("own_attribute_type_checked", tirncheav_own_attribute_type_checked(FORM(broken), check, 1, FORM(record)),
                0);
+}
+
+/* The two conformances of a call with an argument too many. */
+static void ask_counted(size_t levels, size_t bytes) {
+    print_line("typecheck_restricted_expr",
+               tirncheav_typecheck_restricted_expr(levels, bytes, FORM(function), FORM(extension), FORM(call)), 0);
+    print_line("typecheck_restricted_expr_exact",
+               tirncheav_typecheck_restricted_expr_exact(levels, bytes, FORM(function), FORM(extension), FORM(call)), 0);
+}
+
+static void ask_counted_checked(uint64_t check) {
+    print_line("typecheck_restricted_expr_checked",
+               tirncheav_typecheck_restricted_expr_checked(FORM(function), check, FORM(extension), FORM(call)), 0);
+    print_line("typecheck_restricted_expr_exact_checked",
+               tirncheav_typecheck_restricted_expr_exact_checked(FORM(function), check, FORM(extension), FORM(call)), 0);
 }
 
 static void ask_loose(void) {
@@ -227,6 +250,12 @@ static void ask_levels(size_t levels) {
                tirncheav_typecheck_restricted_expr_checked(FORM(empty), check, FORM(untyped), FORM(set_value)), 0);
 }
 
+/* A call with an argument has two levels; a schema of functions alone is whole at one. */
+static void ask_counted_under(size_t levels, size_t bytes) {
+    ask_counted(levels, bytes);
+    ask_counted_checked(tirncheav_check_schema(levels, bytes, FORM(function)));
+}
+
 /* Under limits other than the standard ones. The schema's bodies have two levels. */
 static void ask_limits(void) {
     ask_refused();
@@ -241,6 +270,10 @@ static void ask_limits(void) {
     ask_kept(16, 63, FORM(broken));
     ask_levels(1);
     ask_levels(2);
+    ask_counted_under(0, 64);
+    ask_counted_under(1, 64);
+    ask_counted_under(2, 64);
+    ask_counted_under(TIRNCHEAV_MOST_LEVELS, TIRNCHEAV_MOST_BYTES);
     ask_wide(4097);
     ask_wide(4096);
 }
@@ -254,6 +287,8 @@ int main(void) {
     ask_checked(FORM(schema), check);
     print_line("check_schema", none, 0);
     ask_broken(none);
+    ask_counted(STANDARD);
+    ask_counted_checked(tirncheav_check_schema(STANDARD, FORM(function)));
     ask_loose();
     ask_loose_checked(check);
     ask_limits();

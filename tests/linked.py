@@ -107,7 +107,8 @@ def stack_lines(folder):
 
 def call_tests(told):
     """From 16 to 32 levels a call takes at most twice as much more as from 8 to 16."""
-    kinds = {"subtype": YES, "bound": WROTE, "consistent": YES, "convert": WROTE, "conforms": YES, "fold": WROTE, "lookup": REQUIRED}
+    kinds = {"subtype": YES, "bound": WROTE, "consistent": YES, "convert": WROTE, "conforms": YES, "full": YES, "fold": WROTE,
+             "lookup": REQUIRED}
     tests = {}
     for what, kind in kinds.items():
         lines = [told[what, count, "true"] for count in (7, 15, 31)]

@@ -14,6 +14,8 @@ enum { STACK = 1 << 18, FILL = 0xa5, FORM = TIRNCHEAV_MOST_BYTES };
 enum { TRUE = 1, FALSE, BOOL, LONG, SET = 7, RECORD };
 
 static const uint8_t long_type[] = {LONG}, both[] = {10, 2, 0, 2, 0, 4, 0}, empty[6];
+/* Function 2 takes nothing, function 4 an extension 7; both return extension 7. */
+static const uint8_t functions[] = {0, 0, 0, 0, 2, 0, 2, 0, 1, 7, 0, 0, 0, 4, 0, 1, 7, 0, 3, 0, 4, 7, 0};
 static uint8_t stack[STACK], form[FORM], other[FORM], above[FORM], value[FORM], block[2 * FORM], out[FORM], work[2 * FORM];
 static size_t levels, bytes, form_length, value_length, block_length;
 static ucontext_t caller, called;
@@ -53,6 +55,12 @@ static void call_convert(void) {
 static void call_conforms(void) {
     answer = tirncheav_typecheck_restricted_expr(levels, bytes, empty, sizeof empty, above, form_length, value,
                                                  value_length);
+}
+
+static void call_full(void) {
+    static const uint8_t extension[] = {12, 7, 0};
+    answer = tirncheav_typecheck_restricted_expr_exact(levels, bytes, functions, sizeof functions, extension,
+                                                       sizeof extension, value, value_length);
 }
 
 static void call_lookup(void) {
@@ -117,6 +125,17 @@ static void make_value(size_t count) {
     value[value_length - 1] = 1;
 }
 
+/* A value of so many calls of function 4, each the argument of the one above, and one of function 2 in the last. */
+static void make_calls(size_t count) {
+    static const uint8_t head[] = {7, 4, 0, 1, 0}, last[] = {7, 2, 0, 0, 0};
+    value_length = 7 * count + sizeof last;
+    for (size_t i = 0; i < count; i++) {
+        memcpy(value + 7 * i, head, sizeof head);
+        put16(value + 7 * i + 5, value_length - 7 * (i + 1));
+    }
+    memcpy(value + 7 * count, last, sizeof last);
+}
+
 /* A list of two types, or a schema whose entity types 2 and 4 have them as bodies: what stands before them. */
 static void make_two(const uint8_t *head, size_t n, size_t first, size_t second) {
     memcpy(block, head, n);
@@ -168,7 +187,7 @@ static void tell_records(const size_t *counts, size_t n) {
     }
 }
 
-/* The calls on records in records, so many. */
+/* The calls on records in records, so many; full conformance on as many calls in calls. */
 static void tell_calls(size_t count) {
     static const uint8_t list[6] = {2}, schema[16] = {2, 0, 0, 0, 0, 0, 2, 0, 0, 0, 0, 4};
     make_records(form, count, TRUE);
@@ -180,6 +199,8 @@ static void tell_calls(size_t count) {
     tell("consistent", count, "true", call_consistent);
     tell("convert", count, "true", call_convert);
     tell("conforms", count, "true", call_conforms);
+    make_calls(count);
+    tell("full", count, "true", call_full);
     make_two(list, sizeof list, 2, 4);
     tell("fold", count, "true", test_list);
     make_two(schema, sizeof schema, 9, 14);
