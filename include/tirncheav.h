@@ -100,9 +100,16 @@ uint64_t tirncheav_is_consistent_with(size_t levels, size_t bytes, const uint8_t
 /* Writes the core type of t. */
 uint64_t tirncheav_convert(size_t levels, size_t bytes, const uint8_t *t, size_t t_len, uint8_t *out, size_t out_len);
 
-/* Yes if the value v has the type t, else no. */
+/* Yes if the value v has the type t, else no. A call's arguments are compared with those that its function declares up to
+ * the end of the shorter list. */
 uint64_t tirncheav_typecheck_restricted_expr(size_t levels, size_t bytes, const uint8_t *schema, size_t schema_len,
                                              const uint8_t *t, size_t t_len, const uint8_t *v, size_t v_len);
+
+/* Yes if the value v has the type t and each call that this walk reaches, inside arguments too, has as many arguments as
+ * its function declares, else no. A yes is a yes of the call above as well. */
+uint64_t tirncheav_typecheck_restricted_expr_exact(size_t levels, size_t bytes, const uint8_t *schema,
+                                                   size_t schema_len, const uint8_t *t, size_t t_len, const uint8_t *v,
+                                                   size_t v_len);
 
 /* Writes the type of the uid v, or none where the schema does not have it. */
 uint64_t tirncheav_euid_literal(size_t levels, size_t bytes, const uint8_t *schema, size_t schema_len, const uint8_t *v,
@@ -159,6 +166,11 @@ uint64_t tirncheav_all_attributes_checked(const uint8_t *schema, size_t schema_l
 /* tirncheav_typecheck_restricted_expr, without the check. */
 uint64_t tirncheav_typecheck_restricted_expr_checked(const uint8_t *schema, size_t schema_len, uint64_t check,
                                                      const uint8_t *t, size_t t_len, const uint8_t *v, size_t v_len);
+
+/* tirncheav_typecheck_restricted_expr_exact, without the check. */
+uint64_t tirncheav_typecheck_restricted_expr_exact_checked(const uint8_t *schema, size_t schema_len, uint64_t check,
+                                                           const uint8_t *t, size_t t_len, const uint8_t *v,
+                                                           size_t v_len);
 
 /* tirncheav_euid_literal, without the check. */
 uint64_t tirncheav_euid_literal_checked(const uint8_t *schema, size_t schema_len, uint64_t check, const uint8_t *v,

@@ -1,4 +1,7 @@
-/* Asks five questions under an empty schema, which is checked once, and a sixth under other limits. */
+/*
+ * Asks five questions under an empty schema, which is checked once, a sixth under other limits, and two about a call
+ * with an argument too many.
+ */
 #include <stdio.h>
 
 #include "tirncheav.h"
@@ -38,6 +41,22 @@ static void print_answer(const char *asked, uint64_t answer, const uint8_t *out)
     }
 }
 
+/* Function 2 takes nothing and returns extension 7; it is called with the argument true. */
+static void ask_call(void) {
+    static const uint8_t schema[] = {0, 0, 0, 0, 1, 0, 2, 0, 1, 7, 0, 0, 0};
+    static const uint8_t extension[] = {12, 7, 0}, call[] = {7, 2, 0, 1, 0, 1, 0, 1};
+    uint64_t check =
+        tirncheav_check_schema(TIRNCHEAV_STANDARD_LEVELS, TIRNCHEAV_STANDARD_BYTES, schema, sizeof schema);
+    print_answer("a call with an argument too many conforms",
+                 tirncheav_typecheck_restricted_expr_checked(schema, sizeof schema, check, extension, sizeof extension,
+                                                             call, sizeof call),
+                 NULL);
+    print_answer("and fully",
+                 tirncheav_typecheck_restricted_expr_exact_checked(schema, sizeof schema, check, extension,
+                                                                   sizeof extension, call, sizeof call),
+                 NULL);
+}
+
 int main(void) {
     static const uint8_t schema[6] = {0};
     static const uint8_t true_type[] = {1}, bool_type[] = {3}, long_type[] = {4}, longs[] = {7, 4}, strings[] = {7, 5};
@@ -69,5 +88,6 @@ int main(void) {
     check = tirncheav_check_schema(1, TIRNCHEAV_STANDARD_BYTES, schema, sizeof schema);
     print_answer("a set of Long at one level",
                  tirncheav_may_have_attr_checked(schema, sizeof schema, check, 1, longs, sizeof longs), out);
+    ask_call();
     return 0;
 }

@@ -43,6 +43,9 @@ extern "C" {
     pub fn tirncheav_typecheck_restricted_expr_checked(
         schema: P, n: usize, check: u64, t: P, n0: usize, v: P, n1: usize,
     ) -> u64;
+    pub fn tirncheav_typecheck_restricted_expr_exact_checked(
+        schema: P, n: usize, check: u64, t: P, n0: usize, v: P, n1: usize,
+    ) -> u64;
     pub fn tirncheav_euid_literal_checked(
         schema: P, n: usize, check: u64, v: P, n0: usize, out: M, room: usize,
     ) -> u64;

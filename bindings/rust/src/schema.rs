@@ -227,7 +227,8 @@ impl<'a> Schema<'a> {
         written(number, out)
     }
 
-    /// Whether a value has a type.
+    /// Whether a value has a type. A call's arguments are compared with those
+    /// that its function declares up to the end of the shorter list.
     ///
     /// ```
     /// use tirncheav::Schema;
@@ -239,6 +240,29 @@ impl<'a> Schema<'a> {
         yes_or_no(asked!(
             self,
             tirncheav_typecheck_restricted_expr_checked,
+            [],
+            [t, value],
+            []
+        ))
+    }
+
+    /// Whether a value has a type and each call that the walk reaches, inside
+    /// arguments too, has as many arguments as its function declares.
+    ///
+    /// ```
+    /// use tirncheav::Schema;
+    /// // One function, 2, which takes nothing and returns extension 7.
+    /// let block = [0, 0, 0, 0, 1, 0, 2, 0, 1, 7, 0, 0, 0];
+    /// let schema = Schema::check(&block).unwrap();
+    /// // A call of it with the argument true.
+    /// let (extension, call) = ([12, 7, 0], [7, 2, 0, 1, 0, 1, 0, 1]);
+    /// assert_eq!(schema.typecheck_restricted_expr(&extension, &call), Ok(true));
+    /// assert_eq!(schema.typecheck_restricted_expr_exact(&extension, &call), Ok(false));
+    /// ```
+    pub fn typecheck_restricted_expr_exact(&self, t: &[u8], value: &[u8]) -> Result<bool, Refusal> {
+        yes_or_no(asked!(
+            self,
+            tirncheav_typecheck_restricted_expr_exact_checked,
             [],
             [t, value],
             []

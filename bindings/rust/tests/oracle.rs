@@ -45,6 +45,7 @@ fn under(schema: Schema<'_>, mode: Mode, call: &Call<'_>, out: &mut [u8]) -> Out
         BOUND => return wrote(schema.least_upper_bound(mode, call.t0, call.t1, out)),
         MAY_HAVE => return yes(schema.may_have_attr(call.attr, call.t0)),
         CONFORMS => return yes(schema.typecheck_restricted_expr(call.t0, call.t1)),
+        FULL => return yes(schema.typecheck_restricted_expr_exact(call.t0, call.t1)),
         LITERAL => {
             let form = schema.euid_literal(call.t0, out);
             return found(form.map(|f| f.map(|f| Outcome::Wrote(f.to_vec()))));
