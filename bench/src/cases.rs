@@ -89,7 +89,8 @@ impl Case {
                 let a = first();
                 consuming(move || a.clone(), published::convert)
             }
-            CONFORMS => {
+            // Where every count fits, full conformance is what the Rust asks.
+            CONFORMS | FULL => {
                 let (a, v) = (first(), value(&self.t1));
                 repeated(move || published::typecheck_restricted_expr(&schema, &a, &v))
             }
@@ -147,6 +148,7 @@ pub fn all() -> Vec<Case> {
 fn of_size(size: Size) -> Vec<Case> {
     let schema = inputs::schema(size).form();
     let side = |s: u8| inputs::record(size.width, size.levels, s).form();
+    let value = || inputs::value(size.width, size.levels).form();
     let case = |operation, input: &str, op, attr, t0: Vec<u8>, t1: Vec<u8>| Case {
         limits: Limits::STANDARD,
         operation,
@@ -170,7 +172,15 @@ fn of_size(size: Size) -> Vec<Case> {
             CONFORMS,
             0,
             side(2),
-            inputs::value(size.width, size.levels).form(),
+            value(),
+        ),
+        case(
+            "typecheck_restricted_expr_exact",
+            "record",
+            FULL,
+            0,
+            side(2),
+            value(),
         ),
         case("least_upper_bound", "records", BOUND, 0, side(0), side(1)),
         case(

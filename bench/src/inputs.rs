@@ -76,6 +76,12 @@ pub fn value(width: u16, levels: usize) -> Val {
     Val::Rec(pairs)
 }
 
+/// The largest width from 2 on whose form has room.
+pub fn widest(bytes: usize, form: impl Fn(u16) -> Vec<u8>) -> u16 {
+    let fits = |width: &u16| form(*width).len() <= bytes;
+    (2..).take_while(fits).last().expect("some width fits")
+}
+
 /// Entity types of a lookup.
 pub const TYPES: u16 = 16;
 

@@ -2,8 +2,9 @@
 //! as large as the standard ones allow.
 
 use crate::cases::Case;
+use crate::counts;
 use crate::figure;
-use crate::inputs::{record, value};
+use crate::inputs::{record, value, widest};
 use crate::library::OWN;
 use crate::timing::best;
 use oracle::limits::Limits;
@@ -35,12 +36,6 @@ impl Under {
     }
 }
 
-/// The widest record with as many levels as may be, whose form has room.
-fn widest(bytes: usize, form: impl Fn(u16) -> Vec<u8>) -> u16 {
-    let fits = |width: &u16| form(*width).len() <= bytes;
-    (2..).take_while(fits).last().expect("some width fits")
-}
-
 fn attributes(ty: Ty) -> Vec<Attr> {
     match ty {
         Ty::Rec(_, attrs) => attrs,
@@ -62,10 +57,12 @@ fn of_records(limits: Limits) -> Vec<Case> {
     let one = |operation, attr| under.case(operation, attr, "record", &[&c]);
     let two = |operation, a, b| under.case(operation, 0, "records", &[a, b]);
     let conforms = ("typecheck_restricted_expr", CONFORMS);
+    let full = ("typecheck_restricted_expr_exact", FULL);
     let fold = ("reduce_to_least_upper_bound", FOLD);
     vec![
         two(("is_subtype", SUBTYPE), &a, &c),
         under.case(conforms, 0, "record", &[&of_value, &typed]),
+        under.case(full, 0, "record", &[&of_value, &typed]),
         two(("least_upper_bound", BOUND), &a, &b),
         under.case(fold, 0, "3 records", &[&list]),
         two(("is_consistent_with", CONSISTENT), &c, &c),
@@ -129,6 +126,7 @@ fn all(limits: Limits) -> Vec<Case> {
     let mut cases = of_records(limits);
     cases.extend(of_entities(limits));
     cases.push(of_action(limits));
+    cases.extend(counts::deepest(limits));
     cases
 }
 
@@ -141,9 +139,11 @@ fn bytes(case: &Case) -> usize {
     schema + case.t0.len() + case.t1.len()
 }
 
-/// The Rust's time, where it ends: its consistency test doubles with each level.
+/// The Rust's time, where it ends and is the Rust's: its consistency test doubles
+/// with each level, and the arguments of calls are a stand-in's.
 fn published(case: &Case) -> Option<f64> {
-    (case.op != CONSISTENT).then(|| best(&mut [case.published()])[0])
+    let left_out = case.op == CONSISTENT || case.input == counts::CALLS;
+    (!left_out).then(|| best(&mut [case.published()])[0])
 }
 
 fn row(small: &Case, large: &Case) {

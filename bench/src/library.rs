@@ -7,7 +7,7 @@ use oracle::limits::Limits;
 use oracle::questions::{Call, Outcome, Part};
 
 /// The second entry of lookup, beside the operations of a job.
-pub const OWN: u8 = 11;
+pub const OWN: u8 = u8::MAX;
 
 /// A call with nothing in it, in permissive mode: its result buffer holds any
 /// answer under its limits, its workspace serves any step.

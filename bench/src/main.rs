@@ -2,6 +2,7 @@
 //! both built for release. Prints the tables of docs/PERFORMANCE.md.
 
 mod cases;
+mod counts;
 mod growth;
 mod inputs;
 mod jobs;
@@ -43,6 +44,8 @@ fn main() {
     growth::print();
     println!();
     loose::print();
+    println!();
+    counts::print();
     println!();
     largest::print();
     println!();
