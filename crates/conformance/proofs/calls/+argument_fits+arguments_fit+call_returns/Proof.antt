@@ -113,31 +113,25 @@ call-returns-callees t = (
   arguments-fit.Post,
 )
 
--- src/calls.rt:84:13
 argument-fits-shared-slice-read-k : (t : ℕ) → argument-fits-lts.Need-shared-slice-read-k (argument-fits-callees t) (argument-fits-at t) argument-fits.Post
 argument-fits-shared-slice-read-k t c =
     let pre = c .before .before .before .before .pre in
     omega (arith, pre .1 .1 .0 .0)
 
--- src/calls.rt:85:13
 argument-fits-shared-slice-read-j : (t : ℕ) → argument-fits-lts.Need-shared-slice-read-j (argument-fits-callees t) (argument-fits-at t) argument-fits.Post
 argument-fits-shared-slice-read-j t c =
     let start = c .before .before .before .before .before in
     value-first (start .args .levels) (start .args .v .now) (start .pre .1 .1 .1)
 
--- src/calls.rt:87:31
 argument-fits-tested-requires : (t : ℕ) → argument-fits-lts.Need-tested-requires (argument-fits-callees t) (argument-fits-at t) argument-fits.Post
 argument-fits-tested-requires t c κs = search needs
 
--- src/calls.rt:88:31
 argument-fits-tested-requires-2 : (t : ℕ) → argument-fits-lts.Need-tested-requires-2 (argument-fits-callees t) (argument-fits-at t) argument-fits.Post
 argument-fits-tested-requires-2 t c κs = search needs
 
--- src/calls.rt:89:33
 argument-fits-tested-requires-3 : (t : ℕ) → argument-fits-lts.Need-tested-requires-3 (argument-fits-callees t) (argument-fits-at t) argument-fits.Post
 argument-fits-tested-requires-3 t c κs = search needs
 
--- src/calls.rt:92:17
 argument-fits-returns : (t : ℕ) → argument-fits-lts.Need-returns (argument-fits-callees t) (argument-fits-at t) argument-fits.Post
 argument-fits-returns t c =
     let s = c .before .before .before .before .before .before .before in
@@ -145,19 +139,16 @@ argument-fits-returns t c =
     let args = s .args in
     fit-not _ _ (args .asked .now) (args .levels) (args .v .now) (s .pre .1 .1 .0 .1) (s .pre .1 .1 .1) (m .0 .0 .1) (m .0 .1) (m .1) (c .if1 .taken)
 
--- src/calls.rt:94:54
 argument-fits-u16-at-requires : (t : ℕ) → argument-fits-lts.Need-u16-at-requires (argument-fits-callees t) (argument-fits-at t) argument-fits.Post
 argument-fits-u16-at-requires t c κs =
     let pre = c .before .before .before .before .before .before .before .pre in
     omega (arith, pre .1 .1 .0 .0)
 
--- src/calls.rt:94:72
 argument-fits-sub-call-returns : (t : ℕ) → argument-fits-lts.Need-sub-call-returns (argument-fits-callees t) (argument-fits-at t) argument-fits.Post
 argument-fits-sub-call-returns t c =
     let s = (c .before .before .before .before .before .before .before .before) in
     omega (arith, value-level (s .args .levels) (s .args .v .now) (s .pre .1 .1 .1))
 
--- src/calls.rt:94:20
 argument-fits-call-returns-requires : (t : ℕ) → argument-fits-lts.Need-call-returns-requires (argument-fits-callees t) (argument-fits-at t) argument-fits.Post
 argument-fits-call-returns-requires t c κs =
     let s = c .before .before .before .before .before .before .before .before in
@@ -167,32 +158,27 @@ argument-fits-call-returns-requires t c κs =
       (pre .1 .0, value-as (args .levels) (args .v .now) (pre .1 .1 .1) 7 (c .before .if1 .left)),
     )
 
--- src/calls.rt:94:13
 argument-fits-inside-requires : (t : ℕ) → argument-fits-lts.Need-inside-requires (argument-fits-callees t) (argument-fits-at t) argument-fits.Post
 argument-fits-inside-requires t c κs = search needs
 
--- src/calls.rt:78:1
 argument-fits-returns-2 : (t : ℕ) → argument-fits-lts.Need-returns-2 (argument-fits-callees t) (argument-fits-at t) argument-fits.Post
 argument-fits-returns-2 t c =
     let s = c .before .before .before .before .before .before .before in
     let args = s .args in
     c .tested .ensures ∙ fit-bool _ _ (args .asked .now) (args .levels) (args .v .now) (s .pre .1 .1 .0 .1) (s .pre .1 .1 .1) (c .before .match .keys1)
 
--- src/calls.rt:78:1
 argument-fits-returns-3 : (t : ℕ) → argument-fits-lts.Need-returns-3 (argument-fits-callees t) (argument-fits-at t) argument-fits.Post
 argument-fits-returns-3 t c =
     let s = c .before .before .before .before .before .before .before in
     let args = s .args in
     c .tested2 .ensures ∙ fit-long _ _ (args .asked .now) (args .levels) (args .v .now) (s .pre .1 .1 .0 .1) (s .pre .1 .1 .1) (c .before .match .keys2)
 
--- src/calls.rt:78:1
 argument-fits-returns-4 : (t : ℕ) → argument-fits-lts.Need-returns-4 (argument-fits-callees t) (argument-fits-at t) argument-fits.Post
 argument-fits-returns-4 t c =
     let s = c .before .before .before .before .before .before .before in
     let args = s .args in
     c .tested3 .ensures ∙ fit-string _ _ (args .asked .now) (args .levels) (args .v .now) (s .pre .1 .1 .0 .1) (s .pre .1 .1 .1) (c .before .match .keys3)
 
--- src/calls.rt:78:1
 argument-fits-returns-5 : (t : ℕ) → argument-fits-lts.Need-returns-5 (argument-fits-callees t) (argument-fits-at t) argument-fits.Post
 argument-fits-returns-5 t c =
     let call-returns-step = c .before .call-returns in
@@ -213,23 +199,19 @@ arguments-fit-Inv-loop counts schema sections asked v levels n end e₀ b₀ lef
 abbrev arguments-fit-μ-loop : arguments-fit-lts.MeasureT-loop
 arguments-fit-μ-loop counts schema sections asked v levels n end e₀ b₀ left₀ k₀ e b left k = left
 
--- src/calls.rt:54:9
 arguments-fit-u16-at-requires : (t : ℕ) → arguments-fit-lts.Need-u16-at-requires (arguments-fit-callees t)
     (arguments-fit-at t) arguments-fit.Post arguments-fit-Inv-loop arguments-fit-μ-loop
 arguments-fit-u16-at-requires t c κs =
     let s = (c .before .before .before) in omega (arith, table-count memberRow (λ _. wholeV (s .args .levels)) tt 3 (s .args .v .now) (s .pre .1 .1 .1))
 
--- src/calls.rt:55:19
 arguments-fit-mul-end : (t : ℕ) → arguments-fit-lts.Need-mul-end (arguments-fit-callees t)
     (arguments-fit-at t) arguments-fit.Post arguments-fit-Inv-loop arguments-fit-μ-loop
 arguments-fit-mul-end t c = search needs
 
--- src/calls.rt:55:15
 arguments-fit-add-end : (t : ℕ) → arguments-fit-lts.Need-add-end (arguments-fit-callees t)
     (arguments-fit-at t) arguments-fit.Post arguments-fit-Inv-loop arguments-fit-μ-loop
 arguments-fit-add-end t c = search needs
 
--- src/calls.rt:56:17
 arguments-fit-sub-e : (t : ℕ) → arguments-fit-lts.Need-sub-e (arguments-fit-callees t)
     (arguments-fit-at t) arguments-fit.Post arguments-fit-Inv-loop arguments-fit-μ-loop
 arguments-fit-sub-e t c =
@@ -240,12 +222,10 @@ arguments-fit-sub-e t c =
           (c .u16-at .ensures .0),
     )
 
--- src/calls.rt:56:17
 arguments-fit-part-e-start : (t : ℕ) → arguments-fit-lts.Need-part-e-start (arguments-fit-callees t)
     (arguments-fit-at t) arguments-fit.Post arguments-fit-Inv-loop arguments-fit-μ-loop
 arguments-fit-part-e-start t c = search needs
 
--- src/calls.rt:56:17
 arguments-fit-part-e-end : (t : ℕ) → arguments-fit-lts.Need-part-e-end (arguments-fit-callees t)
     (arguments-fit-at t) arguments-fit.Post arguments-fit-Inv-loop arguments-fit-μ-loop
 arguments-fit-part-e-end t c =
@@ -256,7 +236,6 @@ arguments-fit-part-e-end t c =
           (c .u16-at .ensures .0),
     )
 
--- src/calls.rt:57:17
 arguments-fit-sub-b : (t : ℕ) → arguments-fit-lts.Need-sub-b (arguments-fit-callees t)
     (arguments-fit-at t) arguments-fit.Post arguments-fit-Inv-loop arguments-fit-μ-loop
 arguments-fit-sub-b t c =
@@ -264,17 +243,14 @@ arguments-fit-sub-b t c =
     let s = c .before .before .before .before .before in
     omega (arith, table-entries memberRow (λ _. wholeV (s .args .levels)) tt 3 (s .args .v .now) (s .pre .1 .1 .1) (u16-at .result) (u16-at .ensures .0))
 
--- src/calls.rt:57:17
 arguments-fit-part-b-start : (t : ℕ) → arguments-fit-lts.Need-part-b-start (arguments-fit-callees t)
     (arguments-fit-at t) arguments-fit.Post arguments-fit-Inv-loop arguments-fit-μ-loop
 arguments-fit-part-b-start t c = arguments-fit-sub-b t c
 
--- src/calls.rt:57:17
 arguments-fit-part-b-end : (t : ℕ) → arguments-fit-lts.Need-part-b-end (arguments-fit-callees t)
     (arguments-fit-at t) arguments-fit.Post arguments-fit-Inv-loop arguments-fit-μ-loop
 arguments-fit-part-b-end t c = search needs
 
--- src/calls.rt:60:5
 arguments-fit-loop-holds : (t : ℕ) → arguments-fit-lts.Need-loop-holds (arguments-fit-callees t)
     (arguments-fit-at t) arguments-fit.Post arguments-fit-Inv-loop arguments-fit-μ-loop
 arguments-fit-loop-holds t c =
@@ -283,12 +259,10 @@ arguments-fit-loop-holds t c =
     let args = s .args in
     arguments-start (args .levels) _ _ (args .v .now) (args .asked .now) (s .pre .1 .1 .1) (s .pre .1 .1 .0) (u16-at .result) (u16-at .ensures .0)
 
--- src/calls.rt:81:20
 arguments-fit-left-over-requires : (t : ℕ) → arguments-fit-lts.Need-left-over-requires (arguments-fit-callees t)
     (arguments-fit-at t) arguments-fit.Post arguments-fit-Inv-loop arguments-fit-μ-loop
 arguments-fit-left-over-requires t c κs = search needs
 
--- src/calls.rt:81:13
 arguments-fit-returns : (t : ℕ) → arguments-fit-lts.Need-returns (arguments-fit-callees t)
     (arguments-fit-at t) arguments-fit.Post arguments-fit-Inv-loop arguments-fit-μ-loop
 arguments-fit-returns t c =
@@ -297,24 +271,20 @@ arguments-fit-returns t c =
     let loop = c .before .before .before .loop in
     arguments-over (loop .inv) (c .left-over .result) (c .left-over .ensures) (loop-test .taken) (if1 .taken)
 
--- src/calls.rt:64:13
 arguments-fit-u16-at-requires-2 : (t : ℕ) → arguments-fit-lts.Need-u16-at-requires-2 (arguments-fit-callees t)
     (arguments-fit-at t) arguments-fit.Post arguments-fit-Inv-loop arguments-fit-μ-loop
 arguments-fit-u16-at-requires-2 t c κs =
     let loop = c .before .before .loop in
     omega (arith, ahead-room (loop .inv .rows) (c .before .loop-test .taken))
 
--- src/calls.rt:65:55
 arguments-fit-sub-argument-fits : (t : ℕ) → arguments-fit-lts.Need-sub-argument-fits (arguments-fit-callees t)
     (arguments-fit-at t) arguments-fit.Post arguments-fit-Inv-loop arguments-fit-μ-loop
 arguments-fit-sub-argument-fits t c = search needs
 
--- src/calls.rt:65:55
 arguments-fit-part-argument-fits-start : (t : ℕ) → arguments-fit-lts.Need-part-argument-fits-start (arguments-fit-callees t)
     (arguments-fit-at t) arguments-fit.Post arguments-fit-Inv-loop arguments-fit-μ-loop
 arguments-fit-part-argument-fits-start t c = search needs
 
--- src/calls.rt:65:55
 arguments-fit-part-argument-fits-end : (t : ℕ) → arguments-fit-lts.Need-part-argument-fits-end (arguments-fit-callees t)
     (arguments-fit-at t) arguments-fit.Post arguments-fit-Inv-loop arguments-fit-μ-loop
 arguments-fit-part-argument-fits-end t c =
@@ -322,7 +292,6 @@ arguments-fit-part-argument-fits-end t c =
     let loop = c .before .before .before .loop in
     omega (arith, ahead-inside (loop .inv .rows) (loop-test .taken) (c .u16-at2 .result) (c .u16-at2 .ensures .0))
 
--- src/calls.rt:65:13
 arguments-fit-argument-fits-requires : (t : ℕ) → arguments-fit-lts.Need-argument-fits-requires (arguments-fit-callees t)
     (arguments-fit-at t) arguments-fit.Post arguments-fit-Inv-loop arguments-fit-μ-loop
 arguments-fit-argument-fits-requires t c κs =
@@ -338,7 +307,6 @@ arguments-fit-enum-told : (t : ℕ) → arguments-fit-lts.Need-enum-told (argume
     (arguments-fit-at t) arguments-fit.Post arguments-fit-Inv-loop arguments-fit-μ-loop
 arguments-fit-enum-told t c = search needs
 
--- src/calls.rt:67:13
 arguments-fit-returns-2 : (t : ℕ) → arguments-fit-lts.Need-returns-2 (arguments-fit-callees t)
     (arguments-fit-at t) arguments-fit.Post arguments-fit-Inv-loop arguments-fit-μ-loop
 arguments-fit-returns-2 t c =
@@ -350,7 +318,6 @@ arguments-fit-returns-2 t c =
     arguments-stop (loop .inv) (loop-test .taken) (if1 .left) (u16-at2 .result) (u16-at2 .ensures .0) (f .result) (f .ensures)
     (no-yes (f .result) (c .match .keys2))
 
--- src/calls.rt:69:13
 arguments-fit-sub-e-2 : (t : ℕ) → arguments-fit-lts.Need-sub-e-2 (arguments-fit-callees t)
     (arguments-fit-at t) arguments-fit.Post arguments-fit-Inv-loop arguments-fit-μ-loop
 arguments-fit-sub-e-2 t c =
@@ -358,17 +325,14 @@ arguments-fit-sub-e-2 t c =
     let loop = c .before .before .before .before .before .before .before .loop in
     omega (arith, ahead-room (loop .inv .rows) (loop-test .taken))
 
--- src/calls.rt:69:13
 arguments-fit-part-e-start-2 : (t : ℕ) → arguments-fit-lts.Need-part-e-start-2 (arguments-fit-callees t)
     (arguments-fit-at t) arguments-fit.Post arguments-fit-Inv-loop arguments-fit-μ-loop
 arguments-fit-part-e-start-2 t c = arguments-fit-sub-e-2 t c
 
--- src/calls.rt:69:13
 arguments-fit-part-e-end-2 : (t : ℕ) → arguments-fit-lts.Need-part-e-end-2 (arguments-fit-callees t)
     (arguments-fit-at t) arguments-fit.Post arguments-fit-Inv-loop arguments-fit-μ-loop
 arguments-fit-part-e-end-2 t c = search needs
 
--- src/calls.rt:70:13
 arguments-fit-sub-b-2 : (t : ℕ) → arguments-fit-lts.Need-sub-b-2 (arguments-fit-callees t)
     (arguments-fit-at t) arguments-fit.Post arguments-fit-Inv-loop arguments-fit-μ-loop
 arguments-fit-sub-b-2 t c =
@@ -377,17 +341,14 @@ arguments-fit-sub-b-2 t c =
     let loop = c .before .before .before .before .before .before .before .before .loop in
     omega (arith, ahead-inside (loop .inv .rows) (loop-test .taken) (u16-at2 .result) (u16-at2 .ensures .0))
 
--- src/calls.rt:70:13
 arguments-fit-part-b-start-2 : (t : ℕ) → arguments-fit-lts.Need-part-b-start-2 (arguments-fit-callees t)
     (arguments-fit-at t) arguments-fit.Post arguments-fit-Inv-loop arguments-fit-μ-loop
 arguments-fit-part-b-start-2 t c = arguments-fit-sub-b-2 t c
 
--- src/calls.rt:70:13
 arguments-fit-part-b-end-2 : (t : ℕ) → arguments-fit-lts.Need-part-b-end-2 (arguments-fit-callees t)
     (arguments-fit-at t) arguments-fit.Post arguments-fit-Inv-loop arguments-fit-μ-loop
 arguments-fit-part-b-end-2 t c = search needs
 
--- src/calls.rt:71:13
 arguments-fit-sub-k : (t : ℕ) → arguments-fit-lts.Need-sub-k (arguments-fit-callees t)
     (arguments-fit-at t) arguments-fit.Post arguments-fit-Inv-loop arguments-fit-μ-loop
 arguments-fit-sub-k t c =
@@ -398,27 +359,22 @@ arguments-fit-sub-k t c =
     let a = arguments-first (loop .inv) (loop-test .taken) (if1 .left) (u16-at2 .result) (u16-at2 .ensures .0) in
     omega (arith, a .room)
 
--- src/calls.rt:71:13
 arguments-fit-part-k-start : (t : ℕ) → arguments-fit-lts.Need-part-k-start (arguments-fit-callees t)
     (arguments-fit-at t) arguments-fit.Post arguments-fit-Inv-loop arguments-fit-μ-loop
 arguments-fit-part-k-start t c = arguments-fit-sub-k t c
 
--- src/calls.rt:71:13
 arguments-fit-part-k-end : (t : ℕ) → arguments-fit-lts.Need-part-k-end (arguments-fit-callees t)
     (arguments-fit-at t) arguments-fit.Post arguments-fit-Inv-loop arguments-fit-μ-loop
 arguments-fit-part-k-end t c = search needs
 
--- src/calls.rt:72:9
 arguments-fit-sub-left : (t : ℕ) → arguments-fit-lts.Need-sub-left (arguments-fit-callees t)
     (arguments-fit-at t) arguments-fit.Post arguments-fit-Inv-loop arguments-fit-μ-loop
 arguments-fit-sub-left t c = search needs
 
--- src/calls.rt:60:5
 arguments-fit-loop-less : (t : ℕ) → arguments-fit-lts.Need-loop-less (arguments-fit-callees t)
     (arguments-fit-at t) arguments-fit.Post arguments-fit-Inv-loop arguments-fit-μ-loop
 arguments-fit-loop-less t c = search needs
 
--- src/calls.rt:60:5
 arguments-fit-loop-again : (t : ℕ) → arguments-fit-lts.Need-loop-again (arguments-fit-callees t)
     (arguments-fit-at t) arguments-fit.Post arguments-fit-Inv-loop arguments-fit-μ-loop
 arguments-fit-loop-again t c =
@@ -430,12 +386,10 @@ arguments-fit-loop-again t c =
     let loop = c .before .before .before .before .before .before .before .before .before .before .loop in
     arguments-again (loop .inv) (loop-test .taken) (if1 .left) (u16-at2 .result) (u16-at2 .ensures .0) (f .result) (f .ensures) (enum-told .given .1)
 
--- src/calls.rt:94:16
 arguments-fit-left-over-requires-2 : (t : ℕ) → arguments-fit-lts.Need-left-over-requires-2 (arguments-fit-callees t)
     (arguments-fit-at t) arguments-fit.Post arguments-fit-Inv-loop arguments-fit-μ-loop
 arguments-fit-left-over-requires-2 t c κs = search needs
 
--- src/calls.rt:94:9
 arguments-fit-returns-3 : (t : ℕ) → arguments-fit-lts.Need-returns-3 (arguments-fit-callees t)
     (arguments-fit-at t) arguments-fit.Post arguments-fit-Inv-loop arguments-fit-μ-loop
 arguments-fit-returns-3 t c =
@@ -444,7 +398,6 @@ arguments-fit-returns-3 t c =
     let loop = c .before .before .before .loop in
     arguments-few (loop .inv) (c .left-over2 .result) (c .left-over2 .ensures) (loop-test .left) (if2 .taken)
 
--- src/calls.rt:59:1
 arguments-fit-returns-4 : (t : ℕ) → arguments-fit-lts.Need-returns-4 (arguments-fit-callees t)
     (arguments-fit-at t) arguments-fit.Post arguments-fit-Inv-loop arguments-fit-μ-loop
 arguments-fit-returns-4 t c =
@@ -452,26 +405,21 @@ arguments-fit-returns-4 t c =
     let loop = c .before .before .loop in
     arguments-end (loop .inv) (loop-test .left) (c .if2 .left)
 
--- src/calls.rt:32:9
 call-returns-u16-at-requires : (t : ℕ) → call-returns-lts.Need-u16-at-requires (call-returns-callees t) (call-returns-at t) call-returns.Post
 call-returns-u16-at-requires t c κs =
     let s = (c .before .before) in omega (arith, table-count memberRow (λ _. wholeV (s .args .levels)) tt 3 (s .args .v .now) (s .pre .1 .1))
 
--- src/calls.rt:33:32
 call-returns-find-function-requires : (t : ℕ) → call-returns-lts.Need-find-function-requires (call-returns-callees t) (call-returns-at t) call-returns.Post
 call-returns-find-function-requires t c κs =
     let pre = c .before .before .before .pre in
     pre .1 .0
 
--- src/calls.rt:33:27
 call-returns-enum-known-f : (t : ℕ) → call-returns-lts.Need-enum-known-f (call-returns-callees t) (call-returns-at t) call-returns.Post
 call-returns-enum-known-f t c = search needs
 
--- src/calls.rt:34:9
 call-returns-enum-told : (t : ℕ) → call-returns-lts.Need-enum-told (call-returns-callees t) (call-returns-at t) call-returns.Post
 call-returns-enum-told t c = search needs
 
--- src/calls.rt:34:9
 call-returns-returns : (t : ℕ) → call-returns-lts.Need-returns (call-returns-callees t) (call-returns-at t) call-returns.Post
 call-returns-returns t c =
     let y = c .before .before .find-function in
@@ -482,7 +430,6 @@ call-returns-returns t c =
     call-unknown (countsOf (args .counts)) (decS (asLimits (args .sections .limits)) (args .schema .now)) (u16-at .result) (rd (args .v .now) 1) (args .extension) (u16-at .ensures .0)
     (argumentsOf (args .levels) (args .v .now)) by-function-not
 
--- src/calls.rt:37:9
 call-returns-returns-2 : (t : ℕ) → call-returns-lts.Need-returns-2 (call-returns-callees t) (call-returns-at t) call-returns.Post
 call-returns-returns-2 t c =
     let f-step = c .before .before .before .f in
@@ -495,7 +442,6 @@ call-returns-returns-2 t c =
     call-none (countsOf (args .counts)) (decS (asLimits (args .sections .limits)) (args .schema .now)) (u16-at .result) (rd (args .v .now) 1) (args .extension) (u16-at .ensures .0)
     (argumentsOf (args .levels) (args .v .now)) (f .returns) (f .extension) _ (g .is) (c .if1 .taken)
 
--- src/calls.rt:40:9
 call-returns-returns-3 : (t : ℕ) → call-returns-lts.Need-returns-3 (call-returns-callees t) (call-returns-at t) call-returns.Post
 call-returns-returns-3 t c =
     let if1 = c .before .before .if1 in
@@ -509,7 +455,6 @@ call-returns-returns-3 t c =
     call-other (countsOf (args .counts)) (decS (asLimits (args .sections .limits)) (args .schema .now)) (u16-at .result) (rd (args .v .now) 1) (args .extension) (u16-at .ensures .0)
     (argumentsOf (args .levels) (args .v .now)) (f .returns) (f .extension) _ (g .is) (if1 .left) (c .if2 .taken)
 
--- src/calls.rt:44:37
 call-returns-sub-arguments-fit : (t : ℕ) → call-returns-lts.Need-sub-arguments-fit (call-returns-callees t) (call-returns-at t) call-returns.Post
 call-returns-sub-arguments-fit t c =
     let f-step = c .before .before .before .before .before .f in
@@ -520,11 +465,9 @@ call-returns-sub-arguments-fit t c =
     let g = function-at (s .pre .1 .0) (u16-at .result) (y .result) (y .ensures) f (f-step .given .1) in
     omega (arith, g .order, g .inside)
 
--- src/calls.rt:44:37
 call-returns-part-arguments-fit-start : (t : ℕ) → call-returns-lts.Need-part-arguments-fit-start (call-returns-callees t) (call-returns-at t) call-returns.Post
 call-returns-part-arguments-fit-start t c = call-returns-sub-arguments-fit t c
 
--- src/calls.rt:44:37
 call-returns-part-arguments-fit-end : (t : ℕ) → call-returns-lts.Need-part-arguments-fit-end (call-returns-callees t) (call-returns-at t) call-returns.Post
 call-returns-part-arguments-fit-end t c =
     let f-step = c .before .before .before .before .before .f in
@@ -535,7 +478,6 @@ call-returns-part-arguments-fit-end t c =
     let g = function-at (s .pre .1 .0) (u16-at .result) (y .result) (y .ensures) f (f-step .given .1) in
     omega (arith, g .order, g .inside)
 
--- src/calls.rt:44:5
 call-returns-arguments-fit-requires : (t : ℕ) → call-returns-lts.Need-arguments-fit-requires (call-returns-callees t) (call-returns-at t) call-returns.Post
 call-returns-arguments-fit-requires t c κs =
     let f-step = c .before .before .before .before .before .before .f in
@@ -547,7 +489,6 @@ call-returns-arguments-fit-requires t c κs =
     let g = function-at (pre .1 .0) (u16-at .result) (y .result) (y .ensures) f (f-step .given .1) in
     (omega (arith, pre .0), (pre .1 .0, (g .args, pre .1 .1)))
 
--- src/calls.rt:27:1
 call-returns-returns-4 : (t : ℕ) → call-returns-lts.Need-returns-4 (call-returns-callees t) (call-returns-at t) call-returns.Post
 call-returns-returns-4 t c =
     let if2 = c .before .before .if2 in

@@ -137,23 +137,19 @@ conforms-callees t = (
   call-returns-reads.Learnt,
 )
 
--- src/conforms.rt:40:13
 conforms-shared-slice-read-k : (t : ℕ) → conforms-lts.Need-shared-slice-read-k (conforms-callees t) (conforms-at t) conforms.Post
 conforms-shared-slice-read-k t c =
     let start = c .before .before .before .before in
     not-empty (start .args .levels) (start .args .t .now) (start .pre .1 .1 .0)
 
--- src/conforms.rt:41:23
 conforms-shared-slice-read-takes-kind : (t : ℕ) → conforms-lts.Need-shared-slice-read-takes-kind (conforms-callees t) (conforms-at t) conforms.Post
 conforms-shared-slice-read-takes-kind t c =
     let start = c .before .before .before .before .before in
     value-first (start .args .levels) (start .args .v .now) (start .pre .1 .1 .1)
 
--- src/conforms.rt:41:9
 conforms-takes-kind-requires : (t : ℕ) → conforms-lts.Need-takes-kind-requires (conforms-callees t) (conforms-at t) conforms.Post
 conforms-takes-kind-requires t c κs = search needs
 
--- src/conforms.rt:42:9
 conforms-returns : (t : ℕ) → conforms-lts.Need-returns (conforms-callees t) (conforms-at t) conforms.Post
 conforms-returns t c =
     let q = c .before .takes-kind in
@@ -161,39 +157,31 @@ conforms-returns t c =
     let args = s .args in
     kind-not _ _ (args .levels) (args .t .now) (args .v .now) (s .pre .1 .1 .0) (s .pre .1 .1 .1) (q .result) (q .ensures) (c .if1 .taken)
 
--- src/conforms.rt:45:56
 conforms-sub-members-conform : (t : ℕ) → conforms-lts.Need-sub-members-conform (conforms-callees t) (conforms-at t) conforms.Post
 conforms-sub-members-conform t c =
     let s = (c .before .before .before .before .before .before .before .before) in
     omega (arith, not-empty (s .args .levels) (s .args .t .now) (s .pre .1 .1 .0))
 
--- src/conforms.rt:45:56
 conforms-part-members-conform-start : (t : ℕ) → conforms-lts.Need-part-members-conform-start (conforms-callees t) (conforms-at t) conforms.Post
 conforms-part-members-conform-start t c = conforms-sub-members-conform t c
 
--- src/conforms.rt:45:56
 conforms-part-members-conform-end : (t : ℕ) → conforms-lts.Need-part-members-conform-end (conforms-callees t) (conforms-at t) conforms.Post
 conforms-part-members-conform-end t c = search needs
 
--- src/conforms.rt:45:79
 conforms-sub-members-conform-2 : (t : ℕ) → conforms-lts.Need-sub-members-conform-2 (conforms-callees t) (conforms-at t) conforms.Post
 conforms-sub-members-conform-2 t c = omega arith
 
--- src/conforms.rt:45:79
 conforms-part-members-conform-start-2 : (t : ℕ) → conforms-lts.Need-part-members-conform-start-2 (conforms-callees t) (conforms-at t) conforms.Post
 conforms-part-members-conform-start-2 t c = omega arith
 
--- src/conforms.rt:45:79
 conforms-part-members-conform-end-2 : (t : ℕ) → conforms-lts.Need-part-members-conform-end-2 (conforms-callees t) (conforms-at t) conforms.Post
 conforms-part-members-conform-end-2 t c = search needs
 
--- src/conforms.rt:45:88
 conforms-sub-members-conform-3 : (t : ℕ) → conforms-lts.Need-sub-members-conform-3 (conforms-callees t) (conforms-at t) conforms.Post
 conforms-sub-members-conform-3 t c =
     let s = (c .before .before .before .before .before .before .before .before .before .before) in
     omega (arith, value-level (s .args .levels) (s .args .v .now) (s .pre .1 .1 .1))
 
--- src/conforms.rt:45:22
 conforms-members-conform-requires : (t : ℕ) → conforms-lts.Need-members-conform-requires (conforms-callees t) (conforms-at t) conforms.Post
 conforms-members-conform-requires t c κs =
     let match-keys1 = c .before .before .match in
@@ -208,37 +196,29 @@ conforms-members-conform-requires t c κs =
       (pre .1 .0, (is-set (args .levels) (args .t .now) (pre .1 .1 .0) (match-keys1 .keys1) .good, rw (rest-0 (args .v .now)) by-value-as)),
     )
 
--- src/conforms.rt:46:59
 conforms-sub-record-conforms : (t : ℕ) → conforms-lts.Need-sub-record-conforms (conforms-callees t) (conforms-at t) conforms.Post
 conforms-sub-record-conforms t c = omega arith
 
--- src/conforms.rt:46:59
 conforms-part-record-conforms-start : (t : ℕ) → conforms-lts.Need-part-record-conforms-start (conforms-callees t) (conforms-at t) conforms.Post
 conforms-part-record-conforms-start t c = omega arith
 
--- src/conforms.rt:46:59
 conforms-part-record-conforms-end : (t : ℕ) → conforms-lts.Need-part-record-conforms-end (conforms-callees t) (conforms-at t) conforms.Post
 conforms-part-record-conforms-end t c = search needs
 
--- src/conforms.rt:46:68
 conforms-sub-record-conforms-2 : (t : ℕ) → conforms-lts.Need-sub-record-conforms-2 (conforms-callees t) (conforms-at t) conforms.Post
 conforms-sub-record-conforms-2 t c = omega arith
 
--- src/conforms.rt:46:68
 conforms-part-record-conforms-start-2 : (t : ℕ) → conforms-lts.Need-part-record-conforms-start-2 (conforms-callees t) (conforms-at t) conforms.Post
 conforms-part-record-conforms-start-2 t c = omega arith
 
--- src/conforms.rt:46:68
 conforms-part-record-conforms-end-2 : (t : ℕ) → conforms-lts.Need-part-record-conforms-end-2 (conforms-callees t) (conforms-at t) conforms.Post
 conforms-part-record-conforms-end-2 t c = search needs
 
--- src/conforms.rt:46:77
 conforms-sub-record-conforms-3 : (t : ℕ) → conforms-lts.Need-sub-record-conforms-3 (conforms-callees t) (conforms-at t) conforms.Post
 conforms-sub-record-conforms-3 t c =
     let s = (c .before .before .before .before .before .before .before .before .before .before) in
     omega (arith, value-level (s .args .levels) (s .args .v .now) (s .pre .1 .1 .1))
 
--- src/conforms.rt:46:25
 conforms-record-conforms-requires : (t : ℕ) → conforms-lts.Need-record-conforms-requires (conforms-callees t) (conforms-at t) conforms.Post
 conforms-record-conforms-requires t c κs =
     let match-keys2 = c .before .before .match in
@@ -254,27 +234,22 @@ conforms-record-conforms-requires t c κs =
       (pre .1 .0, (rw (rest-0 (args .t .now)) by-record-parts, rw (rest-0 (args .v .now)) by-value-as)),
     )
 
--- src/conforms.rt:48:13
 conforms-sub-stands : (t : ℕ) → conforms-lts.Need-sub-stands (conforms-callees t) (conforms-at t) conforms.Post
 conforms-sub-stands t c =
     let s = (c .before .before .before .before .before .before .before .before) in
     omega (arith, is-entity (s .args .levels) (s .args .t .now) (s .pre .1 .1 .0) (c .match .keys3) .some)
 
--- src/conforms.rt:48:13
 conforms-part-stands-start : (t : ℕ) → conforms-lts.Need-part-stands-start (conforms-callees t) (conforms-at t) conforms.Post
 conforms-part-stands-start t c = conforms-sub-stands t c
 
--- src/conforms.rt:48:13
 conforms-part-stands-end : (t : ℕ) → conforms-lts.Need-part-stands-end (conforms-callees t) (conforms-at t) conforms.Post
 conforms-part-stands-end t c = search needs
 
--- src/conforms.rt:49:13
 conforms-u16-at-requires : (t : ℕ) → conforms-lts.Need-u16-at-requires (conforms-callees t) (conforms-at t) conforms.Post
 conforms-u16-at-requires t c κs =
     let s = (c .before .before .before .before .before .before .before .before .before) in
     omega (arith, is-entity (s .args .levels) (s .args .t .now) (s .pre .1 .1 .0) ((c .before) .match .keys3) .some)
 
--- src/conforms.rt:50:13
 conforms-u16-at-requires-2 : (t : ℕ) → conforms-lts.Need-u16-at-requires-2 (conforms-callees t) (conforms-at t) conforms.Post
 conforms-u16-at-requires-2 t c κs =
     let match-keys3 = c .before .before .match in
@@ -286,7 +261,6 @@ conforms-u16-at-requires-2 t c κs =
     let by-uid-length = uid-length (args .levels) (args .t .now) (args .v .now) (s .pre .1 .1 .0) (s .pre .1 .1 .1) by-taken-kind in
     omega (arith, by-uid-length)
 
--- src/conforms.rt:47:32
 conforms-stands-requires : (t : ℕ) → conforms-lts.Need-stands-requires (conforms-callees t) (conforms-at t) conforms.Post
 conforms-stands-requires t c κs =
     let match-keys3 = c .before .before .before .match in
@@ -299,11 +273,9 @@ conforms-stands-requires t c κs =
       c .before .u16-at .ensures .0,
     )
 
--- src/conforms.rt:47:25
 conforms-tested-requires : (t : ℕ) → conforms-lts.Need-tested-requires (conforms-callees t) (conforms-at t) conforms.Post
 conforms-tested-requires t c κs = search needs
 
--- src/conforms.rt:53:13
 conforms-u16-at-requires-3 : (t : ℕ) → conforms-lts.Need-u16-at-requires-3 (conforms-callees t) (conforms-at t) conforms.Post
 conforms-u16-at-requires-3 t c κs =
     let q = c .before .before .takes-kind in
@@ -313,45 +285,36 @@ conforms-u16-at-requires-3 t c κs =
     let by-uid-length = uid-length (args .levels) (args .t .now) (args .v .now) (s .pre .1 .1 .0) (s .pre .1 .1 .1) by-taken-kind in
     omega (arith, by-uid-length)
 
--- src/conforms.rt:54:13
 conforms-u16-at-requires-4 : (t : ℕ) → conforms-lts.Need-u16-at-requires-4 (conforms-callees t) (conforms-at t) conforms.Post
 conforms-u16-at-requires-4 t c κs =
     let s = (c .before .before .before .before .before .before .before .before .before) in
     omega (arith, is-action (s .args .levels) (s .args .t .now) (s .pre .1 .1 .0) ((c .before) .match .keys4) .some)
 
--- src/conforms.rt:52:32
 conforms-is-action-of-requires : (t : ℕ) → conforms-lts.Need-is-action-of-requires (conforms-callees t) (conforms-at t) conforms.Post
 conforms-is-action-of-requires t c κs = search needs
 
--- src/conforms.rt:52:25
 conforms-tested-requires-2 : (t : ℕ) → conforms-lts.Need-tested-requires-2 (conforms-callees t) (conforms-at t) conforms.Post
 conforms-tested-requires-2 t c κs = search needs
 
--- src/conforms.rt:57:17
 conforms-u16-at-requires-5 : (t : ℕ) → conforms-lts.Need-u16-at-requires-5 (conforms-callees t) (conforms-at t) conforms.Post
 conforms-u16-at-requires-5 t c κs =
     let s = (c .before .before .before .before .before .before .before .before) in
     omega (arith, is-extension (s .args .levels) (s .args .t .now) (s .pre .1 .1 .0) (c .match .keys5) .sized)
 
--- src/conforms.rt:58:44
 conforms-sub-call-returns : (t : ℕ) → conforms-lts.Need-sub-call-returns (conforms-callees t) (conforms-at t) conforms.Post
 conforms-sub-call-returns t c = omega arith
 
--- src/conforms.rt:58:44
 conforms-part-call-returns-start : (t : ℕ) → conforms-lts.Need-part-call-returns-start (conforms-callees t) (conforms-at t) conforms.Post
 conforms-part-call-returns-start t c = omega arith
 
--- src/conforms.rt:58:44
 conforms-part-call-returns-end : (t : ℕ) → conforms-lts.Need-part-call-returns-end (conforms-callees t) (conforms-at t) conforms.Post
 conforms-part-call-returns-end t c = search needs
 
--- src/conforms.rt:58:59
 conforms-sub-call-returns-2 : (t : ℕ) → conforms-lts.Need-sub-call-returns-2 (conforms-callees t) (conforms-at t) conforms.Post
 conforms-sub-call-returns-2 t c =
     let s = (c .before .before .before .before .before .before .before .before .before .before) in
     omega (arith, value-level (s .args .levels) (s .args .v .now) (s .pre .1 .1 .1))
 
--- src/conforms.rt:58:13
 conforms-call-returns-requires : (t : ℕ) → conforms-lts.Need-call-returns-requires (conforms-callees t) (conforms-at t) conforms.Post
 conforms-call-returns-requires t c κs =
     let match-keys5 = c .before .before .match in
@@ -363,7 +326,6 @@ conforms-call-returns-requires t c κs =
     let by-value-as = value-as (args .levels) (args .v .now) (s .pre .1 .1 .1) 7 by-taken-kind in
     (s .pre .1 .0, rw (rest-0 (args .v .now)) by-value-as)
 
--- src/conforms.rt:34:1
 conforms-returns-2 : (t : ℕ) → conforms-lts.Need-returns-2 (conforms-callees t) (conforms-at t) conforms.Post
 conforms-returns-2 t c =
     let match-keys1 = c .before .before .before .match in
@@ -375,7 +337,6 @@ conforms-returns-2 t c =
     (rw (rest-0 (args .v .now)) at (c .members-conform .ensures)) ∙
     set-members _ _ (args .levels) (args .t .now) (args .v .now) (s .pre .1 .1 .0) (s .pre .1 .1 .1) (match-keys1 .keys1) by-taken-kind
 
--- src/conforms.rt:34:1
 conforms-returns-3 : (t : ℕ) → conforms-lts.Need-returns-3 (conforms-callees t) (conforms-at t) conforms.Post
 conforms-returns-3 t c =
     let match-keys2 = c .before .before .before .match in
@@ -387,7 +348,6 @@ conforms-returns-3 t c =
     (rw (rest-0 (args .t .now), rest-0 (args .v .now)) at (c .record-conforms .ensures)) ∙
     record-pairs _ _ (args .levels) (args .t .now) (args .v .now) (s .pre .1 .1 .0) (s .pre .1 .1 .1) (match-keys2 .keys2) by-taken-kind
 
--- src/conforms.rt:34:1
 conforms-returns-4 : (t : ℕ) → conforms-lts.Need-returns-4 (conforms-callees t) (conforms-at t) conforms.Post
 conforms-returns-4 t c =
     let u16-at2 = c .before .before .u16-at2 in
@@ -403,7 +363,6 @@ conforms-returns-4 t c =
     entity-names _ _ (args .levels) (args .t .now) (args .v .now) (s .pre .1 .1 .0) (s .pre .1 .1 .1) (match-keys3 .keys3) by-taken-kind (u16-at .result)
     (u16-at2 .result) (u16-at .ensures .0) (u16-at2 .ensures .0)
 
--- src/conforms.rt:34:1
 conforms-returns-5 : (t : ℕ) → conforms-lts.Need-returns-5 (conforms-callees t) (conforms-at t) conforms.Post
 conforms-returns-5 t c =
     let u16-at4 = c .before .before .u16-at4 in
@@ -418,7 +377,6 @@ conforms-returns-5 t c =
     action-name _ _ (args .levels) (args .t .now) (args .v .now) (s .pre .1 .1 .0) (s .pre .1 .1 .1) (match-keys4 .keys4) by-taken-kind (u16-at3 .result)
     (u16-at4 .result) (u16-at3 .ensures .0) (u16-at4 .ensures .0)
 
--- src/conforms.rt:34:1
 conforms-returns-6 : (t : ℕ) → conforms-lts.Need-returns-6 (conforms-callees t) (conforms-at t) conforms.Post
 conforms-returns-6 t c =
     let u16-at5 = c .before .before .u16-at5 in
@@ -432,7 +390,6 @@ conforms-returns-6 t c =
     extension-call _ _ (args .levels) (args .t .now) (args .v .now) (s .pre .1 .1 .0) (s .pre .1 .1 .1) (match-keys5 .keys5) by-taken-kind (u16-at5 .result)
     (u16-at5 .ensures .0)
 
--- src/conforms.rt:34:1
 conforms-returns-7 : (t : ℕ) → conforms-lts.Need-returns-7 (conforms-callees t) (conforms-at t) conforms.Post
 conforms-returns-7 t c =
     let q = c .before .before .takes-kind in
@@ -458,24 +415,20 @@ members-conform-callees t = (
   conforms.Post,
 )
 
--- src/conforms.rt:71:9
 members-conform-u16-at-requires : (t : ℕ) →
     members-conform-lts.Need-u16-at-requires (members-conform-callees t) (members-conform-at t) members-conform.Post members-conform-Inv-loop
     members-conform-μ-loop
 members-conform-u16-at-requires t c κs =
     let s = (c .before .before .before) in omega (arith, table-count memberRow (λ _. wholeV (s .args .levels)) tt 1 (s .args .v .now) (s .pre .1 .1 .1))
 
--- src/conforms.rt:72:42
 members-conform-mul-end : (t : ℕ) →
     members-conform-lts.Need-mul-end (members-conform-callees t) (members-conform-at t) members-conform.Post members-conform-Inv-loop members-conform-μ-loop
 members-conform-mul-end t c = search needs
 
--- src/conforms.rt:72:15
 members-conform-add-end : (t : ℕ) →
     members-conform-lts.Need-add-end (members-conform-callees t) (members-conform-at t) members-conform.Post members-conform-Inv-loop members-conform-μ-loop
 members-conform-add-end t c = search needs
 
--- src/conforms.rt:73:17
 members-conform-sub-e : (t : ℕ) →
     members-conform-lts.Need-sub-e (members-conform-callees t) (members-conform-at t) members-conform.Post members-conform-Inv-loop members-conform-μ-loop
 members-conform-sub-e t c =
@@ -486,13 +439,11 @@ members-conform-sub-e t c =
           (c .u16-at .ensures .0),
     )
 
--- src/conforms.rt:73:17
 members-conform-part-e-start : (t : ℕ) →
     members-conform-lts.Need-part-e-start (members-conform-callees t) (members-conform-at t) members-conform.Post members-conform-Inv-loop
     members-conform-μ-loop
 members-conform-part-e-start t c = search needs
 
--- src/conforms.rt:73:17
 members-conform-part-e-end : (t : ℕ) →
     members-conform-lts.Need-part-e-end (members-conform-callees t) (members-conform-at t) members-conform.Post members-conform-Inv-loop members-conform-μ-loop
 members-conform-part-e-end t c =
@@ -503,7 +454,6 @@ members-conform-part-e-end t c =
           (c .u16-at .ensures .0),
     )
 
--- src/conforms.rt:74:17
 members-conform-sub-b : (t : ℕ) →
     members-conform-lts.Need-sub-b (members-conform-callees t) (members-conform-at t) members-conform.Post members-conform-Inv-loop members-conform-μ-loop
 members-conform-sub-b t c =
@@ -511,18 +461,15 @@ members-conform-sub-b t c =
     let s = c .before .before .before .before .before in
     omega (arith, table-entries memberRow (λ _. wholeV (s .args .levels)) tt 1 (s .args .v .now) (s .pre .1 .1 .1) (u16-at .result) (u16-at .ensures .0))
 
--- src/conforms.rt:74:17
 members-conform-part-b-start : (t : ℕ) →
     members-conform-lts.Need-part-b-start (members-conform-callees t) (members-conform-at t) members-conform.Post members-conform-Inv-loop
     members-conform-μ-loop
 members-conform-part-b-start t c = members-conform-sub-b t c
 
--- src/conforms.rt:74:17
 members-conform-part-b-end : (t : ℕ) →
     members-conform-lts.Need-part-b-end (members-conform-callees t) (members-conform-at t) members-conform.Post members-conform-Inv-loop members-conform-μ-loop
 members-conform-part-b-end t c = search needs
 
--- src/conforms.rt:76:5
 members-conform-loop-holds : (t : ℕ) →
     members-conform-lts.Need-loop-holds (members-conform-callees t) (members-conform-at t) members-conform.Post members-conform-Inv-loop members-conform-μ-loop
 members-conform-loop-holds t c =
@@ -530,25 +477,21 @@ members-conform-loop-holds t c =
     let s = c .before .before .before .before .before .before in
     members-start (s .args .levels) _ (s .args .v .now) (s .pre .1 .1 .1) (u16-at .result) (u16-at .ensures .0)
 
--- src/conforms.rt:77:13
 members-conform-u16-at-requires-2 : (t : ℕ) →
     members-conform-lts.Need-u16-at-requires-2 (members-conform-callees t) (members-conform-at t) members-conform.Post members-conform-Inv-loop
     members-conform-μ-loop
 members-conform-u16-at-requires-2 t c κs = omega (arith, ahead-room ((c .before) .loop .inv .rows) (c .loop-test .taken))
 
--- src/conforms.rt:78:50
 members-conform-sub-conforms : (t : ℕ) →
     members-conform-lts.Need-sub-conforms (members-conform-callees t) (members-conform-at t) members-conform.Post members-conform-Inv-loop
     members-conform-μ-loop
 members-conform-sub-conforms t c = search needs
 
--- src/conforms.rt:78:50
 members-conform-part-conforms-start : (t : ℕ) →
     members-conform-lts.Need-part-conforms-start (members-conform-callees t) (members-conform-at t) members-conform.Post members-conform-Inv-loop
     members-conform-μ-loop
 members-conform-part-conforms-start t c = search needs
 
--- src/conforms.rt:78:50
 members-conform-part-conforms-end : (t : ℕ) →
     members-conform-lts.Need-part-conforms-end (members-conform-callees t) (members-conform-at t) members-conform.Post members-conform-Inv-loop
     members-conform-μ-loop
@@ -556,7 +499,6 @@ members-conform-part-conforms-end t c =
     let loop = c .before .before .loop in
     omega (arith, ahead-inside (loop .inv .rows) (c .before .loop-test .taken) (c .u16-at2 .result) (c .u16-at2 .ensures .0))
 
--- src/conforms.rt:78:13
 members-conform-conforms-requires : (t : ℕ) →
     members-conform-lts.Need-conforms-requires (members-conform-callees t) (members-conform-at t) members-conform.Post members-conform-Inv-loop
     members-conform-μ-loop
@@ -572,7 +514,6 @@ members-conform-enum-told : (t : ℕ) →
     members-conform-lts.Need-enum-told (members-conform-callees t) (members-conform-at t) members-conform.Post members-conform-Inv-loop members-conform-μ-loop
 members-conform-enum-told t c = search needs
 
--- src/conforms.rt:80:13
 members-conform-returns : (t : ℕ) →
     members-conform-lts.Need-returns (members-conform-callees t) (members-conform-at t) members-conform.Post members-conform-Inv-loop members-conform-μ-loop
 members-conform-returns t c =
@@ -582,7 +523,6 @@ members-conform-returns t c =
     let loop = c .before .before .before .before .before .loop in
     members-stop (loop .inv) (loop-test .taken) (u16-at2 .result) (u16-at2 .ensures .0) (f .result) (f .ensures) (no-yes (f .result) (c .match .keys2))
 
--- src/conforms.rt:82:13
 members-conform-sub-e-2 : (t : ℕ) →
     members-conform-lts.Need-sub-e-2 (members-conform-callees t) (members-conform-at t) members-conform.Post members-conform-Inv-loop members-conform-μ-loop
 members-conform-sub-e-2 t c =
@@ -590,19 +530,16 @@ members-conform-sub-e-2 t c =
     let loop = c .before .before .before .before .before .before .loop in
     omega (arith, ahead-room (loop .inv .rows) (loop-test .taken))
 
--- src/conforms.rt:82:13
 members-conform-part-e-start-2 : (t : ℕ) →
     members-conform-lts.Need-part-e-start-2 (members-conform-callees t) (members-conform-at t) members-conform.Post members-conform-Inv-loop
     members-conform-μ-loop
 members-conform-part-e-start-2 t c = members-conform-sub-e-2 t c
 
--- src/conforms.rt:82:13
 members-conform-part-e-end-2 : (t : ℕ) →
     members-conform-lts.Need-part-e-end-2 (members-conform-callees t) (members-conform-at t) members-conform.Post members-conform-Inv-loop
     members-conform-μ-loop
 members-conform-part-e-end-2 t c = search needs
 
--- src/conforms.rt:83:13
 members-conform-sub-b-2 : (t : ℕ) →
     members-conform-lts.Need-sub-b-2 (members-conform-callees t) (members-conform-at t) members-conform.Post members-conform-Inv-loop members-conform-μ-loop
 members-conform-sub-b-2 t c =
@@ -611,29 +548,24 @@ members-conform-sub-b-2 t c =
     let loop = c .before .before .before .before .before .before .before .loop in
     omega (arith, ahead-inside (loop .inv .rows) (loop-test .taken) (u16-at2 .result) (u16-at2 .ensures .0))
 
--- src/conforms.rt:83:13
 members-conform-part-b-start-2 : (t : ℕ) →
     members-conform-lts.Need-part-b-start-2 (members-conform-callees t) (members-conform-at t) members-conform.Post members-conform-Inv-loop
     members-conform-μ-loop
 members-conform-part-b-start-2 t c = members-conform-sub-b-2 t c
 
--- src/conforms.rt:83:13
 members-conform-part-b-end-2 : (t : ℕ) →
     members-conform-lts.Need-part-b-end-2 (members-conform-callees t) (members-conform-at t) members-conform.Post members-conform-Inv-loop
     members-conform-μ-loop
 members-conform-part-b-end-2 t c = search needs
 
--- src/conforms.rt:84:9
 members-conform-sub-left : (t : ℕ) →
     members-conform-lts.Need-sub-left (members-conform-callees t) (members-conform-at t) members-conform.Post members-conform-Inv-loop members-conform-μ-loop
 members-conform-sub-left t c = search needs
 
--- src/conforms.rt:76:5
 members-conform-loop-less : (t : ℕ) →
     members-conform-lts.Need-loop-less (members-conform-callees t) (members-conform-at t) members-conform.Post members-conform-Inv-loop members-conform-μ-loop
 members-conform-loop-less t c = search needs
 
--- src/conforms.rt:76:5
 members-conform-loop-again : (t : ℕ) →
     members-conform-lts.Need-loop-again (members-conform-callees t) (members-conform-at t) members-conform.Post members-conform-Inv-loop members-conform-μ-loop
 members-conform-loop-again t c =
@@ -644,7 +576,6 @@ members-conform-loop-again t c =
     let loop = c .before .before .before .before .before .before .before .before .loop in
     members-again (loop .inv) (loop-test .taken) (u16-at2 .result) (u16-at2 .ensures .0) (f .result) (f .ensures) (enum-told .given .1)
 
--- src/conforms.rt:65:1
 members-conform-returns-2 : (t : ℕ) →
     members-conform-lts.Need-returns-2 (members-conform-callees t) (members-conform-at t) members-conform.Post members-conform-Inv-loop members-conform-μ-loop
 members-conform-returns-2 t c = members-end ((c .before) .loop .inv) (c .loop-test .left)
@@ -661,25 +592,20 @@ pair-conforms-callees t = (
   conforms.Post,
 )
 
--- src/conforms.rt:147:31
 pair-conforms-find-requires : (t : ℕ) → pair-conforms-lts.Need-find-requires (pair-conforms-callees t) (pair-conforms-at t) pair-conforms.Post
 pair-conforms-find-requires t c κs =
     let pre = c .before .before .before .before .pre in
     laid (pre .1 .1 .0)
 
--- src/conforms.rt:147:19
 pair-conforms-enum-known-i : (t : ℕ) → pair-conforms-lts.Need-enum-known-i (pair-conforms-callees t) (pair-conforms-at t) pair-conforms.Post
 pair-conforms-enum-known-i t c = search needs
 
--- src/conforms.rt:148:23
 pair-conforms-enum-told : (t : ℕ) → pair-conforms-lts.Need-enum-told (pair-conforms-callees t) (pair-conforms-at t) pair-conforms.Post
 pair-conforms-enum-told t c = search needs
 
--- src/conforms.rt:148:9
 pair-conforms-tested-requires : (t : ℕ) → pair-conforms-lts.Need-tested-requires (pair-conforms-callees t) (pair-conforms-at t) pair-conforms.Post
 pair-conforms-tested-requires t c κs = search needs
 
--- src/conforms.rt:148:9
 pair-conforms-returns : (t : ℕ) → pair-conforms-lts.Need-returns (pair-conforms-callees t) (pair-conforms-at t) pair-conforms.Post
 pair-conforms-returns t c =
     let f = c .before .before .before .find in
@@ -688,7 +614,6 @@ pair-conforms-returns t c =
     c .tested .ensures ∙ pair-absent _ _ _ (args .levels) (args .n) (args .name) (args .f .now) (args .c .now) _ (s .pre .1 .1 .0) (f .result) (f .ensures)
     (c .before .enum-told .given .1)
 
--- src/conforms.rt:150:14
 pair-conforms-mul-at : (t : ℕ) → pair-conforms-lts.Need-mul-at (pair-conforms-callees t) (pair-conforms-at t) pair-conforms.Post
 pair-conforms-mul-at t c =
     let f = c .before .before .before .find in
@@ -699,7 +624,6 @@ pair-conforms-mul-at t c =
     (g .0 .1 .0) (g .1) in
     omega (arith, by-pair-room)
 
--- src/conforms.rt:151:21
 pair-conforms-sub-attribute : (t : ℕ) → pair-conforms-lts.Need-sub-attribute (pair-conforms-callees t) (pair-conforms-at t) pair-conforms.Post
 pair-conforms-sub-attribute t c =
     let f = c .before .before .before .find in
@@ -710,7 +634,6 @@ pair-conforms-sub-attribute t c =
     (g .0 .1 .0) (g .1) in
     omega (arith, by-pair-room)
 
--- src/conforms.rt:151:21
 pair-conforms-part-attribute-start : (t : ℕ) → pair-conforms-lts.Need-part-attribute-start (pair-conforms-callees t) (pair-conforms-at t) pair-conforms.Post
 pair-conforms-part-attribute-start t c =
     let f = c .before .before .before .find in
@@ -721,11 +644,9 @@ pair-conforms-part-attribute-start t c =
     (g .0 .1 .0) (g .1) in
     omega (arith, by-pair-room)
 
--- src/conforms.rt:151:21
 pair-conforms-part-attribute-end : (t : ℕ) → pair-conforms-lts.Need-part-attribute-end (pair-conforms-callees t) (pair-conforms-at t) pair-conforms.Post
 pair-conforms-part-attribute-end t c = search needs
 
--- src/conforms.rt:152:23
 pair-conforms-u16-at-requires : (t : ℕ) → pair-conforms-lts.Need-u16-at-requires (pair-conforms-callees t) (pair-conforms-at t) pair-conforms.Post
 pair-conforms-u16-at-requires t c κs =
     let i = c .before .before .i in
@@ -737,7 +658,6 @@ pair-conforms-u16-at-requires t c κs =
     (g .0 .1 .0) (g .1) in
     omega (arith, length-rest (5 * g .0 .0) (args .f .now), by-pair-room)
 
--- src/conforms.rt:152:15
 pair-conforms-add-end : (t : ℕ) → pair-conforms-lts.Need-add-end (pair-conforms-callees t) (pair-conforms-at t) pair-conforms.Post
 pair-conforms-add-end t c =
     let i = c .before .before .before .i in
@@ -749,7 +669,6 @@ pair-conforms-add-end t c =
     (g .0 .1 .0) (g .1) (c .u16-at .result) (c .u16-at .ensures .0) in
     omega (arith, by-pair-inside)
 
--- src/conforms.rt:153:32
 pair-conforms-sub-conforms : (t : ℕ) → pair-conforms-lts.Need-sub-conforms (pair-conforms-callees t) (pair-conforms-at t) pair-conforms.Post
 pair-conforms-sub-conforms t c =
     let i = c .before .before .before .i in
@@ -761,11 +680,9 @@ pair-conforms-sub-conforms t c =
     (g .0 .1 .0) (g .1) (c .u16-at .result) (c .u16-at .ensures .0) in
     omega (arith, by-pair-inside)
 
--- src/conforms.rt:153:32
 pair-conforms-part-conforms-start : (t : ℕ) → pair-conforms-lts.Need-part-conforms-start (pair-conforms-callees t) (pair-conforms-at t) pair-conforms.Post
 pair-conforms-part-conforms-start t c = search needs
 
--- src/conforms.rt:153:32
 pair-conforms-part-conforms-end : (t : ℕ) → pair-conforms-lts.Need-part-conforms-end (pair-conforms-callees t) (pair-conforms-at t) pair-conforms.Post
 pair-conforms-part-conforms-end t c =
     let i = c .before .before .before .i in
@@ -777,7 +694,6 @@ pair-conforms-part-conforms-end t c =
     (g .0 .1 .0) (g .1) (c .u16-at .result) (c .u16-at .ensures .0) in
     omega (arith, by-pair-inside)
 
--- src/conforms.rt:153:5
 pair-conforms-conforms-requires : (t : ℕ) → pair-conforms-lts.Need-conforms-requires (pair-conforms-callees t) (pair-conforms-at t) pair-conforms.Post
 pair-conforms-conforms-requires t c κs =
     let u16-at = c .before .u16-at in
@@ -791,7 +707,6 @@ pair-conforms-conforms-requires t c κs =
     (g .0 .1 .0) (g .1) (u16-at .result) (u16-at .ensures .0) in
     (omega (arith, pre .0), (pre .1 .0, (by-pair-whole, pre .1 .1 .1)))
 
--- src/conforms.rt:131:1
 pair-conforms-returns-2 : (t : ℕ) → pair-conforms-lts.Need-returns-2 (pair-conforms-callees t) (pair-conforms-at t) pair-conforms.Post
 pair-conforms-returns-2 t c =
     let u16-at = c .before .before .u16-at in
@@ -826,7 +741,6 @@ record-conforms-callees t = (
   tested-reads.Learnt,
 )
 
--- src/conforms.rt:97:9
 record-conforms-u16-at-requires : (t : ℕ) →
     record-conforms-lts.Need-u16-at-requires (record-conforms-callees t) (record-conforms-at t) record-conforms.Post record-conforms-Inv-loop
     record-conforms-μ-loop
@@ -835,34 +749,28 @@ record-conforms-u16-at-requires t c κs =
     let args = s .args in
     omega (arith, table-count attrRow (λ _. whole (args .levels)) 0 2 (args .t .now) (records-table (args .levels) (args .t .now) (s .pre .1 .1 .0)))
 
--- src/conforms.rt:98:9
 record-conforms-u16-at-requires-2 : (t : ℕ) →
     record-conforms-lts.Need-u16-at-requires-2 (record-conforms-callees t) (record-conforms-at t) record-conforms.Post record-conforms-Inv-loop
     record-conforms-μ-loop
 record-conforms-u16-at-requires-2 t c κs =
     let s = (c .before .before .before .before) in omega (arith, table-count pairRow (λ _. wholeV (s .args .levels)) 0 1 (s .args .v .now) (s .pre .1 .1 .1))
 
--- src/conforms.rt:99:38
 record-conforms-mul-p : (t : ℕ) →
     record-conforms-lts.Need-mul-p (record-conforms-callees t) (record-conforms-at t) record-conforms.Post record-conforms-Inv-loop record-conforms-μ-loop
 record-conforms-mul-p t c = search needs
 
--- src/conforms.rt:99:13
 record-conforms-add-p : (t : ℕ) →
     record-conforms-lts.Need-add-p (record-conforms-callees t) (record-conforms-at t) record-conforms.Post record-conforms-Inv-loop record-conforms-μ-loop
 record-conforms-add-p t c = search needs
 
--- src/conforms.rt:100:43
 record-conforms-mul-q : (t : ℕ) →
     record-conforms-lts.Need-mul-q (record-conforms-callees t) (record-conforms-at t) record-conforms.Post record-conforms-Inv-loop record-conforms-μ-loop
 record-conforms-mul-q t c = search needs
 
--- src/conforms.rt:100:13
 record-conforms-add-q : (t : ℕ) →
     record-conforms-lts.Need-add-q (record-conforms-callees t) (record-conforms-at t) record-conforms.Post record-conforms-Inv-loop record-conforms-μ-loop
 record-conforms-add-q t c = search needs
 
--- src/conforms.rt:101:17
 record-conforms-sub-f : (t : ℕ) →
     record-conforms-lts.Need-sub-f (record-conforms-callees t) (record-conforms-at t) record-conforms.Post record-conforms-Inv-loop record-conforms-μ-loop
 record-conforms-sub-f t c =
@@ -875,13 +783,11 @@ record-conforms-sub-f t c =
           (u16-at .result) (u16-at .ensures .0),
     )
 
--- src/conforms.rt:101:17
 record-conforms-part-f-start : (t : ℕ) →
     record-conforms-lts.Need-part-f-start (record-conforms-callees t) (record-conforms-at t) record-conforms.Post record-conforms-Inv-loop
     record-conforms-μ-loop
 record-conforms-part-f-start t c = search needs
 
--- src/conforms.rt:101:17
 record-conforms-part-f-end : (t : ℕ) →
     record-conforms-lts.Need-part-f-end (record-conforms-callees t) (record-conforms-at t) record-conforms.Post record-conforms-Inv-loop record-conforms-μ-loop
 record-conforms-part-f-end t c =
@@ -894,7 +800,6 @@ record-conforms-part-f-end t c =
           (u16-at .result) (u16-at .ensures .0),
     )
 
--- src/conforms.rt:102:17
 record-conforms-sub-c : (t : ℕ) →
     record-conforms-lts.Need-sub-c (record-conforms-callees t) (record-conforms-at t) record-conforms.Post record-conforms-Inv-loop record-conforms-μ-loop
 record-conforms-sub-c t c =
@@ -907,18 +812,15 @@ record-conforms-sub-c t c =
           (u16-at .result) (u16-at .ensures .0),
     )
 
--- src/conforms.rt:102:17
 record-conforms-part-c-start : (t : ℕ) →
     record-conforms-lts.Need-part-c-start (record-conforms-callees t) (record-conforms-at t) record-conforms.Post record-conforms-Inv-loop
     record-conforms-μ-loop
 record-conforms-part-c-start t c = record-conforms-sub-c t c
 
--- src/conforms.rt:102:17
 record-conforms-part-c-end : (t : ℕ) →
     record-conforms-lts.Need-part-c-end (record-conforms-callees t) (record-conforms-at t) record-conforms.Post record-conforms-Inv-loop record-conforms-μ-loop
 record-conforms-part-c-end t c = search needs
 
--- src/conforms.rt:103:17
 record-conforms-sub-e : (t : ℕ) →
     record-conforms-lts.Need-sub-e (record-conforms-callees t) (record-conforms-at t) record-conforms.Post record-conforms-Inv-loop record-conforms-μ-loop
 record-conforms-sub-e t c =
@@ -926,13 +828,11 @@ record-conforms-sub-e t c =
     let s = c .before .before .before .before .before .before .before in
     omega (arith, table-entries pairRow (λ _. wholeV (s .args .levels)) 0 1 (s .args .v .now) (s .pre .1 .1 .1) (u16-at2 .result) (u16-at2 .ensures .0))
 
--- src/conforms.rt:103:17
 record-conforms-part-e-start : (t : ℕ) →
     record-conforms-lts.Need-part-e-start (record-conforms-callees t) (record-conforms-at t) record-conforms.Post record-conforms-Inv-loop
     record-conforms-μ-loop
 record-conforms-part-e-start t c = search needs
 
--- src/conforms.rt:103:17
 record-conforms-part-e-end : (t : ℕ) →
     record-conforms-lts.Need-part-e-end (record-conforms-callees t) (record-conforms-at t) record-conforms.Post record-conforms-Inv-loop record-conforms-μ-loop
 record-conforms-part-e-end t c =
@@ -940,7 +840,6 @@ record-conforms-part-e-end t c =
     let s = c .before .before .before .before .before .before .before in
     omega (arith, table-entries pairRow (λ _. wholeV (s .args .levels)) 0 1 (s .args .v .now) (s .pre .1 .1 .1) (u16-at2 .result) (u16-at2 .ensures .0))
 
--- src/conforms.rt:104:17
 record-conforms-sub-b : (t : ℕ) →
     record-conforms-lts.Need-sub-b (record-conforms-callees t) (record-conforms-at t) record-conforms.Post record-conforms-Inv-loop record-conforms-μ-loop
 record-conforms-sub-b t c =
@@ -948,18 +847,15 @@ record-conforms-sub-b t c =
     let s = c .before .before .before .before .before .before .before .before in
     omega (arith, table-entries pairRow (λ _. wholeV (s .args .levels)) 0 1 (s .args .v .now) (s .pre .1 .1 .1) (u16-at2 .result) (u16-at2 .ensures .0))
 
--- src/conforms.rt:104:17
 record-conforms-part-b-start : (t : ℕ) →
     record-conforms-lts.Need-part-b-start (record-conforms-callees t) (record-conforms-at t) record-conforms.Post record-conforms-Inv-loop
     record-conforms-μ-loop
 record-conforms-part-b-start t c = record-conforms-sub-b t c
 
--- src/conforms.rt:104:17
 record-conforms-part-b-end : (t : ℕ) →
     record-conforms-lts.Need-part-b-end (record-conforms-callees t) (record-conforms-at t) record-conforms.Post record-conforms-Inv-loop record-conforms-μ-loop
 record-conforms-part-b-end t c = search needs
 
--- src/conforms.rt:107:5
 record-conforms-loop-holds : (t : ℕ) →
     record-conforms-lts.Need-loop-holds (record-conforms-callees t) (record-conforms-at t) record-conforms.Post record-conforms-Inv-loop record-conforms-μ-loop
 record-conforms-loop-holds t c =
@@ -970,13 +866,11 @@ record-conforms-loop-holds t c =
     record-start (args .levels) _ _ (args .t .now) (args .v .now) (s .pre .1 .1 .0) (s .pre .1 .1 .1) (u16-at .result) (u16-at2 .result) (u16-at .ensures .0)
     (u16-at2 .ensures .0) (u16-at .ensures .1) _
 
--- src/conforms.rt:108:13
 record-conforms-u16-at-requires-3 : (t : ℕ) →
     record-conforms-lts.Need-u16-at-requires-3 (record-conforms-callees t) (record-conforms-at t) record-conforms.Post record-conforms-Inv-loop
     record-conforms-μ-loop
 record-conforms-u16-at-requires-3 t c κs = omega (arith, ahead-room ((c .before) .loop .inv .rows) (c .loop-test .taken))
 
--- src/conforms.rt:109:13
 record-conforms-u16-at-requires-4 : (t : ℕ) →
     record-conforms-lts.Need-u16-at-requires-4 (record-conforms-callees t) (record-conforms-at t) record-conforms.Post record-conforms-Inv-loop
     record-conforms-μ-loop
@@ -984,7 +878,6 @@ record-conforms-u16-at-requires-4 t c κs =
     let loop = c .before .before .loop in
     omega (arith, ahead-room (loop .inv .rows) (c .before .loop-test .taken))
 
--- src/conforms.rt:110:13
 record-conforms-skip-below-requires : (t : ℕ) →
     record-conforms-lts.Need-skip-below-requires (record-conforms-callees t) (record-conforms-at t) record-conforms.Post record-conforms-Inv-loop
     record-conforms-μ-loop
@@ -992,7 +885,6 @@ record-conforms-skip-below-requires t c κs =
     let loop = c .before .before .before .loop in
     laid (loop .inv .attrs)
 
--- src/conforms.rt:113:18
 record-conforms-mul-at : (t : ℕ) →
     record-conforms-lts.Need-mul-at (record-conforms-callees t) (record-conforms-at t) record-conforms.Post record-conforms-Inv-loop record-conforms-μ-loop
 record-conforms-mul-at t c =
@@ -1002,7 +894,6 @@ record-conforms-mul-at t c =
     let g = past (loop .inv .attrs) (u16-at3 .result) (k .result .entries) (k .result .bytes) (k .ensures .0) (k .ensures .1) in
     omega (arith, g .most, loop .inv .few)
 
--- src/conforms.rt:114:13
 record-conforms-sub-f-2 : (t : ℕ) →
     record-conforms-lts.Need-sub-f-2 (record-conforms-callees t) (record-conforms-at t) record-conforms.Post record-conforms-Inv-loop record-conforms-μ-loop
 record-conforms-sub-f-2 t c =
@@ -1012,19 +903,16 @@ record-conforms-sub-f-2 t c =
     let g = past (loop .inv .attrs) (u16-at3 .result) (k .result .entries) (k .result .bytes) (k .ensures .0) (k .ensures .1) in
     omega (arith, g .room)
 
--- src/conforms.rt:114:13
 record-conforms-part-f-start-2 : (t : ℕ) →
     record-conforms-lts.Need-part-f-start-2 (record-conforms-callees t) (record-conforms-at t) record-conforms.Post record-conforms-Inv-loop
     record-conforms-μ-loop
 record-conforms-part-f-start-2 t c = record-conforms-sub-f-2 t c
 
--- src/conforms.rt:114:13
 record-conforms-part-f-end-2 : (t : ℕ) →
     record-conforms-lts.Need-part-f-end-2 (record-conforms-callees t) (record-conforms-at t) record-conforms.Post record-conforms-Inv-loop
     record-conforms-μ-loop
 record-conforms-part-f-end-2 t c = search needs
 
--- src/conforms.rt:115:13
 record-conforms-sub-c-2 : (t : ℕ) →
     record-conforms-lts.Need-sub-c-2 (record-conforms-callees t) (record-conforms-at t) record-conforms.Post record-conforms-Inv-loop record-conforms-μ-loop
 record-conforms-sub-c-2 t c =
@@ -1034,19 +922,16 @@ record-conforms-sub-c-2 t c =
     let g = past (loop .inv .attrs) (u16-at3 .result) (k .result .entries) (k .result .bytes) (k .ensures .0) (k .ensures .1) in
     omega (arith, g .inside)
 
--- src/conforms.rt:115:13
 record-conforms-part-c-start-2 : (t : ℕ) →
     record-conforms-lts.Need-part-c-start-2 (record-conforms-callees t) (record-conforms-at t) record-conforms.Post record-conforms-Inv-loop
     record-conforms-μ-loop
 record-conforms-part-c-start-2 t c = record-conforms-sub-c-2 t c
 
--- src/conforms.rt:115:13
 record-conforms-part-c-end-2 : (t : ℕ) →
     record-conforms-lts.Need-part-c-end-2 (record-conforms-callees t) (record-conforms-at t) record-conforms.Post record-conforms-Inv-loop
     record-conforms-μ-loop
 record-conforms-part-c-end-2 t c = search needs
 
--- src/conforms.rt:116:9
 record-conforms-sub-ahead : (t : ℕ) →
     record-conforms-lts.Need-sub-ahead (record-conforms-callees t) (record-conforms-at t) record-conforms.Post record-conforms-Inv-loop record-conforms-μ-loop
 record-conforms-sub-ahead t c =
@@ -1056,18 +941,15 @@ record-conforms-sub-ahead t c =
     let g = past (loop .inv .attrs) (u16-at3 .result) (k .result .entries) (k .result .bytes) (k .ensures .0) (k .ensures .1) in
     omega (arith, g .most)
 
--- src/conforms.rt:117:17
 record-conforms-sub-x : (t : ℕ) →
     record-conforms-lts.Need-sub-x (record-conforms-callees t) (record-conforms-at t) record-conforms.Post record-conforms-Inv-loop record-conforms-μ-loop
 record-conforms-sub-x t c = search needs
 
--- src/conforms.rt:117:17
 record-conforms-part-x-start : (t : ℕ) →
     record-conforms-lts.Need-part-x-start (record-conforms-callees t) (record-conforms-at t) record-conforms.Post record-conforms-Inv-loop
     record-conforms-μ-loop
 record-conforms-part-x-start t c = search needs
 
--- src/conforms.rt:117:17
 record-conforms-part-x-end : (t : ℕ) →
     record-conforms-lts.Need-part-x-end (record-conforms-callees t) (record-conforms-at t) record-conforms.Post record-conforms-Inv-loop record-conforms-μ-loop
 record-conforms-part-x-end t c =
@@ -1076,7 +958,6 @@ record-conforms-part-x-end t c =
     let loop = c .before .before .before .before .before .before .loop in
     omega (arith, ahead-inside (loop .inv .rows) (loop-test .taken) (u16-at4 .result) (u16-at4 .ensures .0))
 
--- src/conforms.rt:118:24
 record-conforms-shared-slice-read-openness : (t : ℕ) →
     record-conforms-lts.Need-shared-slice-read-openness (record-conforms-callees t) (record-conforms-at t) record-conforms.Post record-conforms-Inv-loop
     record-conforms-μ-loop
@@ -1085,7 +966,6 @@ record-conforms-shared-slice-read-openness t c =
     let args = s .args in
     omega (arith, table-count attrRow (λ _. whole (args .levels)) 0 2 (args .t .now) (records-table (args .levels) (args .t .now) (s .pre .1 .1 .0)))
 
--- src/conforms.rt:119:13
 record-conforms-pair-conforms-requires : (t : ℕ) →
     record-conforms-lts.Need-pair-conforms-requires (record-conforms-callees t) (record-conforms-at t) record-conforms.Post record-conforms-Inv-loop
     record-conforms-μ-loop
@@ -1105,7 +985,6 @@ record-conforms-enum-told : (t : ℕ) →
     record-conforms-lts.Need-enum-told (record-conforms-callees t) (record-conforms-at t) record-conforms.Post record-conforms-Inv-loop record-conforms-μ-loop
 record-conforms-enum-told t c = search needs
 
--- src/conforms.rt:121:13
 record-conforms-returns : (t : ℕ) →
     record-conforms-lts.Need-returns (record-conforms-callees t) (record-conforms-at t) record-conforms.Post record-conforms-Inv-loop record-conforms-μ-loop
 record-conforms-returns t c =
@@ -1120,7 +999,6 @@ record-conforms-returns t c =
     record-stop i (loop-test .taken) (u16-at3 .result) (u16-at3 .ensures .0) (u16-at4 .result) (u16-at4 .ensures .0) (p .result) (p .ensures)
     (no-yes (p .result) (c .match .keys2))
 
--- src/conforms.rt:123:13
 record-conforms-sub-e-2 : (t : ℕ) →
     record-conforms-lts.Need-sub-e-2 (record-conforms-callees t) (record-conforms-at t) record-conforms.Post record-conforms-Inv-loop record-conforms-μ-loop
 record-conforms-sub-e-2 t c =
@@ -1128,19 +1006,16 @@ record-conforms-sub-e-2 t c =
     let loop = c .before .before .before .before .before .before .before .before .before .before .before .loop in
     omega (arith, ahead-room (loop .inv .rows) (loop-test .taken))
 
--- src/conforms.rt:123:13
 record-conforms-part-e-start-2 : (t : ℕ) →
     record-conforms-lts.Need-part-e-start-2 (record-conforms-callees t) (record-conforms-at t) record-conforms.Post record-conforms-Inv-loop
     record-conforms-μ-loop
 record-conforms-part-e-start-2 t c = record-conforms-sub-e-2 t c
 
--- src/conforms.rt:123:13
 record-conforms-part-e-end-2 : (t : ℕ) →
     record-conforms-lts.Need-part-e-end-2 (record-conforms-callees t) (record-conforms-at t) record-conforms.Post record-conforms-Inv-loop
     record-conforms-μ-loop
 record-conforms-part-e-end-2 t c = search needs
 
--- src/conforms.rt:124:13
 record-conforms-sub-b-2 : (t : ℕ) →
     record-conforms-lts.Need-sub-b-2 (record-conforms-callees t) (record-conforms-at t) record-conforms.Post record-conforms-Inv-loop record-conforms-μ-loop
 record-conforms-sub-b-2 t c =
@@ -1149,29 +1024,24 @@ record-conforms-sub-b-2 t c =
     let loop = c .before .before .before .before .before .before .before .before .before .before .before .before .loop in
     omega (arith, ahead-inside (loop .inv .rows) (loop-test .taken) (u16-at4 .result) (u16-at4 .ensures .0))
 
--- src/conforms.rt:124:13
 record-conforms-part-b-start-2 : (t : ℕ) →
     record-conforms-lts.Need-part-b-start-2 (record-conforms-callees t) (record-conforms-at t) record-conforms.Post record-conforms-Inv-loop
     record-conforms-μ-loop
 record-conforms-part-b-start-2 t c = record-conforms-sub-b-2 t c
 
--- src/conforms.rt:124:13
 record-conforms-part-b-end-2 : (t : ℕ) →
     record-conforms-lts.Need-part-b-end-2 (record-conforms-callees t) (record-conforms-at t) record-conforms.Post record-conforms-Inv-loop
     record-conforms-μ-loop
 record-conforms-part-b-end-2 t c = search needs
 
--- src/conforms.rt:125:9
 record-conforms-sub-left : (t : ℕ) →
     record-conforms-lts.Need-sub-left (record-conforms-callees t) (record-conforms-at t) record-conforms.Post record-conforms-Inv-loop record-conforms-μ-loop
 record-conforms-sub-left t c = search needs
 
--- src/conforms.rt:107:5
 record-conforms-loop-less : (t : ℕ) →
     record-conforms-lts.Need-loop-less (record-conforms-callees t) (record-conforms-at t) record-conforms.Post record-conforms-Inv-loop record-conforms-μ-loop
 record-conforms-loop-less t c = search needs
 
--- src/conforms.rt:107:5
 record-conforms-loop-again : (t : ℕ) →
     record-conforms-lts.Need-loop-again (record-conforms-callees t) (record-conforms-at t) record-conforms.Post record-conforms-Inv-loop record-conforms-μ-loop
 record-conforms-loop-again t c =
@@ -1188,7 +1058,6 @@ record-conforms-loop-again t c =
     record-again i (loop-test .taken) (u16-at3 .result) (u16-at3 .ensures .0) (u16-at4 .result) (u16-at4 .ensures .0) (p .result) (p .ensures)
     (enum-told .given .1)
 
--- src/conforms.rt:127:12
 record-conforms-has-required-requires : (t : ℕ) →
     record-conforms-lts.Need-has-required-requires (record-conforms-callees t) (record-conforms-at t) record-conforms.Post record-conforms-Inv-loop
     record-conforms-μ-loop
@@ -1196,13 +1065,11 @@ record-conforms-has-required-requires t c κs =
     let s = (c .before .before .before .before .before .before .before .before .before .before .before) in
     record { level = s .args .levels; type = s .pre .1 .1 .0; value = s .pre .1 .1 .1 }
 
--- src/conforms.rt:127:5
 record-conforms-tested-requires : (t : ℕ) →
     record-conforms-lts.Need-tested-requires (record-conforms-callees t) (record-conforms-at t) record-conforms.Post record-conforms-Inv-loop
     record-conforms-μ-loop
 record-conforms-tested-requires t c κs = search needs
 
--- src/conforms.rt:91:1
 record-conforms-returns-2 : (t : ℕ) →
     record-conforms-lts.Need-returns-2 (record-conforms-callees t) (record-conforms-at t) record-conforms.Post record-conforms-Inv-loop record-conforms-μ-loop
 record-conforms-returns-2 t c =

@@ -9,18 +9,15 @@ use Rattle.conformance.proofs.entities.is_action_of.Reads as reads
 use Rattle.conformance.proofs.entities.is_action_of.Lts as lts
 use Rattle.schemas.proofs.order.is_action.Reads as is-action-reads
 
--- src/entities.rt:17:9
 is-action-requires : tie.Need-is-action-requires
 is-action-requires c κs = search needs
 
--- src/entities.rt:18:9
 returns : tie.Need-returns
 returns c =
     let f = c .before .is-action in
     let args = c .before .before .args in
     and-not-l (isAction (args .name)) _ (sym (f .ensures) ∙ not-true (f .result) (c .if1 .taken))
 
--- src/entities.rt:14:1
 returns-2 : tie.Need-returns-2
 returns-2 c =
     let f = c .before .is-action in

@@ -7,55 +7,42 @@ use Rattle.conformance.proofs.kinds.takes_kind.Tie as tie
 use Rattle.conformance.proofs.kinds.takes_kind.Reads as reads
 use Rattle.conformance.proofs.kinds.takes_kind.Lts as lts
 
--- src/kinds.rt:8:1
 returns : tie.Need-returns
 returns c = sym (ap (λ (n : ℕ). takes n ((c .before) .args .j)) (c .match .keys1))
 
--- src/kinds.rt:8:1
 returns-2 : tie.Need-returns-2
 returns-2 c = sym (ap (λ (n : ℕ). takes n ((c .before) .args .j)) (c .match .keys2))
 
--- src/kinds.rt:8:1
 returns-3 : tie.Need-returns-3
 returns-3 c = sym (ap (λ (n : ℕ). takes n ((c .before) .args .j)) (c .match .keys3))
 
--- src/kinds.rt:8:1
 returns-4 : tie.Need-returns-4
 returns-4 c = sym (ap (λ (n : ℕ). takes n ((c .before) .args .j)) (c .match .keys4))
 
--- src/kinds.rt:8:1
 returns-5 : tie.Need-returns-5
 returns-5 c = sym (ap (λ (n : ℕ). takes n ((c .before) .args .j)) (c .match .keys5))
 
--- src/kinds.rt:8:1
 returns-6 : tie.Need-returns-6
 returns-6 c = sym (ap (λ (n : ℕ). takes n ((c .before) .args .j)) (c .match .keys6))
 
--- src/kinds.rt:8:1
 returns-7 : tie.Need-returns-7
 returns-7 c = sym (ap (λ (n : ℕ). takes n ((c .before) .args .j)) (c .match .keys7))
 
--- src/kinds.rt:8:1
 returns-8 : tie.Need-returns-8
 returns-8 c = sym (ap (λ (n : ℕ). takes n ((c .before) .args .j)) (c .match .keys8))
 
--- src/kinds.rt:8:1
 returns-9 : tie.Need-returns-9
 returns-9 c = sym (ap (λ (n : ℕ). takes n ((c .before) .args .j)) (c .match .keys9))
 
--- src/kinds.rt:8:1
 returns-10 : tie.Need-returns-10
 returns-10 c = sym (ap (λ (n : ℕ). takes n ((c .before) .args .j)) (c .match .keys10))
 
--- src/kinds.rt:8:1
 returns-11 : tie.Need-returns-11
 returns-11 c = sym (ap (λ (n : ℕ). takes n ((c .before) .args .j)) (c .match .keys11))
 
--- src/kinds.rt:8:1
 returns-12 : tie.Need-returns-12
 returns-12 c = sym (ap (λ (n : ℕ). takes n ((c .before) .args .j)) (c .match .keys12))
 
--- src/kinds.rt:8:1
 returns-13 : tie.Need-returns-13
 returns-13 c =
     let args = c .before .args in

@@ -20,31 +20,24 @@ Inv-loop t v m n p q f₀ e₀ b₀ ahead₀ left₀ f e b ahead left = Required
 abbrev μ-loop : tie.MeasureT-loop
 μ-loop t v m n p q f₀ e₀ b₀ ahead₀ left₀ f e b ahead left = ahead
 
--- src/required.rt:33:9
 u16-at-requires : tie.Need-u16-at-requires Inv-loop μ-loop
 u16-at-requires c κs = let s = (c .before .before) in omega (arith, records-type (s .args .t .now) (s .args .v .now) (s .pre))
 
--- src/required.rt:34:9
 u16-at-requires-2 : tie.Need-u16-at-requires-2 Inv-loop μ-loop
 u16-at-requires-2 c κs = let s = (c .before .before .before) in omega (arith, records-value (s .args .t .now) (s .args .v .now) (s .pre))
 
--- src/required.rt:35:17
 mul-p : tie.Need-mul-p Inv-loop μ-loop
 mul-p c = search needs
 
--- src/required.rt:35:13
 add-p : tie.Need-add-p Inv-loop μ-loop
 add-p c = search needs
 
--- src/required.rt:36:17
 mul-q : tie.Need-mul-q Inv-loop μ-loop
 mul-q c = search needs
 
--- src/required.rt:36:13
 add-q : tie.Need-add-q Inv-loop μ-loop
 add-q c = search needs
 
--- src/required.rt:37:17
 sub-f : tie.Need-sub-f Inv-loop μ-loop
 sub-f c =
     let u16-at = c .before .u16-at in
@@ -53,11 +46,9 @@ sub-f c =
     (c .u16-at2 .ensures .0) in
     omega (arith, by-records-attrs)
 
--- src/required.rt:37:17
 part-f-start : tie.Need-part-f-start Inv-loop μ-loop
 part-f-start c = search needs
 
--- src/required.rt:37:17
 part-f-end : tie.Need-part-f-end Inv-loop μ-loop
 part-f-end c =
     let u16-at = c .before .u16-at in
@@ -66,7 +57,6 @@ part-f-end c =
     (c .u16-at2 .ensures .0) in
     omega (arith, by-records-attrs)
 
--- src/required.rt:38:17
 sub-e : tie.Need-sub-e Inv-loop μ-loop
 sub-e c =
     let u16-at2 = c .before .u16-at2 in
@@ -74,11 +64,9 @@ sub-e c =
     let s = c .before .before .before .before .before in
     omega (arith, records-pairs (s .args .t .now) (s .args .v .now) (s .pre) (u16-at .result) (u16-at2 .result) (u16-at .ensures .0) (u16-at2 .ensures .0))
 
--- src/required.rt:38:17
 part-e-start : tie.Need-part-e-start Inv-loop μ-loop
 part-e-start c = search needs
 
--- src/required.rt:38:17
 part-e-end : tie.Need-part-e-end Inv-loop μ-loop
 part-e-end c =
     let u16-at2 = c .before .u16-at2 in
@@ -86,7 +74,6 @@ part-e-end c =
     let s = c .before .before .before .before .before in
     omega (arith, records-pairs (s .args .t .now) (s .args .v .now) (s .pre) (u16-at .result) (u16-at2 .result) (u16-at .ensures .0) (u16-at2 .ensures .0))
 
--- src/required.rt:39:17
 sub-b : tie.Need-sub-b Inv-loop μ-loop
 sub-b c =
     let u16-at2 = c .before .before .u16-at2 in
@@ -94,15 +81,12 @@ sub-b c =
     let s = c .before .before .before .before .before .before in
     omega (arith, records-pairs (s .args .t .now) (s .args .v .now) (s .pre) (u16-at .result) (u16-at2 .result) (u16-at .ensures .0) (u16-at2 .ensures .0))
 
--- src/required.rt:39:17
 part-b-start : tie.Need-part-b-start Inv-loop μ-loop
 part-b-start c = sub-b c
 
--- src/required.rt:39:17
 part-b-end : tie.Need-part-b-end Inv-loop μ-loop
 part-b-end c = search needs
 
--- src/required.rt:42:5
 loop-holds : tie.Need-loop-holds Inv-loop μ-loop
 loop-holds c =
     let u16-at2 = c .before .before .before .u16-at2 in
@@ -111,17 +95,14 @@ loop-holds c =
     required-start (s .args .t .now) (s .args .v .now) (s .pre) (u16-at .result) (u16-at2 .result) (u16-at .ensures .0) (u16-at2 .ensures .0)
     (u16-at2 .ensures .1)
 
--- src/required.rt:43:53
 u16-at-requires-3 : tie.Need-u16-at-requires-3 Inv-loop μ-loop
 u16-at-requires-3 c κs = omega (arith, ahead-room ((c .before) .loop .inv .attrs) (c .loop-test .taken))
 
--- src/required.rt:43:13
 skip-below-requires : tie.Need-skip-below-requires Inv-loop μ-loop
 skip-below-requires c κs =
     let loop = c .before .before .loop in
     pairs-laid (loop .inv .rows)
 
--- src/required.rt:46:18
 mul-at : tie.Need-mul-at Inv-loop μ-loop
 mul-at c =
     let loop = c .before .before .before .loop in
@@ -129,7 +110,6 @@ mul-at c =
     let g = passed (loop .inv .rows) (c .before .u16-at3 .result) (k .result .entries) (k .result .bytes) (k .ensures .0) (k .ensures .1) in
     omega (arith, g .most, loop .inv .few)
 
--- src/required.rt:47:13
 sub-e-2 : tie.Need-sub-e-2 Inv-loop μ-loop
 sub-e-2 c =
     let loop = c .before .before .before .loop in
@@ -137,15 +117,12 @@ sub-e-2 c =
     let g = passed (loop .inv .rows) (c .before .u16-at3 .result) (k .result .entries) (k .result .bytes) (k .ensures .0) (k .ensures .1) in
     omega (arith, g .room)
 
--- src/required.rt:47:13
 part-e-start-2 : tie.Need-part-e-start-2 Inv-loop μ-loop
 part-e-start-2 c = sub-e-2 c
 
--- src/required.rt:47:13
 part-e-end-2 : tie.Need-part-e-end-2 Inv-loop μ-loop
 part-e-end-2 c = search needs
 
--- src/required.rt:48:13
 sub-b-2 : tie.Need-sub-b-2 Inv-loop μ-loop
 sub-b-2 c =
     let k = c .before .skip-below in
@@ -154,15 +131,12 @@ sub-b-2 c =
     let g = passed (loop .inv .rows) (u16-at3 .result) (k .result .entries) (k .result .bytes) (k .ensures .0) (k .ensures .1) in
     omega (arith, g .inside)
 
--- src/required.rt:48:13
 part-b-start-2 : tie.Need-part-b-start-2 Inv-loop μ-loop
 part-b-start-2 c = sub-b-2 c
 
--- src/required.rt:48:13
 part-b-end-2 : tie.Need-part-b-end-2 Inv-loop μ-loop
 part-b-end-2 c = search needs
 
--- src/required.rt:49:9
 sub-left : tie.Need-sub-left Inv-loop μ-loop
 sub-left c =
     let k = c .before .before .skip-below in
@@ -171,7 +145,6 @@ sub-left c =
     let g = passed (loop .inv .rows) (u16-at3 .result) (k .result .entries) (k .result .bytes) (k .ensures .0) (k .ensures .1) in
     omega (arith, g .most)
 
--- src/required.rt:50:13
 is-met-requires : tie.Need-is-met-requires Inv-loop μ-loop
 is-met-requires c κs =
     let k = c .before .before .skip-below in
@@ -181,7 +154,6 @@ is-met-requires c κs =
     let g = passed (loop .inv .rows) (u16-at3 .result) (k .result .entries) (k .result .bytes) (k .ensures .0) (k .ensures .1) in
     (ahead-room (loop .inv .attrs) (loop-test .taken), g .rows .sized)
 
--- src/required.rt:51:13
 returns : tie.Need-returns Inv-loop μ-loop
 returns c =
     let is-met = c .before .is-met in
@@ -196,30 +168,24 @@ returns c =
     rd (loop .f .now) 0 ≤ rd (rest (4 * k .result .entries) (loop .e .now)) 0 = (λ h. omega (arith, g .above h, u16-at3 .ensures .0)) in
     required-not i (loop-test .taken) a (is-met .result) (is-met .ensures) (c .if1 .taken)
 
--- src/required.rt:53:13
 sub-f-2 : tie.Need-sub-f-2 Inv-loop μ-loop
 sub-f-2 c =
     let loop-test = c .before .before .before .before .before .before .loop-test in
     let loop = c .before .before .before .before .before .before .before .loop in
     omega (arith, ahead-room (loop .inv .attrs) (loop-test .taken))
 
--- src/required.rt:53:13
 part-f-start-2 : tie.Need-part-f-start-2 Inv-loop μ-loop
 part-f-start-2 c = sub-f-2 c
 
--- src/required.rt:53:13
 part-f-end-2 : tie.Need-part-f-end-2 Inv-loop μ-loop
 part-f-end-2 c = search needs
 
--- src/required.rt:54:9
 sub-ahead : tie.Need-sub-ahead Inv-loop μ-loop
 sub-ahead c = search needs
 
--- src/required.rt:42:5
 loop-less : tie.Need-loop-less Inv-loop μ-loop
 loop-less c = search needs
 
--- src/required.rt:42:5
 loop-again : tie.Need-loop-again Inv-loop μ-loop
 loop-again c =
     let is-met = c .before .before .is-met in
@@ -234,7 +200,6 @@ loop-again c =
     rd (loop .f .now) 0 ≤ rd (rest (4 * k .result .entries) (loop .e .now)) 0 = (λ h. omega (arith, g .above h, u16-at3 .ensures .0)) in
     required-again i (loop-test .taken) a (is-met .result) (is-met .ensures) (c .before .if1 .left)
 
--- src/required.rt:29:1
 returns-2 : tie.Need-returns-2 Inv-loop μ-loop
 returns-2 c = required-end ((c .before) .loop .inv) (c .loop-test .left)
 

@@ -12,31 +12,25 @@ use Rattle.conformance.proofs.required.is_met.Reads as reads
 use Rattle.conformance.proofs.required.is_met.Lts as lts
 use Rattle.forms.proofs.numbers.u16_at.Reads as u16-at-reads
 
--- src/required.rt:19:8
 shared-slice-read-if1 : tie.Need-shared-slice-read-if1
 shared-slice-read-if1 c = search needs
 
--- src/required.rt:20:9
 returns : tie.Need-returns
 returns c =
     let args = c .before .before .before .before .args in
     sym (rw (ne-eqb (getD (args .attribute .now) 2 0) 1 (c .if1 .taken)) refl)
 
--- src/required.rt:23:9
 returns-2 : tie.Need-returns-2
 returns-2 c =
     let args = c .before .before .before .before .before .args in
     sym (rw (eq-eqb (getD (args .attribute .now) 2 0) 1 (c .before .if1 .left), le-ltb 0 (args .n) (omega arith)) refl)
 
--- src/required.rt:25:5
 u16-at-requires : tie.Need-u16-at-requires
 u16-at-requires c κs = search needs
 
--- src/required.rt:25:29
 u16-at-requires-2 : tie.Need-u16-at-requires-2
 u16-at-requires-2 c κs = search needs
 
--- src/required.rt:15:1
 returns-3 : tie.Need-returns-3
 returns-3 c =
     let if2 = c .before .before .if2 in
