@@ -6,9 +6,11 @@ mod limits;
 pub use limits::Limited;
 
 use crate::forms::Bytes;
+use crate::full::as_conforms;
 use crate::jobs::read_job;
 use crate::limits::Limits;
 use crate::loose::LOOSE;
+use crate::model::Rules;
 use crate::questions::{answer_with, operation, Call, Outcome, SchemaCache};
 
 const COLUMNS: [&str; WIDTH] = [
@@ -20,10 +22,12 @@ const WIDTH: usize = 22;
 /// Limits outside their ranges, which no job and no program has.
 const UNALLOWED: &str = "20";
 
-/// The operations, and then what is counted of mode 2 beside them: the
-/// operations that take a mode; those with another outcome in mode 1, by that
-/// outcome, or by 9 and 10 where these are mode 2's; bounds and folds of sets
-/// alone that come to their rule.
+/// The operations, and then what is counted beside them. Of operation 11: those
+/// with another outcome by operation 8, by that outcome; of these, those where
+/// a count inside an argument makes it another. Of mode 2: the operations that
+/// take a mode; those with another outcome in mode 1, by that outcome, or by 9
+/// and 10 where these are mode 2's; bounds and folds of sets alone that come to
+/// their rule.
 const ROWS: [&str; OTHERWISE + 5] = [
     "subtype",
     "bound",
@@ -36,6 +40,9 @@ const ROWS: [&str; OTHERWISE + 5] = [
     "conforms",
     "fold",
     "literal",
+    "full",
+    "conforms, not 11",
+    ".. by arguments",
     "subtype 2",
     "bound 2",
     "fold 2",
@@ -46,8 +53,9 @@ const ROWS: [&str; OTHERWISE + 5] = [
     "fold 2, sets",
 ];
 
-/// Where the rows of mode 2 start.
-const IN_LOOSE: usize = operation::COUNT;
+/// Where the rows beside the operations start: of operation 11, and of mode 2.
+const NOT_FULL: usize = operation::COUNT;
+const IN_LOOSE: usize = NOT_FULL + 2;
 const OTHERWISE: usize = IN_LOOSE + 3;
 const OF_SETS: usize = OTHERWISE + 3;
 
@@ -66,6 +74,9 @@ const POSSIBLE: [&[&str]; ROWS.len()] = [
     &["yes", "no", "2", "3", "5", "7"],
     &["bytes", "1", "2", "3", "9", "11", "12", "13", "14", "15"],
     &["none", "bytes", "2", "5", "10"],
+    &["yes", "no", "2", "3", "5", "7"],
+    &["yes", "7"],
+    &["yes", "7"],
     &["yes", "no", "2", "3", "4"],
     &["bytes", "2", "3", "4", "10", "11", "12", "13", "14", "15"],
     &["bytes", "2", "3", "9", "11", "12", "13", "14", "15"],
@@ -119,6 +130,9 @@ fn column(outcome: &Outcome) -> usize {
     }
 }
 
+/// The fault by which calls inside arguments are not counted.
+const OUTER_ALONE: u32 = 317;
+
 /// Is a bound of two sets asked for, or a fold of sets alone?
 fn of_sets(call: &Call<'_>) -> bool {
     let set = |form: &&[u8]| form.first() == Some(&7);
@@ -146,7 +160,8 @@ impl Coverage {
         }
     }
 
-    /// A table for calls under other limits. It does not compare modes.
+    /// A table for calls under other limits. It does not compare mode 2 with
+    /// mode 1.
     fn under_limits() -> Coverage {
         Coverage {
             asked: Asked::UnderLimits,
@@ -203,11 +218,27 @@ impl Coverage {
         if let Outcome::Wrote(form) | Outcome::Attribute(_, form) = outcome {
             assert!(form.len() <= call.limits.bytes, "an answer over its limit");
         }
+        if call.op == operation::FULL {
+            self.count_full(call, schema, outcome);
+        }
         let modes = [operation::SUBTYPE, operation::BOUND, operation::FOLD];
         if let Some(at) = modes.iter().position(|op| *op == call.op) {
             if call.mode == LOOSE {
                 self.count_loose(at, call, schema, outcome);
             }
+        }
+    }
+
+    /// Count what operation 11 came to beside operation 8.
+    fn count_full(&mut self, call: &Call<'_>, schema: &SchemaCache<'_>, outcome: &Outcome) {
+        let by_conforms = answer_with(&as_conforms(call), schema);
+        if by_conforms == *outcome {
+            return;
+        }
+        self.cells[NOT_FULL][column(&by_conforms)] += 1;
+        let outer_alone = Rules { fault: OUTER_ALONE }.answer(call);
+        if outer_alone != *outcome {
+            self.cells[NOT_FULL + 1][column(&by_conforms)] += 1;
         }
     }
 
@@ -238,7 +269,17 @@ impl Coverage {
     }
 
     pub fn questions(&self) -> u64 {
-        self.cells[..IN_LOOSE].iter().flatten().sum()
+        self.cells[..operation::COUNT].iter().flatten().sum()
+    }
+
+    /// How many of the questions are of operation 11.
+    pub fn full(&self) -> u64 {
+        self.cells[operation::FULL as usize].iter().sum()
+    }
+
+    /// How many of these have another outcome by operation 8.
+    pub fn not_full(&self) -> u64 {
+        self.cells[NOT_FULL].iter().sum()
     }
 
     /// How many of the questions are in mode 2.
@@ -248,7 +289,7 @@ impl Coverage {
 
     fn possible(&self, row: usize, column: &str) -> bool {
         match column {
-            UNALLOWED => self.asked == Asked::UnderLimits,
+            UNALLOWED => self.asked == Asked::UnderLimits && !(NOT_FULL..IN_LOOSE).contains(&row),
             "10" if self.asked != Asked::InJobs && WITH_ROOMS.contains(&row) => true,
             _ => POSSIBLE[row].contains(&column),
         }
@@ -305,11 +346,14 @@ impl Coverage {
     pub fn table(&self) -> String {
         self.lines()
             + &format!(
-            "{} jobs, {} of them refused as a whole (16), {} questions, {} of them in mode 2, {} empty answers\n",
+            "{} jobs, {} of them refused as a whole (16), {} questions, {} of them in mode 2, {} of operation 11, \
+             {} of these not as operation 8, {} empty answers\n",
             self.jobs,
             self.bad_jobs,
             self.questions(),
             self.loose(),
+            self.full(),
+            self.not_full(),
             self.empty_name_lists
         )
     }

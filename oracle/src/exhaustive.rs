@@ -1,6 +1,7 @@
 //! Every question of certain small kinds, as jobs.
 
 mod chains;
+mod counts;
 mod lengths;
 
 use crate::limits::Limits;
@@ -264,7 +265,7 @@ const fn few(levels: usize) -> Limits {
 pub fn jobs() -> Vec<Vec<u8>> {
     let mut jobs = Jobs::on(&schema());
     jobs.ask_all();
-    jobs.closed()
+    [jobs.closed(), counts::jobs()].concat()
 }
 
 /// The same with a schema that is whole under such limits, and forms around
@@ -278,7 +279,7 @@ pub fn jobs_under(limits: Limits) -> Vec<Vec<u8>> {
     let mut jobs = Jobs::on(&schema);
     jobs.ask_all();
     lengths::ask_all(&mut jobs, limits.bytes);
-    jobs.closed()
+    [jobs.closed(), counts::jobs()].concat()
 }
 
 /// Every pair of types by every operation that takes two.
@@ -312,7 +313,10 @@ fn singles(jobs: &mut Jobs, types: &[Vec<u8>]) {
             jobs.ask(LOOKUP, 0, name, t, &[]);
             jobs.ask(MAY_HAVE, 0, name, t, &[]);
         }
-        values.iter().for_each(|v| jobs.ask(CONFORMS, 0, 0, t, v));
+        for v in &values {
+            jobs.ask(CONFORMS, 0, 0, t, v);
+            jobs.ask(FULL, 0, 0, t, v);
+        }
     }
     values.iter().for_each(|v| jobs.ask(LITERAL, 0, 0, v, &[]));
     for ty in 0..9 {

@@ -3,6 +3,7 @@
 //! drawn from the same generators.
 
 mod asks;
+mod calls;
 mod damage;
 mod drawn;
 mod schemas;
@@ -162,7 +163,7 @@ impl Gen {
             2 if ask.t1.is_empty() => ask.t1 = vec![4],
             _ => {
                 *ask = Ask {
-                    op: *self.rng.pick(&[11, 11, 12, 255]),
+                    op: *self.rng.pick(&[12, 12, 13, 255]),
                     mode: 0,
                     attr: 0,
                     t0: ask.t0.clone(),

@@ -34,7 +34,10 @@ fn takes_attr(op: u8) -> bool {
 }
 
 fn takes_second(op: u8) -> bool {
-    matches!(op, SUBTYPE | BOUND | DISJOINT | CONSISTENT | CONFORMS)
+    matches!(
+        op,
+        SUBTYPE | BOUND | DISJOINT | CONSISTENT | CONFORMS | FULL
+    )
 }
 
 /// Read a whole job.

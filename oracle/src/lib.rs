@@ -57,6 +57,7 @@ pub mod coverage;
 pub mod deep;
 pub mod exhaustive;
 pub mod forms;
+pub mod full;
 pub mod generate;
 pub mod harness;
 pub mod jobs;

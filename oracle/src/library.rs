@@ -25,6 +25,7 @@ pub struct Entries {
     pub is_consistent_with: unsafe extern "C" fn(usize, usize, P, usize, P, usize) -> u64,
     pub convert: unsafe extern "C" fn(usize, usize, P, usize, M, usize) -> u64,
     pub typecheck_restricted_expr: unsafe extern "C" fn(usize, usize, P, usize, P, usize, P, usize) -> u64,
+    pub typecheck_restricted_expr_exact: unsafe extern "C" fn(usize, usize, P, usize, P, usize, P, usize) -> u64,
     pub reduce_to_least_upper_bound: unsafe extern "C" fn(usize, usize, u8, P, usize, P, usize, M, usize, M, usize) -> u64,
     pub euid_literal: unsafe extern "C" fn(usize, usize, P, usize, P, usize, M, usize) -> u64,
 }
@@ -42,6 +43,8 @@ pub struct Checked {
     pub may_have_attr: unsafe extern "C" fn(P, usize, u64, u16, P, usize) -> u64,
     pub all_attributes: unsafe extern "C" fn(P, usize, u64, P, usize, M, usize, M, usize) -> u64,
     pub typecheck_restricted_expr: unsafe extern "C" fn(P, usize, u64, P, usize, P, usize) -> u64,
+    pub typecheck_restricted_expr_exact:
+        unsafe extern "C" fn(P, usize, u64, P, usize, P, usize) -> u64,
     pub reduce_to_least_upper_bound:
         unsafe extern "C" fn(P, usize, u64, u8, P, usize, M, usize, M, usize) -> u64,
     pub euid_literal: unsafe extern "C" fn(P, usize, u64, P, usize, M, usize) -> u64,
@@ -107,6 +110,7 @@ impl Candidate for Library {
                 CONSISTENT => (e.is_consistent_with)(l, n, a, an, b, bn),
                 CONVERT => (e.convert)(l, n, a, an, o, on),
                 CONFORMS => (e.typecheck_restricted_expr)(l, n, s, sn, a, an, b, bn),
+                FULL => (e.typecheck_restricted_expr_exact)(l, n, s, sn, a, an, b, bn),
                 FOLD => (e.reduce_to_least_upper_bound)(l, n, mode, s, sn, a, an, o, on, w, wn),
                 _ => (e.euid_literal)(l, n, s, sn, a, an, o, on),
             }
@@ -150,6 +154,7 @@ impl CheckedLibrary {
                 MAY_HAVE => (e.may_have_attr)(s, sn, c, attr, a, an),
                 NAMES => (e.all_attributes)(s, sn, c, a, an, o, on, w, wn),
                 CONFORMS => (e.typecheck_restricted_expr)(s, sn, c, a, an, b, bn),
+                FULL => (e.typecheck_restricted_expr_exact)(s, sn, c, a, an, b, bn),
                 FOLD => (e.reduce_to_least_upper_bound)(s, sn, c, mode, a, an, o, on, w, wn),
                 _ => (e.euid_literal)(s, sn, c, a, an, o, on),
             }
@@ -193,6 +198,7 @@ pub mod linked {
         fn tirncheav_is_consistent_with(l: usize, n: usize, a: P, an: usize, b: P, bn: usize) -> u64;
         fn tirncheav_convert(l: usize, n: usize, a: P, an: usize, o: M, on: usize) -> u64;
         fn tirncheav_typecheck_restricted_expr(l: usize, n: usize, s: P, sn: usize, a: P, an: usize, b: P, bn: usize) -> u64;
+        fn tirncheav_typecheck_restricted_expr_exact(l: usize, n: usize, s: P, sn: usize, a: P, an: usize, b: P, bn: usize) -> u64;
         fn tirncheav_reduce_to_least_upper_bound(l: usize, n: usize, m: u8, s: P, sn: usize, a: P, an: usize, o: M, on: usize, w: M, wn: usize) -> u64;
         fn tirncheav_euid_literal(l: usize, n: usize, s: P, sn: usize, a: P, an: usize, o: M, on: usize) -> u64;
         fn tirncheav_check_schema(l: usize, n: usize, s: P, sn: usize) -> u64;
@@ -203,6 +209,7 @@ pub mod linked {
         fn tirncheav_may_have_attr_checked(s: P, sn: usize, c: u64, n: u16, a: P, an: usize) -> u64;
         fn tirncheav_all_attributes_checked(s: P, sn: usize, c: u64, a: P, an: usize, o: M, on: usize, w: M, wn: usize) -> u64;
         fn tirncheav_typecheck_restricted_expr_checked(s: P, sn: usize, c: u64, a: P, an: usize, b: P, bn: usize) -> u64;
+        fn tirncheav_typecheck_restricted_expr_exact_checked(s: P, sn: usize, c: u64, a: P, an: usize, b: P, bn: usize) -> u64;
         fn tirncheav_reduce_to_least_upper_bound_checked(s: P, sn: usize, c: u64, m: u8, a: P, an: usize, o: M, on: usize, w: M, wn: usize) -> u64;
         fn tirncheav_euid_literal_checked(s: P, sn: usize, c: u64, a: P, an: usize, o: M, on: usize) -> u64;
     }
@@ -218,6 +225,7 @@ pub mod linked {
         is_consistent_with: tirncheav_is_consistent_with,
         convert: tirncheav_convert,
         typecheck_restricted_expr: tirncheav_typecheck_restricted_expr,
+        typecheck_restricted_expr_exact: tirncheav_typecheck_restricted_expr_exact,
         reduce_to_least_upper_bound: tirncheav_reduce_to_least_upper_bound,
         euid_literal: tirncheav_euid_literal,
     };
@@ -231,6 +239,7 @@ pub mod linked {
         may_have_attr: tirncheav_may_have_attr_checked,
         all_attributes: tirncheav_all_attributes_checked,
         typecheck_restricted_expr: tirncheav_typecheck_restricted_expr_checked,
+        typecheck_restricted_expr_exact: tirncheav_typecheck_restricted_expr_exact_checked,
         reduce_to_least_upper_bound: tirncheav_reduce_to_least_upper_bound_checked,
         euid_literal: tirncheav_euid_literal_checked,
     };

@@ -6,6 +6,7 @@ mod bounds;
 mod calls;
 mod conformance;
 mod conversions;
+mod counts;
 pub mod faults;
 mod jobs;
 mod kept;
@@ -14,6 +15,8 @@ mod modes;
 mod read;
 mod relations;
 
+pub use conformance::Walk;
+pub use counts::Counts;
 pub use jobs::lines;
 pub use kept::Kept;
 pub use modes::Mode;

@@ -1,9 +1,11 @@
-//! Claims about the published functions, about mode 2 beside them, and about
-//! limits, tried on generated types and values.
+//! Claims about the published functions, about mode 2 and operation 11 beside
+//! them, and about limits, tried on generated types and values.
 
+mod full;
 mod limits;
 mod loose;
 
+pub use full::try_full;
 pub use limits::try_limits;
 
 use crate::cedar_policy_core::entities::SchemaType;
@@ -99,7 +101,7 @@ fn actions_alike(types: &[&Given]) -> bool {
     types.iter().all(|t| one_list_a_name(&t.tree, &mut lists))
 }
 
-/// Try all claims but those about limits once.
+/// Try all claims once but those about limits and about operation 11.
 pub fn try_claims(gen: &mut Gen, tallies: &mut Tallies) {
     let tree = gen.schema();
     let form = tree.form();

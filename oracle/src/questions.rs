@@ -1,6 +1,6 @@
 //! One call: 01's questions in 01's order, put to the published functions. In
-//! mode 2 the rule itself is the model's, and types too deep for a published
-//! function are the model's too.
+//! mode 2 and in operation 11 the rule itself is the model's, and types too deep
+//! for a published function are the model's too.
 
 use crate::cedar_policy_core::ast::{EntityUID, RestrictedExpr};
 use crate::cedar_policy_core::entities::SchemaType;
@@ -8,10 +8,13 @@ use crate::deep;
 use crate::forms::{
     plain, read_list, read_schema, read_type, read_value, write_core, write_type, Schema,
 };
+use crate::full;
 use crate::limits::Limits;
 use crate::loose;
 use crate::model::Rules;
+use crate::published::typecheck_restricted_expr;
 use crate::smol_str::SmolStr;
+use crate::trees::Sch;
 use crate::types::{AttributeType, EntityLUB, EntityRecordKind, Type};
 use crate::validation_errors::LubHelp;
 use crate::ValidationMode;
@@ -30,7 +33,9 @@ pub mod operation {
     pub const CONFORMS: u8 = 8;
     pub const FOLD: u8 = 9;
     pub const LITERAL: u8 = 10;
-    pub const COUNT: usize = 11;
+    /// Full conformance.
+    pub const FULL: u8 = 11;
+    pub const COUNT: usize = 12;
 }
 use operation::*;
 
@@ -85,6 +90,7 @@ pub struct SchemaCache<'a> {
     pub limits: Limits,
     pub form: &'a [u8],
     read: OnceCell<Option<Schema>>,
+    tree: OnceCell<Sch>,
     /// How many calls were the model's alone: see `deep`.
     pub left_out: Cell<u64>,
 }
@@ -95,6 +101,7 @@ impl<'a> SchemaCache<'a> {
             limits,
             form,
             read: OnceCell::new(),
+            tree: OnceCell::new(),
             left_out: Cell::new(0),
         }
     }
@@ -102,6 +109,12 @@ impl<'a> SchemaCache<'a> {
     fn whole(&self) -> Refusable<&Schema> {
         let read = || read_schema(self.limits, self.form);
         self.read.get_or_init(read).as_ref().ok_or(2)
+    }
+
+    /// What the model reads, of a schema that is whole.
+    fn tree(&self) -> &Sch {
+        let read = || Rules::SOUND.whole_schema(self.limits, self.form);
+        self.tree.get_or_init(|| read().expect("a whole schema"))
     }
 
     /// The model's answer to a call that is too deep.
@@ -128,6 +141,7 @@ pub fn answer_with(call: &Call<'_>, schema: &SchemaCache<'_>) -> Outcome {
         CONFORMS => conforms(call, schema),
         FOLD => fold(call, schema),
         LITERAL => literal(call, schema),
+        FULL => conforms_fully(call, schema),
         _ => panic!("no operation {}", call.op),
     };
     outcome.unwrap_or_else(Outcome::Refused)
@@ -400,8 +414,18 @@ fn conforms(call: &Call<'_>, cache: &SchemaCache<'_>) -> Refusable<Outcome> {
     let schema = cache.whole()?;
     let ty = first(call)?;
     let value = read_value(call.limits, call.t1).ok_or(5)?;
-    let answer = ty.typecheck_restricted_expr(value.as_borrowed(), &schema.extensions);
-    Ok(yes(answer.map_err(|_| 7)?))
+    let answer = typecheck_restricted_expr(schema, &ty, &value);
+    Ok(yes(answer.ok_or(7)?))
+}
+
+/// The model's walk of operation 11, which the published walk confirms.
+fn conforms_fully(call: &Call<'_>, cache: &SchemaCache<'_>) -> Refusable<Outcome> {
+    let schema = cache.whole()?;
+    let ty = first(call)?;
+    let value = read_value(call.limits, call.t1).ok_or(5)?;
+    let answer = full::conforms(cache.tree(), call.t0, call.t1);
+    full::hold(answer, schema, &ty, &value);
+    Ok(yes(answer.ok_or(7)?))
 }
 
 fn uid(limits: Limits, form: &[u8]) -> Option<EntityUID> {

@@ -4,28 +4,32 @@
 
 use crate::candidates::{leave, Candidate, Reply};
 use crate::forms::Bytes;
+use crate::full::as_conforms;
 use crate::harness::{lent, Judged};
 use crate::jobs::read_job;
 use crate::limits::Limits;
 use crate::loose::LOOSE;
-use crate::questions::{lookup_part, operation::*, Call, Outcome, Part};
+use crate::questions::{answer, lookup_part, operation::*, Call, Outcome, Part};
 use crate::rounds::Round;
 use std::fmt::Write;
 use std::ops::Range;
 
 /// The second entry of lookup, which is no operation of a job.
-const OWN: u8 = 11;
+const OWN: u8 = 255;
 
 /// More would make long lines.
 const LARGEST: usize = 600;
 
-/// Calls in bytes, with the line of each, and how many are in mode 2, under
-/// other limits than the standard ones, and refused with 20.
+/// Calls in bytes, with the line of each, and how many are in mode 2, of
+/// operation 11, of these not as operation 8, under other limits than the
+/// standard ones, and refused with 20.
 #[derive(Default)]
 pub struct Lent {
     pub input: Vec<u8>,
     pub lines: Vec<String>,
     pub loose: usize,
+    pub full: usize,
+    pub not_full: usize,
     pub others: usize,
     pub unallowed: usize,
 }
@@ -141,6 +145,14 @@ impl Lent {
         self.lines.push(line);
     }
 
+    /// Count a call of operation 11.
+    fn count_full(&mut self, call: &Call<'_>, outcome: &Outcome) {
+        if call.op == FULL {
+            self.full += 1;
+            self.not_full += (answer(&as_conforms(call)) != *outcome) as usize;
+        }
+    }
+
     /// The second entry of lookup.
     fn put_part(&mut self, call: &Call<'_>, part: &Part) {
         let call = Call {
@@ -159,6 +171,7 @@ impl Lent {
                 continue;
             }
             if call.room <= LARGEST && call.work <= LARGEST {
+                self.count_full(&call, &answered.outcome);
                 self.put(call.op, &call, told_line(&call, &answered.outcome));
             }
             if let Some(part) = &answered.part {

@@ -87,7 +87,10 @@ pub fn sample(seed: u64, pool: usize, questions: usize) -> (Vec<Recorded>, Vec<u
     };
     (0..NOTED.len()).for_each(|at| picked.take(at));
     let mut uncaught = Vec::new();
-    for (fault, _) in FAULTS.iter().filter(|(fault, _)| *fault < UNDER_LIMITS) {
+    for (fault, _) in FAULTS
+        .iter()
+        .filter(|(fault, _)| !UNDER_LIMITS.contains(fault))
+    {
         match picked.catcher(*fault) {
             _ if picked.catches(*fault) => (),
             Some(at) => picked.take(at),

@@ -170,6 +170,14 @@ unsafe extern "C" fn conforms(
 }
 
 #[rustfmt::skip]
+unsafe extern "C" fn full(
+    l: usize, y: usize, s: P, sn: usize, a: P, an: usize, b: P, bn: usize,
+) -> u64 {
+    let call = plain(l, y, FULL, 0, 0, part(s, sn), part(a, an), part(b, bn));
+    number(call, none(), none())
+}
+
+#[rustfmt::skip]
 unsafe extern "C" fn fold(
     l: usize, y: usize, m: u8, s: P, sn: usize, a: P, an: usize, o: M, on: usize, w: M, wn: usize,
 ) -> u64 {
@@ -202,6 +210,7 @@ const ORACLE: Entries = Entries {
     is_consistent_with,
     convert,
     typecheck_restricted_expr: conforms,
+    typecheck_restricted_expr_exact: full,
     reduce_to_least_upper_bound: fold,
     euid_literal,
 };
@@ -281,6 +290,14 @@ unsafe extern "C" fn conforms_checked(
 }
 
 #[rustfmt::skip]
+unsafe extern "C" fn full_checked(
+    s: P, sn: usize, c: u64, a: P, an: usize, b: P, bn: usize,
+) -> u64 {
+    let (l, y) = kept(c, sn);
+    full(l, y, s, sn, a, an, b, bn)
+}
+
+#[rustfmt::skip]
 unsafe extern "C" fn fold_checked(
     s: P, sn: usize, c: u64, m: u8, a: P, an: usize, o: M, on: usize, w: M, wn: usize,
 ) -> u64 {
@@ -305,6 +322,7 @@ const CHECKED: Checked = Checked {
     may_have_attr: may_have_attr_checked,
     all_attributes: all_attributes_checked,
     typecheck_restricted_expr: conforms_checked,
+    typecheck_restricted_expr_exact: full_checked,
     reduce_to_least_upper_bound: fold_checked,
     euid_literal: euid_literal_checked,
 };
@@ -413,46 +431,68 @@ unsafe extern "C" fn check_at_the_standard(_: usize, _: usize, s: P, sn: usize) 
 
 #[test]
 fn broken_checks_are_seen() {
-    let checked = Checked {
-        check_schema: check_at_the_standard,
-        ..CHECKED
-    };
-    assert!(differences(&mut CheckedLibrary(ORACLE, checked)) > 0);
+    let broken = [
+        Checked {
+            check_schema: check_at_the_standard,
+            ..CHECKED
+        },
+        Checked {
+            typecheck_restricted_expr_exact: conforms_checked,
+            ..CHECKED
+        },
+        Checked {
+            typecheck_restricted_expr: full_checked,
+            ..CHECKED
+        },
+    ];
+    for checked in broken {
+        assert!(differences(&mut CheckedLibrary(ORACLE, checked)) > 0);
+    }
 }
+
+/// Each with one entry that breaks a promise.
+const BROKEN: [Entries; 9] = [
+    Entries {
+        least_upper_bound: bound_writes_when_refused,
+        ..ORACLE
+    },
+    Entries {
+        least_upper_bound: bound_leaves_elements,
+        ..ORACLE
+    },
+    Entries {
+        convert: convert_writes_past,
+        ..ORACLE
+    },
+    Entries {
+        own_attribute_type: part_starts_early,
+        ..ORACLE
+    },
+    Entries {
+        reduce_to_least_upper_bound: fold_leaves_workspace,
+        ..ORACLE
+    },
+    Entries {
+        are_types_disjoint: disjoint_at_the_standard,
+        ..ORACLE
+    },
+    Entries {
+        all_attributes: names_spare_workspace,
+        ..ORACLE
+    },
+    Entries {
+        typecheck_restricted_expr_exact: conforms,
+        ..ORACLE
+    },
+    Entries {
+        typecheck_restricted_expr: full,
+        ..ORACLE
+    },
+];
 
 #[test]
 fn broken_promises_are_seen() {
-    let broken = [
-        Entries {
-            least_upper_bound: bound_writes_when_refused,
-            ..ORACLE
-        },
-        Entries {
-            least_upper_bound: bound_leaves_elements,
-            ..ORACLE
-        },
-        Entries {
-            convert: convert_writes_past,
-            ..ORACLE
-        },
-        Entries {
-            own_attribute_type: part_starts_early,
-            ..ORACLE
-        },
-        Entries {
-            reduce_to_least_upper_bound: fold_leaves_workspace,
-            ..ORACLE
-        },
-        Entries {
-            are_types_disjoint: disjoint_at_the_standard,
-            ..ORACLE
-        },
-        Entries {
-            all_attributes: names_spare_workspace,
-            ..ORACLE
-        },
-    ];
-    for entries in broken {
+    for entries in BROKEN {
         assert!(differences(&mut Library(entries)) > 0);
     }
 }

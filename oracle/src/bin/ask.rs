@@ -1,11 +1,13 @@
 //! `ask OPERATION MODE ATTRIBUTE SCHEMA FIRST [SECOND [ROOM WORKSPACE [LEVELS
 //! BYTES]]]`, bodies in hexadecimal or `-` for none, prints the job of that one
 //! question, its line, the line with that room and workspace and under those
-//! limits, and what the published function gives where no size is asked.
+//! limits, what the published function gives where no size is asked, and what
+//! operation 8 gives where 11 is asked.
 
+use oracle::full::as_conforms;
 use oracle::jobs::{lines, put_line, RESULT, WORKSPACE};
 use oracle::limits::Limits;
-use oracle::questions::{answer, unmeasured, Outcome};
+use oracle::questions::{answer, operation::FULL, unmeasured, Outcome};
 use oracle::rounds::Roomed;
 use oracle::trees::{job_form, Ask};
 
@@ -58,5 +60,8 @@ fn main() {
     }
     if let Some(outcome) = unmeasured(&call) {
         print_line("without sizes", &outcome);
+    }
+    if call.op == FULL {
+        print_line("operation 8", &answer(&as_conforms(&call)));
     }
 }

@@ -1,7 +1,7 @@
 //! `compare A B` compares two files of lines.
 //! `compare --model --seed N --jobs K` compares the model with the oracle, but
-//! for mode 2, which the model judges: K rounds of questions, each under limits
-//! that are drawn.
+//! for mode 2 and operation 11, which the model judges: K rounds of questions,
+//! each under limits that are drawn.
 //! `compare --library --seed N --jobs K`, with the feature `library`, does so
 //! with the static library, plain and with schemas checked before.
 //! `compare --rooms PATH --seed N --jobs K` does so with the program `rooms`.
@@ -80,7 +80,9 @@ fn compare_library(_: &Arguments) -> ExitCode {
 fn compare_model(args: &Arguments) -> ExitCode {
     let fault = args.number("--fault", 0) as u32;
     let (mut plain, mut kept) = (Model(Rules { fault }), KeptModel(Rules { fault }));
-    println!("in mode 2, and where it judges alone, the model is compared with itself");
+    println!(
+        "in mode 2, in operation 11, and where it judges alone, the model is compared with itself"
+    );
     compare_candidates(&mut [&mut plain, &mut kept], args)
 }
 
@@ -224,7 +226,7 @@ fn lent(gen: &mut Gen, jobs: u64, standard: bool) -> Lent {
 
 fn compare_rooms(path: &str, args: &Arguments) -> ExitCode {
     let mut gen = Gen::new(args.number("--seed", 1));
-    let [mut calls, mut loose, mut others, mut unallowed] = [0; 4];
+    let [mut calls, mut loose, mut full, mut not_full, mut others, mut unallowed] = [0; 6];
     let (mut differences, mut left) = (0, args.number("--jobs", 1000));
     while left > 0 {
         let jobs = left.min(2000);
@@ -235,6 +237,8 @@ fn compare_rooms(path: &str, args: &Arguments) -> ExitCode {
         assert_eq!(output.lines().count(), lent.lines.len(), "lines");
         calls += lent.lines.len();
         loose += lent.loose;
+        full += lent.full;
+        not_full += lent.not_full;
         others += lent.others;
         unallowed += lent.unallowed;
         for (got, wanted) in output.lines().zip(&lent.lines) {
@@ -246,7 +250,7 @@ fn compare_rooms(path: &str, args: &Arguments) -> ExitCode {
             }
         }
     }
-    println!("{calls} calls, {loose} of them in mode 2, {others} under other limits than the standard ones, {unallowed} refused with 20");
+    println!("{calls} calls, {loose} of them in mode 2, {full} of operation 11, {not_full} of these not as operation 8, {others} under other limits than the standard ones, {unallowed} refused with 20");
     println!("{differences} with a difference");
     code(differences)
 }

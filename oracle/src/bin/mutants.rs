@@ -42,9 +42,9 @@ fn main() -> ExitCode {
     }
     let mut survivors = 0;
     for (fault, text) in FAULTS {
-        let caught = match *fault < UNDER_LIMITS {
-            true => caught_in(&jobs, *fault),
-            false => caught_under(&rounds, *fault),
+        let caught = match UNDER_LIMITS.contains(fault) {
+            true => caught_under(&rounds, *fault),
+            false => caught_in(&jobs, *fault),
         };
         match caught {
             Some(at) => println!("{fault:>4} caught at {at}: {text}"),

@@ -100,7 +100,7 @@ impl Edges {
             _ => self.measure("type", limits, type_measured(call.t0)),
         }
         match call.op {
-            CONFORMS => self.measure("value", limits, value_measured(call.t1)),
+            CONFORMS | FULL => self.measure("value", limits, value_measured(call.t1)),
             SUBTYPE | BOUND | DISJOINT | CONSISTENT => {
                 self.measure("type", limits, type_measured(call.t1));
             }

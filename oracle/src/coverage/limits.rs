@@ -1,18 +1,18 @@
 //! What questions under drawn limits came to.
 
 use super::edges::Edges;
-use super::{column, Coverage, IN_LOOSE};
+use super::{column, Coverage};
 use crate::deep::NESTED;
 use crate::limits::Limits;
-use crate::questions::Outcome;
+use crate::questions::{operation, Outcome, SchemaCache};
 use crate::rounds::Round;
 
-/// Questions under other limits than the standard ones, forms of exactly their
-/// limits, and how many questions the model judged alone.
+/// Questions under other limits than the standard ones and under these, forms
+/// of exactly their limits, and how many questions the model judged alone.
 pub struct Limited {
     others: Coverage,
+    standard: Coverage,
     edges: Edges,
-    standard: u64,
     left_out: u64,
 }
 
@@ -20,8 +20,8 @@ impl Default for Limited {
     fn default() -> Limited {
         Limited {
             others: Coverage::under_limits(),
+            standard: Coverage::under_limits(),
             edges: Edges::default(),
-            standard: 0,
             left_out: 0,
         }
     }
@@ -29,19 +29,21 @@ impl Default for Limited {
 
 impl Limited {
     pub fn count(&mut self, round: &Round) {
+        let others = round.limits != Limits::STANDARD;
+        let schema = SchemaCache::of(round.limits, &round.schema);
+        let coverage = match others {
+            true => &mut self.others,
+            false => &mut self.standard,
+        };
         for answered in &round.answered {
             self.left_out += answered.left_out as u64;
             let call = round.call(answered);
-            if round.limits == Limits::STANDARD {
-                self.standard += 1;
-                continue;
-            }
-            self.others.count(&call, &answered.outcome);
-            if round.limits.allowed() {
+            coverage.count_with(&call, &schema, &answered.outcome);
+            if others && round.limits.allowed() {
                 self.edges.count(&call, &answered.outcome);
             }
         }
-        if round.limits != Limits::STANDARD && round.limits.allowed() {
+        if others && round.limits.allowed() {
             self.edges.count_schema(round.limits, &round.schema);
         }
     }
@@ -54,7 +56,7 @@ impl Limited {
     /// Those refused with 20.
     fn unallowed(&self) -> u64 {
         let at = column(&Outcome::Refused(20));
-        let rows = self.others.cells[..IN_LOOSE].iter();
+        let rows = self.others.cells[..operation::COUNT].iter();
         rows.map(|row| row[at]).sum()
     }
 
@@ -70,16 +72,20 @@ impl Limited {
     }
 
     pub fn table(&self) -> String {
-        let questions = self.others() + self.standard;
+        let sum = |count: fn(&Coverage) -> u64| count(&self.others) + count(&self.standard);
         format!(
             "under other limits than the standard ones\n{}forms of exactly their limit, and of one more\n{}\
-             {questions} questions, {} of them under other limits, {} of these refused with 20, {} in mode 2; \
+             {} questions, {} of them under other limits, {} of these refused with 20; of all {} in mode 2, \
+             {} of operation 11, {} of these not as operation 8; \
              {} judged by the model alone, with more than {NESTED} records around each other\n",
             self.others.lines(),
             self.edges.table(),
+            sum(Coverage::questions),
             self.others(),
             self.unallowed(),
-            self.others.loose(),
+            sum(Coverage::loose),
+            sum(Coverage::full),
+            sum(Coverage::not_full),
             self.left_out,
         )
     }

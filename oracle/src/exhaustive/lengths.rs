@@ -36,8 +36,10 @@ pub fn ask_all(jobs: &mut Jobs, bytes: usize) {
         let string = Val::Str(vec![65; length - 3]).form();
         let set = Val::Set(vec![Val::Str(vec![65; length - 8])]).form();
         for value in [string, set] {
-            jobs.ask(CONFORMS, 0, 0, &[5], &value);
-            jobs.ask(CONFORMS, 0, 0, &[6], &value);
+            for op in [CONFORMS, FULL] {
+                jobs.ask(op, 0, 0, &[5], &value);
+                jobs.ask(op, 0, 0, &[6], &value);
+            }
             jobs.ask(LITERAL, 0, 0, &value, &[]);
         }
         let [a, b] = unions(length);

@@ -29,7 +29,7 @@ impl Gen {
         let op = *self.rng.pick(&[
             SUBTYPE, SUBTYPE, BOUND, BOUND, BOUND, BOUND, BOUND, DISJOINT, LOOKUP, LOOKUP,
             MAY_HAVE, NAMES, CONSISTENT, CONSISTENT, CONVERT, CONFORMS, CONFORMS, CONFORMS,
-            CONFORMS, FOLD, FOLD, FOLD, FOLD, LITERAL,
+            CONFORMS, FULL, FULL, FULL, FULL, FOLD, FOLD, FOLD, FOLD, LITERAL,
         ]);
         let mut ask = Ask {
             op,
@@ -47,7 +47,7 @@ impl Gen {
             LOOKUP | MAY_HAVE | NAMES => self.attribute_ask(&mut ask),
             CONSISTENT => (ask.t0, ask.t1) = self.consistency_forms(),
             CONVERT => ask.t0 = self.convertible(),
-            CONFORMS => (ask.t0, ask.t1) = self.conformance_forms(schema),
+            CONFORMS | FULL => (ask.t0, ask.t1) = self.conformance_forms(schema),
             FOLD => {
                 ask.mode = self.rng.mode();
                 ask.t0 = self.list();
@@ -125,6 +125,18 @@ impl Gen {
     }
 
     fn conformance_forms(&mut self, schema: &Sch) -> (Vec<u8>, Vec<u8>) {
+        let (ty, mut value) = match self.rng.percent(50) {
+            true => self.called(schema),
+            false => self.conforming(schema),
+        };
+        if self.rng.percent(3) {
+            self.spoil_value(&mut value);
+        }
+        (self.form(ty), value.form())
+    }
+
+    /// A type, and a value that was made for it and then changed.
+    fn conforming(&mut self, schema: &Sch) -> (Ty, Val) {
         let ty = match self.rng.below(20) {
             0 => self.deep_type(),
             1..=4 => Ty::Ext(*self.rng.pick(super::EXTENSIONS)),
@@ -145,10 +157,7 @@ impl Gen {
         for _ in 0..*self.rng.pick(&[0, 0, 1, 1, 2]) {
             self.mutate_value(&mut value);
         }
-        if self.rng.percent(3) {
-            self.spoil_value(&mut value);
-        }
-        (self.form(ty), value.form())
+        (ty, value)
     }
 
     fn list(&mut self) -> Vec<u8> {
@@ -190,7 +199,10 @@ impl Gen {
 }
 
 fn takes_second(op: u8) -> bool {
-    matches!(op, SUBTYPE | BOUND | DISJOINT | CONSISTENT | CONFORMS)
+    matches!(
+        op,
+        SUBTYPE | BOUND | DISJOINT | CONSISTENT | CONFORMS | FULL
+    )
 }
 
 /// The type with every part that is not plain replaced by one that is.

@@ -120,6 +120,7 @@ impl Gen {
             ask(CONSISTENT, 0, 0, vec![6], form.clone()),
             ask(CONVERT, 0, 0, form, none()),
             ask(CONFORMS, 0, 0, vec![6], value.clone()),
+            ask(FULL, 0, 0, vec![6], value.clone()),
             ask(LITERAL, 0, 0, value, none()),
             ask(FOLD, mode, 0, list, none()),
         ];
@@ -187,7 +188,8 @@ impl Gen {
             ask(MAY_HAVE, 0, 1, entity.clone(), Vec::new()),
             ask(LOOKUP, 0, 1, entity, Vec::new()),
             ask(LITERAL, 0, 0, uid_form(1, 0), Vec::new()),
-            ask(CONFORMS, 0, 0, Ty::Ext(7).form(), call),
+            ask(CONFORMS, 0, 0, Ty::Ext(7).form(), call.clone()),
+            ask(FULL, 0, 0, Ty::Ext(7).form(), call),
         ];
         Asked {
             schema: self.large_schema(last, length),

@@ -104,7 +104,8 @@ impl Gen {
     fn sized_values(&mut self, asks: &mut Vec<Ask>) {
         let length = self.edge();
         let string = Val::Str(vec![200; length - 3]).form();
-        asks.push(ask(CONFORMS, 0, 0, vec![5], string));
+        asks.push(ask(CONFORMS, 0, 0, vec![5], string.clone()));
+        asks.push(ask(FULL, 0, 0, vec![5], string));
         let set = Val::Set(vec![Val::Str(vec![65; length - 8])]).form();
         asks.push(ask(CONFORMS, 0, 0, vec![7, 5], set.clone()));
         asks.push(ask(LITERAL, 0, 0, set, Vec::new()));
@@ -284,7 +285,8 @@ impl Gen {
         }
         asks.push(ask(SUBTYPE, self.rng.mode(), 0, vec![1], vec![3]));
         asks.push(ask(LITERAL, 0, 0, uid_form(1, 0), Vec::new()));
-        asks.push(ask(CONFORMS, 0, 0, entity, uid_form(2, 0)));
+        asks.push(ask(CONFORMS, 0, 0, entity.clone(), uid_form(2, 0)));
+        asks.push(ask(FULL, 0, 0, entity, uid_form(2, 0)));
     }
 
     /// A function whose arguments have about as many bytes as a form may have:
@@ -298,6 +300,21 @@ impl Gen {
         for arg in [Val::Bool(true), Val::Str(Vec::new())] {
             let call = Val::Call(5, vec![arg]).form();
             asks.push(ask(CONFORMS, 0, 0, Ty::Ext(7).form(), call));
+        }
+        self.sized_calls(schema, asks);
+    }
+
+    /// A function of about as many arguments as a value has room for, with one
+    /// less and one more.
+    fn sized_calls(&mut self, schema: &mut Sch, asks: &mut Vec<Ask>) {
+        let declared = (self.limits.bytes - 5) / 3 - self.rng.below(2);
+        schema.functions.push(FunctionEntry {
+            args: vec![(1, 0); declared],
+            ..counted_function(6)
+        });
+        for given in declared - 1..=declared + 1 {
+            let call = Val::Call(6, vec![Val::Bool(true); given]).form();
+            asks.push(ask(FULL, 0, 0, Ty::Ext(7).form(), call));
         }
     }
 
@@ -344,7 +361,8 @@ impl Gen {
         asks.push(ask(LOOKUP, 0, 1, Ty::Ent(names(0, 256)).form(), Vec::new()));
         asks.push(ask(NAMES, 0, 0, Ty::Ent(names(3, 200)).form(), Vec::new()));
         let call = Val::Call(at / 4, Vec::new()).form();
-        asks.push(ask(CONFORMS, 0, 0, vec![12, 7, 0], call));
+        asks.push(ask(CONFORMS, 0, 0, vec![12, 7, 0], call.clone()));
+        asks.push(ask(FULL, 0, 0, vec![12, 7, 0], call));
         let schema = schema.form();
         Asked { schema, asks }
     }

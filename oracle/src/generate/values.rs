@@ -114,11 +114,9 @@ impl Gen {
         let mut args = Vec::new();
         for (kind, extension) in &function.args {
             args.push(match kind {
-                1 => Val::Bool(true),
-                2 => self.long(),
-                3 => self.string(),
-                _ if depth > 0 => self.call_for(*extension, schema, depth - 1),
-                _ => Val::Call(function.name, Vec::new()),
+                4 if depth > 0 => self.call_for(*extension, schema, depth - 1),
+                4 => Val::Call(function.name, Vec::new()),
+                kind => self.value_for_argument(*kind),
             });
         }
         match self.rng.below(10) {
@@ -129,6 +127,15 @@ impl Gen {
             _ => (),
         }
         Val::Call(function.name, args)
+    }
+
+    /// A value for an argument of a kind that is no extension.
+    pub fn value_for_argument(&mut self, kind: u8) -> Val {
+        match kind {
+            1 => Val::Bool(true),
+            2 => self.long(),
+            _ => self.string(),
+        }
     }
 
     /// The value with one place changed.
@@ -198,21 +205,5 @@ impl Gen {
             };
         }
         value
-    }
-
-    /// A call nested to so many levels, each a function that takes what it
-    /// returns, and the type of it.
-    pub fn deep_call(&mut self, schema: &Sch) -> Option<(Ty, Val)> {
-        let loops = |f: &&FunctionEntry| match (f.returns, f.args.first()) {
-            (Some(e), Some((4, a))) => e == *a,
-            _ => false,
-        };
-        let found: Vec<&FunctionEntry> = schema.functions.iter().filter(loops).collect();
-        let f = found.first()?;
-        let mut value = Val::Call(f.name, Vec::new());
-        for _ in 0..self.rng.from(1, self.limits.levels + 1) {
-            value = Val::Call(f.name, vec![value]);
-        }
-        Some((Ty::Ext(f.returns?), value))
     }
 }

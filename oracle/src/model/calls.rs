@@ -1,9 +1,8 @@
 //! The calls: 01's questions in 01's order.
 
 use super::attributes::Folded;
-use super::conformance::Walk;
 use super::relations::find;
-use super::{Mode, Rules};
+use super::{Counts, Mode, Rules, Walk};
 use crate::limits::Limits;
 use crate::questions::{operation::*, Call, Outcome, Part};
 use crate::trees::{Attr, Sch, Ty, Val};
@@ -24,7 +23,15 @@ fn said(yes: bool) -> Result<Outcome, u8> {
 }
 
 /// The fault by which each operation does not ask its limits.
-const UNASKED: [u32; COUNT] = [301, 302, 264, 303, 304, 305, 265, 266, 306, 307, 308];
+const UNASKED: [u32; COUNT] = [301, 302, 264, 303, 304, 305, 265, 266, 306, 307, 308, 310];
+
+/// Operation 8 for operation 11.
+pub fn full_as_conforms(op: u8) -> u8 {
+    match op {
+        FULL => CONFORMS,
+        other => other,
+    }
+}
 
 /// Does the operation take a schema?
 pub fn takes_schema(op: u8) -> bool {
@@ -34,7 +41,12 @@ pub fn takes_schema(op: u8) -> bool {
 impl Rules {
     pub fn answer(self, call: &Call<'_>) -> Outcome {
         let limits = self.taken(call.limits);
-        let call = Call { limits, ..*call };
+        let op = self.or(344, call.op, full_as_conforms(call.op));
+        let call = Call {
+            limits,
+            op,
+            ..*call
+        };
         let schema = match self.limits_pass(&call) {
             true => self.whole_schema(limits, call.schema),
             false => None,
@@ -55,7 +67,7 @@ impl Rules {
             LOOKUP | MAY_HAVE | NAMES => self.attributed(call, schema),
             CONSISTENT => self.agreed(call, schema),
             CONVERT => self.converted(call, schema),
-            CONFORMS => self.conformed(call, schema),
+            CONFORMS | FULL => self.conformed(call, schema),
             FOLD => self.folded(call, schema),
             LITERAL => self.literal_typed(call, schema),
             _ => Ok(Outcome::Nothing),
@@ -242,13 +254,21 @@ impl Rules {
     }
 
     fn conformed(self, call: &Call<'_>, schema: &Option<Sch>) -> Result<Outcome, u8> {
+        let full = call.op == FULL;
+        if full && self.fault(342) {
+            self.first(call)?;
+        }
         let schema = schema.as_ref().ok_or(2)?;
-        if self.fault(183) {
+        if self.fault(183) || (full && self.fault(341)) {
             ask(5, self.whole_value(call.limits, call.t1).is_some())?;
         }
         let ty = self.first(call)?;
         let value = self.whole_value(call.limits, call.t1).ok_or(5)?;
-        match self.conforms(schema, &ty, &value) {
+        let walk = match full || self.fault(312) {
+            true => self.conforms_fully(schema, &ty, &value),
+            false => self.conforms(Counts::Any, schema, &ty, &value),
+        };
+        match walk {
             _ if self.ends_early(298, [value.levels()]) => said(false),
             _ if self.ends_early(299, [ty.levels()]) => said(false),
             Walk::Unknown => Err(7),

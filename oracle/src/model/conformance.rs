@@ -1,7 +1,7 @@
 //! Does a value have a type?
 
 use super::relations::find;
-use super::Rules;
+use super::{Counts, Rules};
 use crate::trees::{Attr, FunctionEntry, Sch, Ty, Val};
 
 /// What the walk comes to.
@@ -15,7 +15,7 @@ pub enum Walk {
 
 use Walk::{No, Unknown, Yes};
 
-fn walk(yes: bool) -> Walk {
+pub fn walk(yes: bool) -> Walk {
     match yes {
         true => Yes,
         false => No,
@@ -32,12 +32,12 @@ fn all(walks: impl Iterator<Item = Walk>) -> Walk {
     Yes
 }
 
-fn function(schema: &Sch, name: u16) -> Option<&FunctionEntry> {
+pub fn function(schema: &Sch, name: u16) -> Option<&FunctionEntry> {
     schema.functions.iter().find(|f| f.name == name)
 }
 
 impl Rules {
-    pub fn conforms(self, schema: &Sch, ty: &Ty, value: &Val) -> Walk {
+    pub fn conforms(self, counts: Counts, schema: &Sch, ty: &Ty, value: &Val) -> Walk {
         if let (Val::Call(name, _), true) = (value, self.fault(140)) {
             if function(schema, *name).is_none() {
                 return Unknown;
@@ -48,14 +48,16 @@ impl Rules {
             (Ty::Atom(1), Val::Bool(b)) => walk(*b || self.fault(141)),
             (Ty::Atom(2), Val::Bool(b)) => walk(!*b),
             (Ty::Atom(4), Val::Long(_)) | (Ty::Atom(5), Val::Str(_)) => Yes,
-            (Ty::Atom(6), Val::Set(_)) => walk(!self.fault(142)),
+            (Ty::Atom(6), Val::Set(values)) => {
+                let passed = self.passed_over(333, counts, schema, values.iter());
+                walk(passed && !self.fault(142))
+            }
             (Ty::Atom(9), Val::Uid(..)) => Yes,
             (Ty::Set(element), Val::Set(values)) => {
                 let taken = self.or(143, values.len(), 1);
-                all(values
-                    .iter()
-                    .take(taken)
-                    .map(|v| self.conforms(schema, element, v)))
+                let counts = self.or(331, counts, Counts::Any);
+                let member = |v| self.conforms(counts, schema, element, v);
+                all(values.iter().take(taken).map(member))
             }
             (Ty::Ent(names), Val::Uid(ty, _)) => {
                 let known = !self.fault(144) || schema.entities.iter().any(|e| e.name == *ty);
@@ -65,10 +67,10 @@ impl Rules {
                 walk(ty == name && (ty % 2 == 1 || self.fault(145)))
             }
             (Ty::Rec(open, attrs), Val::Rec(pairs)) => {
-                self.record_conforms(schema, *open, attrs, pairs)
+                self.record_conforms(counts, schema, (*open, attrs), pairs)
             }
             (Ty::Ext(name), Val::Call(function, args)) => {
-                self.call_conforms(schema, *name, *function, args)
+                self.call_conforms(counts, schema, *name, (*function, args))
             }
             _ => No,
         }
@@ -76,9 +78,9 @@ impl Rules {
 
     fn record_conforms(
         self,
+        counts: Counts,
         schema: &Sch,
-        open: bool,
-        attrs: &[Attr],
+        (open, attrs): (bool, &[Attr]),
         pairs: &[(u16, Val)],
     ) -> Walk {
         let has = |name: u16| pairs.iter().any(|p| p.0 == name);
@@ -89,9 +91,13 @@ impl Rules {
         if self.fault(148) && !all_present {
             return No;
         }
+        let inner = self.or(332, counts, Counts::Any);
         let pair = |(name, value): &(u16, Val)| match find(attrs, *name) {
-            Some(a) => self.conforms(schema, &a.ty, value),
-            None => walk((open && !self.fault(149)) || self.fault(150)),
+            Some(a) => self.conforms(inner, schema, &a.ty, value),
+            None => {
+                let passed = self.passed_over(334, counts, schema, [value].into_iter());
+                walk(passed && ((open && !self.fault(149)) || self.fault(150)))
+            }
         };
         let walked = match self.fault(151) {
             true => all(pairs.iter().rev().map(pair)),
@@ -103,9 +109,16 @@ impl Rules {
         }
     }
 
-    fn call_conforms(self, schema: &Sch, extension: u16, name: u16, args: &[Val]) -> Walk {
+    fn call_conforms(
+        self,
+        counts: Counts,
+        schema: &Sch,
+        extension: u16,
+        (name, args): (u16, &[Val]),
+    ) -> Walk {
         let Some(f) = function(schema, name) else {
-            return self.or(152, Unknown, No);
+            let no = self.fault(152) || self.fault_in_full(329, counts);
+            return if no { No } else { Unknown };
         };
         if f.returns != Some(extension) && !self.fault(153) {
             return No;
@@ -116,20 +129,28 @@ impl Rules {
         if self.fault(155) && args.len() < f.args.len() {
             return No;
         }
-        all(f
-            .args
-            .iter()
-            .zip(args)
-            .map(|(expected, arg)| self.argument_fits(schema, *expected, arg)))
+        let inner = self.or(317, counts, Counts::Any);
+        match self.arguments_fit(inner, schema, f, args) {
+            No if self.fault_in_full(335, counts) => self.counted(counts, f, args),
+            Yes if !self.fault(319) => self.counted(counts, f, args),
+            other => other,
+        }
+    }
+
+    /// Arguments pairwise, to the shorter end.
+    fn arguments_fit(self, counts: Counts, schema: &Sch, f: &FunctionEntry, args: &[Val]) -> Walk {
+        let pairs = f.args.iter().zip(args);
+        all(pairs.map(|(expected, arg)| self.argument_fits(counts, schema, *expected, arg)))
     }
 
     /// The stand-in's rule for one argument.
-    fn argument_fits(self, schema: &Sch, expected: (u8, u16), arg: &Val) -> Walk {
+    fn argument_fits(self, counts: Counts, schema: &Sch, expected: (u8, u16), arg: &Val) -> Walk {
         match (expected.0, arg) {
             (1, Val::Bool(_)) | (2, Val::Long(_)) | (3, Val::Str(_)) => Yes,
             (4, Val::Call(name, args)) => {
                 let Some(f) = function(schema, *name) else {
-                    return self.or(156, No, Unknown);
+                    let unknown = self.fault(156) || self.fault_in_full(330, counts);
+                    return if unknown { Unknown } else { No };
                 };
                 if f.returns != Some(expected.1) && !self.fault(157) {
                     return No;
@@ -137,14 +158,13 @@ impl Rules {
                 if self.fault(158) && args.len() != f.args.len() {
                     return No;
                 }
-                if self.fault(159) {
-                    return Yes;
+                let inner = self.or(318, counts, Counts::Any);
+                let fit = self.arguments_fit(inner, schema, f, args);
+                let unseen = self.fault(159) || self.fault_in_full(336, counts);
+                match if unseen { Yes } else { fit } {
+                    Yes => self.counted_inside(counts, f, args),
+                    other => other,
                 }
-                all(f
-                    .args
-                    .iter()
-                    .zip(args)
-                    .map(|(e, a)| self.argument_fits(schema, *e, a)))
             }
             _ => No,
         }

@@ -1,7 +1,9 @@
 //! The faults, by number.
 
-/// From this number on a fault shows only under other limits than a job's.
-pub const UNDER_LIMITS: u32 = 249;
+use std::ops::RangeInclusive;
+
+/// These faults show only under other limits than a job's.
+pub const UNDER_LIMITS: RangeInclusive<u32> = 249..=310;
 
 /// Each fault with what it makes of the rule.
 #[rustfmt::skip]
@@ -151,11 +153,11 @@ pub const FAULTS: &[(u32, &str)] = &[
     (151, "pairs are walked in descending order"),
     (152, "an unknown function gives no"),
     (153, "the returned extension is not compared"),
-    (154, "an argument too many gives no"),
-    (155, "an argument too few gives no"),
+    (154, "an argument too many gives no in operation 8"),
+    (155, "an argument too few gives no in operation 8"),
     (156, "an unknown function among arguments gives 7"),
     (157, "the extension returned by an argument is not compared"),
-    (158, "an argument's own arguments must be as many as declared"),
+    (158, "an argument's own arguments must be as many as declared in operation 8"),
     (159, "an argument's own arguments are not looked at"),
     (160, "any entity converts to itself"),
     (161, "True and False stay what they are"),
@@ -194,7 +196,7 @@ pub const FAULTS: &[(u32, &str)] = &[
     (200, "a mode that is not taken may be other than 0"),
     (201, "an attribute that is not taken may be other than 0"),
     (202, "a second length that is not taken may be other than 0"),
-    (203, "operation 11 is taken"),
+    (203, "operation 12 is taken"),
     (204, "a job may have 32,769 bytes"),
     (205, "bytes over are taken after a job"),
     (206, "an empty name list leaves no space"),
@@ -301,4 +303,39 @@ pub const FAULTS: &[(u32, &str)] = &[
     (307, "fold does not ask its limits"),
     (308, "a literal does not ask its limits"),
     (309, "the arguments of a function are no longer than a form"),
+    (310, "full conformance does not ask its limits"),
+    (311, "operation 11 is operation 8"),
+    (312, "operation 8 is operation 11"),
+    (313, "operation 11 is operation 8, and after its yes every call in the value is counted"),
+    (314, "an unknown function that operation 8 reaches is 7 before a count in operation 11"),
+    (315, "an unknown function behind a no is 7 in operation 11"),
+    (316, "a count behind an unknown function is a no in operation 11"),
+    (317, "calls inside arguments are not counted in operation 11"),
+    (318, "calls inside arguments of arguments are not counted in operation 11"),
+    (319, "only calls inside arguments are counted in operation 11"),
+    (320, "fewer arguments are taken in operation 11"),
+    (321, "more arguments are taken in operation 11"),
+    (322, "fewer arguments are taken inside arguments in operation 11"),
+    (323, "more arguments are taken inside arguments in operation 11"),
+    (324, "a call without arguments is not counted in operation 11"),
+    (325, "a call of a function that declares no arguments is not counted in operation 11"),
+    (326, "counts are compared by their low byte in operation 11"),
+    (327, "another count is 7 in operation 11, but for calls inside arguments"),
+    (328, "another count inside an argument is 7 in operation 11"),
+    (329, "an unknown function gives no in operation 11"),
+    (330, "an unknown function among arguments gives 7 in operation 11"),
+    (331, "below a set operation 11 is operation 8"),
+    (332, "below a record operation 11 is operation 8"),
+    (333, "calls in an untyped set are counted in operation 11"),
+    (334, "calls in pairs that a record does not list are counted in operation 11"),
+    (335, "arguments are counted and not looked at in operation 11"),
+    (336, "an argument's own arguments are counted and not looked at in operation 11"),
+    (337, "operation 11 is not taken"),
+    (338, "operation 11 may have a mode other than 0"),
+    (339, "operation 11 may have an attribute other than 0"),
+    (340, "operation 11 has one body"),
+    (341, "the value is asked before the type in operation 11"),
+    (342, "the type is asked before the schema in operation 11"),
+    (343, "on a kept schema operation 11 is operation 8"),
+    (344, "on a schema that is not kept operation 11 is operation 8"),
 ];

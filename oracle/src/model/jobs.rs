@@ -3,7 +3,7 @@
 use super::read::Reading;
 use super::Rules;
 use crate::limits::Limits;
-use crate::questions::{Call, Outcome};
+use crate::questions::{operation::FULL, Call, Outcome};
 
 struct Entry {
     op: u8,
@@ -14,13 +14,16 @@ struct Entry {
 
 impl Rules {
     fn entry_stands(self, e: &Entry) -> bool {
+        let in_full = |fault| e.op == FULL && self.fault(fault);
         let mode = match e.op {
             0 | 1 | 9 => e.mode <= 2 || !self.fault(246),
-            _ => e.mode == 0 || self.fault(200),
+            _ => e.mode == 0 || self.fault(200) || in_full(338),
         };
-        let attr = matches!(e.op, 3 | 4) || e.attr == 0 || self.fault(201);
-        let second = matches!(e.op, 0 | 1 | 2 | 6 | 8) || e.lengths.1 == 0 || self.fault(202);
-        e.op <= self.or(203, 10, 11) && mode && attr && second
+        let attr = matches!(e.op, 3 | 4) || e.attr == 0 || self.fault(201) || in_full(339);
+        let two = matches!(e.op, 0 | 1 | 2 | 6 | 8 | FULL) && !in_full(340);
+        let second = two || e.lengths.1 == 0 || self.fault(202);
+        let known = e.op <= self.or(203, FULL, 12) && !in_full(337);
+        known && mode && attr && second
     }
 
     /// The calls of a whole job.

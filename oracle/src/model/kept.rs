@@ -1,6 +1,6 @@
 //! A schema that is checked once and kept, with the limits of its check.
 
-use super::calls::takes_schema;
+use super::calls::{full_as_conforms, takes_schema};
 use super::Rules;
 use crate::limits::Limits;
 use crate::questions::{Call, Outcome, Part};
@@ -39,10 +39,16 @@ impl Rules {
             true => self.kept_limits(kept),
             false => self.taken(call.limits),
         };
+        let op = self.or(343, call.op, full_as_conforms(call.op));
         let refused = self.mode_asked(call).err();
+        let call = Call {
+            limits,
+            op,
+            ..*call
+        };
         match refused.filter(|_| self.fault(283)) {
             Some(number) => Outcome::Refused(number),
-            None => self.answer_under(&Call { limits, ..*call }, &kept.schema),
+            None => self.answer_under(&call, &kept.schema),
         }
     }
 

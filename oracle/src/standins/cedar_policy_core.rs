@@ -301,6 +301,13 @@ pub mod extensions {
             }
         }
 
+        /// These, and one more.
+        pub fn with(&self, name: Name, function: ExtensionFunction) -> Self {
+            let mut all = self.clone();
+            all.functions.insert(name, function);
+            all
+        }
+
         pub fn func(
             &self,
             name: &Name,
