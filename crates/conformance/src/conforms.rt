@@ -145,19 +145,8 @@ fn record_conforms(
         c = &c[bytes..];
         ahead -= passed;
         let x = &b[0..len];
-        let openness = t[Offset::OPEN];
-        let said = pair_conforms(
-            counts,
-            schema,
-            sections,
-            openness,
-            f,
-            c,
-            ahead,
-            name,
-            x,
-            levels,
-        );
+        let open = t[Offset::OPEN];
+        let said = pair_conforms(counts, schema, sections, open, f, c, ahead, name, x, levels);
         let Verdict::Holds = said else {
             return said;
         };

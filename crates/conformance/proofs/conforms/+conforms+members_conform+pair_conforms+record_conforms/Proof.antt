@@ -958,10 +958,10 @@ record-conforms-part-x-end t c =
     let loop = c .before .before .before .before .before .before .loop in
     omega (arith, ahead-inside (loop .inv .rows) (loop-test .taken) (u16-at4 .result) (u16-at4 .ensures .0))
 
-record-conforms-shared-slice-read-openness : (t : ℕ) →
-    record-conforms-lts.Need-shared-slice-read-openness (record-conforms-callees t) (record-conforms-at t) record-conforms.Post record-conforms-Inv-loop
+record-conforms-shared-slice-read-open : (t : ℕ) →
+    record-conforms-lts.Need-shared-slice-read-open (record-conforms-callees t) (record-conforms-at t) record-conforms.Post record-conforms-Inv-loop
     record-conforms-μ-loop
-record-conforms-shared-slice-read-openness t c =
+record-conforms-shared-slice-read-open t c =
     let s = c .before .before .before .before .before .before .before .before .before .before .before .before .before .before .before .before .before .before in
     let args = s .args in
     omega (arith, table-count attrRow (λ _. whole (args .levels)) 0 2 (args .t .now) (records-table (args .levels) (args .t .now) (s .pre .1 .1 .0)))
@@ -1216,7 +1216,7 @@ pub +conforms+members-conform+pair-conforms+record-conforms-spec : {M : Type 1} 
     (record-conforms-sub-x t)
     (record-conforms-part-x-start t)
     (record-conforms-part-x-end t)
-    (record-conforms-shared-slice-read-openness t)
+    (record-conforms-shared-slice-read-open t)
     (record-conforms-pair-conforms-requires t)
     (record-conforms-enum-told t)
     (record-conforms-returns t)
