@@ -12,8 +12,9 @@ use Rattle.cedar.specs.TypeForm.{enc}
 use Rattle.cedar.specs.Limits.{Limits, allowed}
 use Rattle.cedar.specs.Whole.{wholeType, wholeValue, wholeList, wholeSchema}
 use Rattle.cedar.specs.Result.{Result, ok, err, badMode, badSchema, badFirst, badSecond, badValue, notPlain, unknownFunction, notConvertible}
-use Rattle.cedar.specs.Result.{answerTooLong, badLimits}
+use Rattle.cedar.specs.Result.{answerTooLong, badText, badLimits}
 use Rattle.cedar.specs.Outcome.{Outcome, refused, said, nothing, typed, attribute, named}
+use Rattle.cedar.specs.Text.{textual}
 use Rattle.cedar.specs.Disjoint.{disjoint}
 use Rattle.cedar.specs.Subtype.{sub}
 use Rattle.cedar.specs.Bound.{bound}
@@ -171,6 +172,7 @@ conformsBy c lim schema t v =
     ask badSchema (wholeSchema lim schema) λ s.
     ask badFirst (wholeType lim t) λ a.
     ask badValue (wholeValue lim v) λ x.
+    ask badText (guard (textual x)) λ _.
     ofVerdict (conforms c s a x)
 
 -- Part 9, `typecheck_restricted_expr`: arguments pairwise to the shorter end.

@@ -1,4 +1,4 @@
--- Conforming, on bytes: a schema, a type and a value, all whole, and part 9's walk a yes.
+-- Conforming, on bytes: a schema, a type and a value, all whole, every string of the value text, and part 9's walk a yes.
 use Prim.Native.Nat.{ℕ}
 use mathlib.Core.List.{List}
 use mathlib.Core.Bool.{true}

@@ -24,6 +24,7 @@ pub mod BoundWhole
 pub mod Lost
 pub mod Lengths
 pub mod Verdicts
+pub mod Text
 pub mod SubtypeSound
 pub mod BoundSound
 pub mod DisjointSound
@@ -32,6 +33,7 @@ pub mod BodyPlace
 pub mod AttributeSound
 pub mod Limits
 pub mod Calls
+pub mod Textual
 pub mod Carried
 pub mod Sequence
 pub mod SequenceExample

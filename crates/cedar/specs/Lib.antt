@@ -19,6 +19,8 @@ pub mod Consistency
 pub mod Conversion
 pub mod Literal
 pub mod Conformance
+pub mod Text
+pub mod CodePoints
 pub mod Outcome
 pub mod Calls
 pub mod Conforms

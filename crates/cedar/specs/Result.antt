@@ -75,6 +75,10 @@ noBound = 15
 abbrev pub badJob : ℕ
 badJob = 16
 
+-- Every string of the value is text?
+abbrev pub badText : ℕ
+badText = 17
+
 -- The limits are within their ranges?
 abbrev pub badLimits : ℕ
 badLimits = 20

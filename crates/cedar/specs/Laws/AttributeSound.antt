@@ -13,6 +13,7 @@ use Rattle.cedar.specs.Types.{Value, boolean, number, text, uid, setOf, 
 use Rattle.cedar.specs.Laws.Shape.{Ordered, OrderedFrom}
 use Rattle.cedar.specs.Result.{ok}
 use Rattle.cedar.specs.Bound.{bound}
+use Rattle.cedar.specs.Text.{textual, textualPairs}
 use Rattle.cedar.specs.Conformance.{Verdict, verdict, Counts, shorter, uidType, eachPair, hasName, hasRequired, conforms, conformsAt}
 use Rattle.cedar.specs.Attribute.{entityOf, attrOf, foldAttr, lookupNames, ownAttr, lookup, mayHaveType, mayHaveNames, mayHave}
 use Rattle.cedar.specs.Laws.Tests.{T-and, T-or, or-inl, or-inr, not-T→false, maybe-case, none-some, none-of}
@@ -30,24 +31,29 @@ pub data InPairs (a : ℕ) (x : Value) : Pairs → Type 0 where
   here : {ps : Pairs} → InPairs a x (pair a x ps)
   there : {n : ℕ} {y : Value} {ps : Pairs} → InPairs a x ps → InPairs a x (pair n y ps)
 
--- Pairs of a uid whose type has this entity entry: those of a record that conforms to its body.
+-- Pairs of a uid whose type has this entity entry: those of a record of good text that conforms to its body.
 abbrev pub CarriesEntry : Counts → Schema → Option Entity → Pairs → Type 0
 CarriesEntry c s none ps = Unit {0}
-CarriesEntry c s (some e) ps = Holds (conforms c s (rec (e .isOpen) (e .attrs)) (recordOf ps))
+CarriesEntry c s (some e) ps = Holds (conforms c s (rec (e .isOpen) (e .attrs)) (recordOf ps)) × T (textualPairs ps)
 
--- The value v carries the pairs ps: a record its own; a uid those of any record of its entity type, or any where there is no such type.
+-- The value v carries the pairs ps: a record of good text its own; a uid those of any record of its entity type, or any where there is no such type.
 abbrev pub CarriesPairs : Counts → Schema → Value → Pairs → Type 0
 CarriesPairs c s (boolean b) ps = ⊥
 CarriesPairs c s (number l) ps = ⊥
 CarriesPairs c s (text l) ps = ⊥
 CarriesPairs c s (uid k i) ps = CarriesEntry c s (entityOf s k) ps
 CarriesPairs c s (setOf vs) ps = ⊥
-CarriesPairs c s (recordOf qs) ps = qs ≡ ps
+CarriesPairs c s (recordOf qs) ps = (qs ≡ ps) × T (textualPairs ps)
 CarriesPairs c s (call f vs) ps = ⊥
 
 eachPair-at : {a : ℕ} {x : Value} {ps : Pairs} (f : ℕ → Value → Verdict) → InPairs a x ps → Holds (eachPair f ps) → Holds (f a x)
 eachPair-at {a} {x} f (here {ps = ps}) h = andThen→ (f a x) (eachPair f ps) h .0
 eachPair-at f (there {n = n} {y = y} {ps = ps} i) h = eachPair-at f i (andThen→ (f n y) (eachPair f ps) h .1)
+
+textual-at : {a : ℕ} {x : Value} {ps : Pairs} → InPairs a x ps → T (textualPairs ps) → T (textual x)
+unfolding textual textualPairs
+textual-at {x = x} (here {ps = ps}) h = T-and (textual x) (textualPairs ps) h .0
+textual-at (there {y = y} {ps = ps} i) h = textual-at i (T-and (textual y) (textualPairs ps) h .1)
 
 name-pair : {C : Type 0} (a : ℕ) (ps : Pairs) → T (hasName a ps) → ((x : Value) → InPairs a x ps → C) → C
 name-pair a empty h k = absurd h
@@ -65,18 +71,20 @@ abbrev pub EntriesOrdered : Schema → Type 0
 EntriesOrdered s = (n : ℕ) (e : Entity) → entityOf s n ≡ some e → OrderedFrom 0 (e .attrs)
 
 module _ (rule : Counts) (schema : Schema) where
-  -- What a lookup promises of pairs: the values of that name are of the type, and a required name is there.
+  -- What a lookup promises of pairs: the values of that name are of the type and of good text, and a required name is there.
   pub record Has (a : ℕ) (y : Bool × Ty) (ps : Pairs) : Type 0 where
     pub typed : (x : Value) → InPairs a x ps → Holds (conforms rule schema (y .1) x)
+    pub good : (x : Value) → InPairs a x ps → T (textual x)
     pub there-if : T (y .0) → T (hasName a ps)
 
   record-has : (a : ℕ) (o : Bool) (xs : Attrs) (y : Bool × Ty) (ps : Pairs) → find a xs ≡ some y → Holds (conforms rule schema (rec o xs) (recordOf ps)) →
-      Has a y ps
+      T (textualPairs ps) → Has a y ps
   unfolding conforms
-  record-has a o xs y ps e c =
+  record-has a o xs y ps e c g =
       let (c₁, c₂) = andThen→ (eachPair (λ n x. conformsAt rule schema o xs n x) ps) (verdict (hasRequired xs ps)) c in
       record {
         typed = λ x i. at-found rule schema xs o a x y e (eachPair-at (λ n z. conformsAt rule schema o xs n z) i c₁);
+        good = λ x i. textual-at i g;
         there-if = λ r. required-found xs ps a y (verdict→T (hasRequired xs ps) c₂) e r;
       }
 
@@ -92,7 +100,7 @@ module _ (rule : Counts) (schema : Schema) where
   above-refl x = record { lifts = λ v c. c; flags = λ r. r }
 
   above-has : (a : ℕ) (x y : Bool × Ty) (ps : Pairs) → Above x y → Has a x ps → Has a y ps
-  above-has a x y ps f h = record { typed = λ v i. f .lifts v (h .typed v i); there-if = λ r. h .there-if (f .flags r) }
+  above-has a x y ps f h = record { typed = λ v i. f .lifts v (h .typed v i); good = h .good; there-if = λ r. h .there-if (f .flags r) }
 
   -- A step's bound lies above both attributes.
   step-above : {C : Type 0} (x y : Bool × Ty) (c : Ty) → Ordered (x .1) → Ordered (y .1) → bound permissive (x .1) (y .1) ≡ ok c
@@ -135,7 +143,7 @@ module _ (rule : Counts) (schema : Schema) where
     where
       go : (d : Option Entity) → maybe none (λ i. find a (i .attrs)) d ≡ some z → CarriesEntry rule schema d ps → Has a z ps
       go none p q = none-some p
-      go (some d) p q = record-has a (d .isOpen) (d .attrs) z ps p q
+      go (some d) p q = record-has a (d .isOpen) (d .attrs) z ps p (q .0) (q .1)
 
   -- The pairs of a record's value.
   record-lookup : (a : ℕ) (o : Bool) (xs : Attrs) (y : Bool × Ty) (v : Value) (ps : Pairs) → find a xs ≡ some y → Holds (conforms rule schema (rec o xs) v) →
@@ -146,7 +154,8 @@ module _ (rule : Counts) (schema : Schema) where
   record-lookup a p xs y (text l) ps e c g = absurd g
   record-lookup a p xs y (uid k j) ps e c g = absurd c
   record-lookup a p xs y (setOf vs) ps e c g = absurd g
-  record-lookup a p xs y (recordOf qs) ps e c g = record-has a p xs y ps e (subst (λ (z : Pairs). Holds (conforms rule schema (rec p xs) (recordOf z))) g c)
+  record-lookup a p xs y (recordOf qs) ps e c g = record-has a p xs y ps e
+      (subst (λ (z : Pairs). Holds (conforms rule schema (rec p xs) (recordOf z))) (g .0) c) (g .1)
   record-lookup a p xs y (call f vs) ps e c g = absurd g
 
   -- Lookup's type holds of the pairs that a value of the type carries, and what it calls required is there.
@@ -195,7 +204,7 @@ module _ (rule : Counts) (schema : Schema) where
   type-lacks : (a k : ℕ) (ps : Pairs) (d : Option Entity) → (T (maybe true (λ e. e .isOpen || present (find a (e .attrs))) d) → ⊥) →
       CarriesEntry rule schema d ps → T (hasName a ps) → ⊥
   type-lacks a k ps none n c h = n tt
-  type-lacks a k ps (some e) n c h = closed-lacks a (e .isOpen) (e .attrs) ps n c h
+  type-lacks a k ps (some e) n c h = closed-lacks a (e .isOpen) (e .attrs) ps n (c .0) h
 
   mayHave-names : (a k : ℕ) (ns : List ℕ) → In k ns → T (mayHaveType schema a k) → T (mayHaveNames schema a ns)
   mayHave-names a k [] i h = i
@@ -253,7 +262,7 @@ module _ (rule : Counts) (schema : Schema) where
       record-lacks (text l) c g = g
       record-lacks (uid j i) c g = c
       record-lacks (setOf vs) c g = g
-      record-lacks (recordOf qs) c g = closed-lacks a o xs ps n (subst (λ (z : Pairs). Holds (conforms rule schema (rec o xs) (recordOf z))) g c) h
+      record-lacks (recordOf qs) c g = closed-lacks a o xs ps n (subst (λ (z : Pairs). Holds (conforms rule schema (rec o xs) (recordOf z))) (g .0) c) h
       record-lacks (call f vs) c g = g
   mayHave-sound a (act k xs) v ps i n c g h = not-action k xs i
   mayHave-sound a (ent ns) v ps i n c g h = uid-lacks v (verdict→T (maybe false (λ k. mem k ns) (uidType v)) c) g

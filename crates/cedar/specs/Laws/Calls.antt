@@ -5,14 +5,15 @@ use mathlib.Core.List.{List}
 use mathlib.Core.Bool.{Bool, true}
 use mathlib.Core.Path.{_≡_, refl, sym, ap, _∙_, subst}
 use mathlib.Core.Option.{Option, none, some}
-use lib.Dec.{leb→le}
+use lib.Dec.{T, leb→le}
 use lib.ListN.{length}
 use Rattle.cedar.specs.Types.{Mode, Ty, Value, Schema}
 use Rattle.cedar.specs.TypeForm.{enc}
 use Rattle.cedar.specs.Limits.{Limits, allowed}
 use Rattle.cedar.specs.Whole.{wholeType, wholeValue, wholeSchema}
-use Rattle.cedar.specs.Result.{Result, ok, err, answerTooLong, badLimits}
+use Rattle.cedar.specs.Result.{Result, ok, err, answerTooLong, badText, badLimits}
 use Rattle.cedar.specs.Outcome.{Outcome, refused, said, nothing, typed, attribute, named}
+use Rattle.cedar.specs.Text.{textual}
 use Rattle.cedar.specs.Disjoint.{disjoint}
 use Rattle.cedar.specs.Bound.{bound}
 use Rattle.cedar.specs.Attribute.{ownAttr, lookup, mayHave}
@@ -40,17 +41,21 @@ no-answer r h e = absurd (subst Answer (sym e) h)
 pub ask-case : {A C : Type 0} (n : ℕ) (o : Option A) (k : A → Outcome) (r : Outcome) → Answer r → ask n o k ≡ r → ((x : A) → o ≡ some x → k x ≡ r → C) → C
 ask-case n o k r h e g = maybe-case o e (λ i p. no-answer r h p) g
 
+-- A test before an answer was passed.
+guard-case : {C : Type 0} (n : ℕ) (b : Bool) (o r : Outcome) → Answer r → ask n (guard b) (λ _. o) ≡ r → (b ≡ true → o ≡ r → C) → C
+guard-case n b o r h e k = ask-case n (guard b) (λ _. o) r h e λ u g p. k (T→true b (guard-some b u g)) p
+
 -- A call that answered was asked under limits that are allowed.
 pub allowed-case : {C : Type 0} (lim : Limits) (o r : Outcome) → Answer r → ask badLimits (guard (allowed lim)) (λ _. o) ≡ r →
     (allowed lim ≡ true → o ≡ r → C) → C
-allowed-case lim o r h e k = ask-case badLimits (guard (allowed lim)) (λ _. o) r h e λ u g p. k (T→true (allowed lim) (guard-some (allowed lim) u g)) p
+allowed-case lim o r h e k = guard-case badLimits (allowed lim) o r h e k
 
 -- An answer's bytes were within the limit on a form's length.
 pub answer-case : {C : Type 0} (lim : Limits) (room : ℕ) (w : List ℕ) (o r : Outcome) → Answer r → answer lim room w o ≡ r →
     (length w ≤ lim .bytes → o ≡ r → C) → C
 answer-case lim room w o r h e k =
-    ask-case answerTooLong (guard (answerFits lim room w)) (λ _. o) r h e λ u g p.
-    k (let t = leb→le (length w) (min room (lim .bytes)) (guard-some (answerFits lim room w) u g) in omega arith) p
+    guard-case answerTooLong (answerFits lim room w) o r h e λ g p.
+    k (let t = leb→le (length w) (min room (lim .bytes)) (subst T (sym g) tt) in omega arith) p
 
 typed-inj : {t u : Ty} → typed t ≡ typed u → t ≡ u
 typed-inj e = cc
@@ -133,22 +138,24 @@ module _ {C : Type 0} (lim : Limits) where
       ask-case _ (wholeType lim t) _ (said r) tt e₁ λ u eu e₂.
       k s u es eu (said-inj e₂)
 
-  -- What conforms is whole, and the walk's verdict is yes.
+  -- What conforms is whole and of good text, and the walk's verdict is yes.
   pub conforms-case : (c : Counts) (schema t v : List ℕ) → Conforms lim c schema t v
-      → ((s : Schema) (a : Ty) (x : Value) → wholeSchema lim schema ≡ some s → wholeType lim t ≡ some a → wholeValue lim v ≡ some x → conforms c s a x ≡ holds →
-      C) → C
+      → ((s : Schema) (a : Ty) (x : Value) → wholeSchema lim schema ≡ some s → wholeType lim t ≡ some a → wholeValue lim v ≡ some x → textual x ≡ true →
+      conforms c s a x ≡ holds → C) → C
   conforms-case c schema t v e k =
       allowed-case lim _ (said true) tt e λ _ e₀.
       ask-case _ (wholeSchema lim schema) _ (said true) tt e₀ λ s es e₁.
       ask-case _ (wholeType lim t) _ (said true) tt e₁ λ a ea e₂.
       ask-case _ (wholeValue lim v) _ (said true) tt e₂ λ x ex e₃.
-      k s a x es ea ex (verdict-said (conforms c s a x) e₃)
+      guard-case badText (textual x) _ (said true) tt e₃ λ g e₄.
+      k s a x es ea ex g (verdict-said (conforms c s a x) e₄)
 
 -- What conforms does so under limits that are allowed.
 pub conforms-allowed : (lim : Limits) (c : Counts) (schema t v : List ℕ) → Conforms lim c schema t v → allowed lim ≡ true
 conforms-allowed lim c schema t v e = allowed-case lim _ (said true) tt e λ h _. h
 
--- What is whole, with a verdict of yes, conforms.
+-- What is whole and of good text, with a verdict of yes, conforms.
 pub conforms-yes : (lim : Limits) (c : Counts) (schema t v : List ℕ) (s : Schema) (a : Ty) (x : Value)
-    → allowed lim ≡ true → wholeSchema lim schema ≡ some s → wholeType lim t ≡ some a → wholeValue lim v ≡ some x → conforms c s a x ≡ holds → Conforms lim c schema t v
-conforms-yes lim c schema t v s a x y es ea ex h = rw (y, es, ea, ex, h)
+    → allowed lim ≡ true → wholeSchema lim schema ≡ some s → wholeType lim t ≡ some a → wholeValue lim v ≡ some x → textual x ≡ true →
+    conforms c s a x ≡ holds → Conforms lim c schema t v
+conforms-yes lim c schema t v s a x y es ea ex g h = rw (y, es, ea, ex, g, h)

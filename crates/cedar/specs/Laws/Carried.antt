@@ -6,7 +6,7 @@ use mathlib.Core.List.{List}
 use mathlib.Core.Bool.{Bool, true, false, _||_, cond}
 use mathlib.Core.Path.{_≡_, refl, sym, ap, _∙_, subst}
 use mathlib.Core.Option.{Option, none, some, Option·some-injective}
-use lib.Dec.{eqb, eqb→eq}
+use lib.Dec.{T, eqb, eqb→eq}
 use lib.ListN.{length, length-append}
 use Rattle.cedar.specs.Types.{Ty, rec, Attrs, Value, boolean, number, text, uid, setOf, recordOf, call, Pairs, empty, pair, Entity, Schema, present}
 use Rattle.cedar.specs.Laws.Shape.{depthValue, depthPairs, OrderedValue, OrderedPairs}
@@ -16,6 +16,7 @@ use Rattle.cedar.specs.SchemaForm.{encBody}
 use Rattle.cedar.specs.Limits.{Limits}
 use Rattle.cedar.specs.Whole.{wholeSchema, wholeValue}
 use Rattle.cedar.specs.Attribute.{entityOf}
+use Rattle.cedar.specs.Text.{textual, textualPairs}
 use Rattle.cedar.specs.Conformance.{holds, Counts, pairs, hasName, conforms}
 use Rattle.cedar.specs.Sequence.{pairOf, recordPairs, attributeOf, Carries, itself, ofEntry, ofMissing}
 use Rattle.cedar.specs.Laws.Tests.{cond-case, none-some, present-some}
@@ -113,22 +114,28 @@ record-pairs c s o xs (setOf vs) h k = absurd h
 record-pairs c s o xs (recordOf qs) h k = k qs refl
 record-pairs c s o xs (call f vs) h k = absurd h
 
--- What a value carries on bytes, it carries as a tree.
+-- A record's strings are those of its pairs.
+record-textual : (ps : Pairs) → T (textual (recordOf ps)) → T (textualPairs ps)
+unfolding textual
+record-textual ps h = h
+
+-- What a value of good text carries on bytes, it carries as a tree.
 pub carried-case : {C : Type 0} (lim : Limits) (c : Counts) (schema v w : List ℕ) (s : Schema) (x : Value) → Bytes schema → wholeSchema lim schema ≡ some s →
-    wholeValue lim v ≡ some x → Carries lim c schema v w
+    wholeValue lim v ≡ some x → T (textual x) → Carries lim c schema v w
     → ((ps : Pairs) → recordPairs lim w ≡ some ps → CarriesPairs c s x ps → C) → C
-carried-case lim c schema v w s x h es ev carried k = go w carried k
+carried-case lim c schema v w s x h es ev good carried k = go w carried k
   where
     uid-carries : (i j : ℕ) (o : Option Entity) (ps : Pairs) → x ≡ uid i j → entityOf s i ≡ o → CarriesEntry c s o ps → CarriesPairs c s x ps
     uid-carries i j o ps p q r = subst (λ (z : Value). CarriesPairs c s z ps) (sym p) (subst (λ (z : Option Entity). CarriesEntry c s z ps) (sym q) r)
 
     go : {C : Type 0} (w : List ℕ) → Carries lim c schema v w → ((ps : Pairs) → recordPairs lim w ≡ some ps → CarriesPairs c s x ps → C) → C
     go w (itself r) k = present-some (recordPairs lim v) r λ ps e.
-        k ps e (subst (λ (z : Value). CarriesPairs c s z ps) (Option·some-injective _ _ (sym (record-tree lim v ps e) ∙ ev)) refl)
+        let tree : recordOf ps ≡ x = Option·some-injective _ _ (sym (record-tree lim v ps e) ∙ ev) in
+        k ps e (subst (λ (z : Value). CarriesPairs c s z ps) tree (refl, record-textual ps (subst (λ (z : Value). T (textual z)) (sym tree) good)))
     go w (ofEntry s′ i j e es′ ev′ ee cf) k =
         let q : s′ ≡ s = Option·some-injective _ _ (sym es′ ∙ es) in
         let found : entityOf s i ≡ some e = subst (λ (z : Schema). entityOf z i ≡ some e) q ee in
-        conforms-case lim c schema (encBody (e .isOpen, e .attrs)) w cf λ s″ b y es″ eb ey yes.
+        conforms-case lim c schema (encBody (e .isOpen, e .attrs)) w cf λ s″ b y es″ eb ey gy yes.
         let body : b ≡ rec (e .isOpen) (e .attrs) = Option·some-injective _ _
         (sym eb ∙ (wholeType-reads lim) .back (rec (e .isOpen) (e .attrs)) (entity-whole lim schema s h es i e found)) in
         let q″ : s″ ≡ s = Option·some-injective _ _ (sym es″ ∙ es) in
@@ -137,7 +144,10 @@ carried-case lim c schema v w s x h es ev carried k = go w carried k
         record-pairs c s (e .isOpen) (e .attrs) y held λ ps ep.
         k ps (bind-at pairs ey ∙ ep)
         (uid-carries i j (some e) ps (Option·some-injective _ _ (sym ev ∙ ev′))
-        found (subst (λ (z : Value). Holds (conforms c s (rec (e .isOpen) (e .attrs)) z)) (pairs-some y ps ep) held))
+        found (
+          subst (λ (z : Value). Holds (conforms c s (rec (e .isOpen) (e .attrs)) z)) (pairs-some y ps ep) held,
+          record-textual ps (subst (λ (z : Value). T (textual z)) (pairs-some y ps ep) (subst T (sym gy) tt)),
+        ))
     go w (ofMissing s′ i j es′ ev′ ee r) k = present-some (recordPairs lim w) r λ ps e.
         k ps e
         (uid-carries i j none ps (Option·some-injective _ _ (sym ev ∙ ev′))

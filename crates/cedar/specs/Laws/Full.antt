@@ -13,6 +13,7 @@ use Rattle.cedar.specs.Limits.{Limits, allowed}
 use Rattle.cedar.specs.Whole.{wholeSchema, wholeType, wholeValue}
 use Rattle.cedar.specs.Bytes.{Bytes, guard}
 use Rattle.cedar.specs.Result.{unknownFunction}
+use Rattle.cedar.specs.Text.{textual}
 use Rattle.cedar.specs.Conformance.{Verdict, holds, fails, failsInside, unknown, verdict, andThen, shorter, exact, functionOf, returnsExt, argExtension}
 use Rattle.cedar.specs.Conformance.{members, pairs, asCall, ofArgument, ofArguments, eachValue, eachPair, hasRequired, conforms, conformsAt}
 use Rattle.cedar.specs.Conforms.{Conforms}
@@ -218,6 +219,7 @@ module _ (lim : Limits) (schema t v : List ℕ) where
       asked AlikeOrNo (λ o. inl refl) _ (wholeSchema lim schema) _ _ λ s _.
       asked AlikeOrNo (λ o. inl refl) _ (wholeType lim t) _ _ λ a _.
       asked AlikeOrNo (λ o. inl refl) _ (wholeValue lim v) _ _ λ x _.
+      asked AlikeOrNo (λ o. inl refl) _ (guard (textual x)) _ _ λ _ _.
       told (conforms exact s a x) (conforms shorter s a x) (walk-alike s a x)
 
   -- An outcome of full conformance that is not no.
@@ -251,6 +253,7 @@ module _ (lim : Limits) (schema t v : List ℕ) where
       rw (es, ex)
       (asked (λ o p. o ≡ p) (λ o. refl) _ (guard (allowed lim)) _ _ λ _ _.
       asked (λ o p. o ≡ p) (λ o. refl) _ (wholeType lim t) _ _ λ a _.
+      asked (λ o p. o ≡ p) (λ o. refl) _ (guard (textual x)) _ _ λ _ _.
       same (conforms exact s a x) (conforms shorter s a x) (walk-alike s a x))
     where
       same : (d e : Verdict) → SameOrNo (T (miscounted s x)) d e → ofVerdict d ≡ ofVerdict e

@@ -12,6 +12,7 @@ use Rattle.cedar.specs.ValueForm.{parseValue}
 use Rattle.cedar.specs.Limits.{standard}
 use Rattle.cedar.specs.Subtype.{sub}
 use Rattle.cedar.specs.Bound.{bound}
+use Rattle.cedar.specs.Text.{goesOn, textual}
 use Rattle.cedar.specs.Whole.{wholeSchema, wholeType, wholeValue}
 use Rattle.cedar.specs.Conformance.{Verdict, fails, failsInside, exact, conforms, ofArgument}
 use Rattle.cedar.specs.Outcome.{Outcome, refused, said}
@@ -72,7 +73,7 @@ pub told-apart : (told extension tooMany ≡ (said true, said false))
     × (told extension unheard ≡ (refused 7, refused 7))
     × (told extension (around 5 unheard) ≡ (said false, said false))
     × (told extensions mixed ≡ (refused 7, said false))
-unfolding parse parseValue conforms ofArgument
+unfolding parse parseValue conforms ofArgument textual goesOn
 told-apart = (refl, refl, refl, refl, refl, refl, refl, refl)
 
 -- A call of 6 with an unknown call, and with an argument more.
@@ -92,7 +93,7 @@ pub kinds-of-no : (walked extension tooMany ≡ some fails)
     × (walked extension (around 5 tooFew) ≡ some fails)
     × (walked extension (around 5 unheard) ≡ some failsInside)
     × (walked extension unheardFirst ≡ some failsInside)
-unfolding parse parseValue conforms ofArgument
+unfolding parse parseValue conforms ofArgument textual goesOn
 kinds-of-no = (refl, refl, refl, refl)
 
 -- Closed (1: extension 7), closed (1: extension 7, 2: Long) and open (1: extension 7), all required.
@@ -142,7 +143,7 @@ overfull = 6 ∷ 1 ∷ 0 ∷ 1 ∷ 0 ∷ 8 ∷ 0 ∷ tooMany
 
 -- The first conforms fully to the second type given, so to both types made.
 fields-given : fullCall standard schema two fields ≡ said true
-unfolding parse parseValue conforms ofArgument
+unfolding parse parseValue conforms ofArgument textual goesOn
 fields-given = refl
 
 pub keeps-full : fullCall standard schema opened fields ≡ said true
@@ -152,5 +153,5 @@ keeps-full =
 
 -- The second conforms to the first type given and to those made, and fully to none of them.
 pub not-full : (told one overfull ≡ (said true, said false)) × (told opened overfull ≡ (said true, said false))
-unfolding parse parseValue conforms ofArgument
+unfolding parse parseValue conforms ofArgument textual goesOn
 not-full = (refl, refl)

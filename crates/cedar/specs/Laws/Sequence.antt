@@ -15,6 +15,7 @@ use Rattle.cedar.specs.TypeForm.{enc}
 use Rattle.cedar.specs.Limits.{Limits, allowed}
 use Rattle.cedar.specs.Whole.{wholeSchema, wholeType, wholeValue}
 use Rattle.cedar.specs.Result.{ok}
+use Rattle.cedar.specs.Text.{textual}
 use Rattle.cedar.specs.Disjoint.{disjoint}
 use Rattle.cedar.specs.Attribute.{entityOf, ownAttr, lookup, mayHave}
 use Rattle.cedar.specs.Conformance.{holds, Counts, hasName, conforms}
@@ -23,7 +24,7 @@ use Rattle.cedar.specs.Outcome.{Outcome, refused, said, nothing, typed, 
 use Rattle.cedar.specs.Calls.{stepFits, disjointCall, boundCall}
 use Rattle.cedar.specs.Sequence.{Listed, Step, standing, EachBytes, givenFrom, written, copied, afterStep, afterSteps, attributeOf, isActionForm, LooksUp}
 use Rattle.cedar.specs.Sequence.{Kept, RunKeeps}
-use Rattle.cedar.specs.Laws.Tests.{not-T→false, none-some, none-of}
+use Rattle.cedar.specs.Laws.Tests.{T→true, not-T→false, none-some, none-of}
 use Rattle.cedar.specs.Laws.Names.{In, In-cases, In-append}
 use Rattle.cedar.specs.Laws.Whole.{TypeWithin, wholeType-reads}
 use Rattle.cedar.specs.Laws.Verdicts.{Holds, Holds→yes, yes→Holds}
@@ -54,14 +55,14 @@ agree p q = Option·some-injective _ _ (sym p ∙ q)
 -- What conforms, by trees that are known already.
 conforms-tree : (lim : Limits) (c : Counts) (schema t v : List ℕ) (s : Schema) (a : Ty) (x : Value) → wholeSchema lim schema ≡ some s →
     wholeType lim t ≡ some a → wholeValue lim v ≡ some x → Conforms lim c schema t v → Holds (conforms c s a x)
-conforms-tree lim c schema t v s a x es ea ex h = conforms-case lim c schema t v h λ s′ a′ x′ es′ ea′ ex′ yes.
+conforms-tree lim c schema t v s a x es ea ex h = conforms-case lim c schema t v h λ s′ a′ x′ es′ ea′ ex′ _ yes.
     yes→Holds (conforms c s a x)
     (subst (λ (z : Value). conforms c s a z ≡ holds) (agree ex′ ex)
     (subst (λ (z : Ty). conforms c s z x′ ≡ holds) (agree ea′ ea) (subst (λ (z : Schema). conforms c z a′ x′ ≡ holds) (agree es′ es) yes)))
 
 module _ (lim : Limits) (c : Counts) (schema t v : List ℕ) (hs : Bytes schema) (ht : Bytes t) (s : Schema) (a : Ty) (x : Value)
     (fair : allowed lim ≡ true) (es : wholeSchema lim schema ≡ some s) (ea : wholeType lim t ≡ some a) (ex : wholeValue lim v ≡ some x)
-    (held : Holds (conforms c s a x)) where
+    (good : textual x ≡ true) (held : Holds (conforms c s a x)) where
   apart-from : (u : List ℕ) (b : Ty) → wholeType lim u ≡ some b → T (disjoint a b) ⊎ T (disjoint b a) → Conforms lim c schema u v → ⊥
   apart-from u b eb (inl d) h = disjoint-sound c s a b x d held (conforms-tree lim c schema u v s b x es eb ex h)
   apart-from u b eb (inr d) h = disjoint-sound c s b a x d (conforms-tree lim c schema u v s b x es eb ex h) held
@@ -105,16 +106,20 @@ module _ (lim : Limits) (c : Counts) (schema t v : List ℕ) (hs : Bytes schema)
       let q : ownAttr n a ≡ some (r, y) = subst (λ (z : Ty). ownAttr n z ≡ some (r, y)) (agree ea′ ea) p in
       (ownAttr-sound c s n a (r, y) x ps (no-action i) q held g, (wholeType-reads lim) .back y (own-within n a (r, y) (no-action i) within q))
 
+  textual-here : T (textual x)
+  textual-here = subst T (sym good) tt
+
   kept-here : Kept lim c schema t v
   kept-here = record {
-    conforming = conforms-yes lim c schema t v s a x fair es ea ex (Holds→yes (conforms c s a x) held);
+    conforming = conforms-yes lim c schema t v s a x fair es ea ex good (Holds→yes (conforms c s a x) held);
     notDisjoint = λ u e h. apart-call u h e;
     required =
-        λ i w g n y e. carried-case lim c schema v w s x hs es ex g λ ps ep cp. subst T (sym (attributeOf-name lim w ps ep n))
+        λ i w g n y e. carried-case lim c schema v w s x hs es ex textual-here g λ ps ep cp. subst T (sym (attributeOf-name lim w ps ep n))
         (looked i n true y ps cp e .0 .there-if tt);
-    typedAs = λ i w hw g n r y e z ez. carried-case lim c schema v w s x hs es ex g λ ps ep cp. attributeOf-some lim w ps ep n z hw ez λ q iq eq.
-        let (f, k) = looked i n r y ps cp e in conforms-yes lim c schema (enc y) z s y q fair es k eq (Holds→yes (conforms c s y q) (f .typed q iq));
-    denied = λ i w g n e. carried-case lim c schema v w s x hs es ex g λ ps ep cp. mayHaveCall-said lim schema n t false e λ s′ a′ es′ ea′ d.
+    typedAs = λ i w hw g n r y e z ez. carried-case lim c schema v w s x hs es ex textual-here g λ ps ep cp. attributeOf-some lim w ps ep n z hw ez λ q iq eq.
+        let (f, k) = looked i n r y ps cp e in conforms-yes lim c schema (enc y) z s y q fair es k eq (T→true (textual q) (f .good q iq))
+        (Holds→yes (conforms c s y q) (f .typed q iq));
+    denied = λ i w g n e. carried-case lim c schema v w s x hs es ex textual-here g λ ps ep cp. mayHaveCall-said lim schema n t false e λ s′ a′ es′ ea′ d.
         none-of (attributeOf lim n w) (attributeOf-name lim w ps ep n ∙ not-T→false (hasName n ps) (λ k. mayHave-sound c s n a x ps (no-action i)
         (λ m. subst T (ap (λ (z : Schema). mayHave z n a) (agree es es′) ∙ ap (mayHave s′ n) (agree ea ea′) ∙ d) m) held cp k));
   }
@@ -122,8 +127,8 @@ module _ (lim : Limits) (c : Counts) (schema t v : List ℕ) (hs : Bytes schema)
 -- A value that conforms to a type keeps what is said of it.
 pub kept : (lim : Limits) (c : Counts) (schema t v : List ℕ) → Bytes schema → Bytes t → Conforms lim c schema t v → Kept lim c schema t v
 kept lim c schema t v hs ht h =
-    conforms-case lim c schema t v h λ s a x es ea ex e.
-    kept-here lim c schema t v hs ht s a x (conforms-allowed lim c schema t v h) es ea ex (yes→Holds (conforms c s a x) e)
+    conforms-case lim c schema t v h λ s a x es ea ex g e.
+    kept-here lim c schema t v hs ht s a x (conforms-allowed lim c schema t v h) es ea ex g (yes→Holds (conforms c s a x) e)
 
 -- The bound of two listed types keeps the values of both, and is bytes.
 module _ (lim : Limits) (small : lim .bytes < 65536) (c : Counts) (schema t₀ t₁ : List ℕ) (h₀ : Bytes t₀) (h₁ : Bytes t₁) (mode room : ℕ) (z : Ty)
@@ -136,11 +141,11 @@ module _ (lim : Limits) (small : lim .bytes < 65536) (c : Counts) (schema t₀ t
       let oa = (wholeType-reads lim) .into t₀ a h₀ ea .1 .0 .1 in
       let ob = (wholeType-reads lim) .into t₁ b h₁ eb .1 .0 .1 in
       let ez = bound-whole lim small t₀ t₁ h₀ h₁ m a b z ea eb p l .1 in
-      go h (λ g. conforms-case lim c schema t₀ v g λ s a′ x es ea′ ex y. conforms-yes lim c schema (enc z) v s z x
-      (conforms-allowed lim c schema t₀ v g) es ez ex (Holds→yes (conforms c s z x)
+      go h (λ g. conforms-case lim c schema t₀ v g λ s a′ x es ea′ ex good y. conforms-yes lim c schema (enc z) v s z x
+      (conforms-allowed lim c schema t₀ v g) es ez ex good (Holds→yes (conforms c s z x)
       (bound-sound c s m a b z oa ob p x (inl (yes→Holds (conforms c s a x) (subst (λ (i : Ty). conforms c s i x ≡ holds) (agree ea′ ea) y))))))
-      (λ g. conforms-case lim c schema t₁ v g λ s b′ x es eb′ ex y. conforms-yes lim c schema (enc z) v s z x
-      (conforms-allowed lim c schema t₁ v g) es ez ex (Holds→yes (conforms c s z x)
+      (λ g. conforms-case lim c schema t₁ v g λ s b′ x es eb′ ex good y. conforms-yes lim c schema (enc z) v s z x
+      (conforms-allowed lim c schema t₁ v g) es ez ex good (Holds→yes (conforms c s z x)
       (bound-sound c s m a b z oa ob p x (inr (yes→Holds (conforms c s b x) (subst (λ (i : Ty). conforms c s i x ≡ holds) (agree eb′ eb) y))))))
     where
       go : {A B D : Type 0} → A ⊎ B → (A → D) → (B → D) → D

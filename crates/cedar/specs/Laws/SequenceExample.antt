@@ -14,6 +14,7 @@ use Rattle.cedar.specs.ValueForm.{encValue, parseValue}
 use Rattle.cedar.specs.Limits.{standard}
 use Rattle.cedar.specs.Subtype.{sub}
 use Rattle.cedar.specs.Bound.{bound}
+use Rattle.cedar.specs.Text.{goesOn, textual}
 use Rattle.cedar.specs.Conformance.{shorter, conforms}
 use Rattle.cedar.specs.Conforms.{Conforms}
 use Rattle.cedar.specs.Outcome.{refused, said}
@@ -181,23 +182,23 @@ kept-at i j x y ei ej =
 
 -- The values conform to types given: the uids to entities 2 and 4, the record to (1: Long, 2: String), the sets to theirs.
 uid2-given : Conforms standard shorter schema entity2 uid2
-unfolding parse parseValue conforms
+unfolding parse parseValue conforms textual goesOn
 uid2-given = refl
 
 uid4-given : Conforms standard shorter schema entity4 uid4
-unfolding parse parseValue conforms
+unfolding parse parseValue conforms textual goesOn
 uid4-given = refl
 
 fields-given : Conforms standard shorter schema two fields
-unfolding parse parseValue conforms
+unfolding parse parseValue conforms textual goesOn
 fields-given = refl
 
 sevens-given : Conforms standard shorter schema longs sevens
-unfolding parse parseValue conforms
+unfolding parse parseValue conforms textual goesOn
 sevens-given = refl
 
 strings-given : Conforms standard shorter schema strings someStrings
-unfolding parse parseValue conforms
+unfolding parse parseValue conforms textual goesOn
 strings-given = refl
 
 -- What they carry: the record its own pairs; the uid of type 2 those of a record that conforms to the body of its entry; the uid of
@@ -207,7 +208,7 @@ unfolding parseValue
 own-pairs = itself tt
 
 pub with-entry : Carries standard shorter schema uid2 fields
-unfolding parse parseValue conforms enc
+unfolding parse parseValue conforms enc textual goesOn
 with-entry = ofEntry tree 2 9 _ refl refl refl refl
 
 pub without-entry : Carries standard shorter schema uid4 fields
@@ -325,5 +326,5 @@ pub action-carries : Conforms standard shorter emptySchema action1 uid1
     × (mayHaveCall standard emptySchema 0 action1 ≡ said false)
     × Carries standard shorter emptySchema uid1 holder
     × (attributeOf standard 0 holder ≡ some (0 ∷ []))
-unfolding parse parseValue encValue conforms
+unfolding parse parseValue encValue conforms textual goesOn
 action-carries = (refl, refl, ofMissing (record { entities = []; actions = []; functions = [] }) 1 0 refl refl refl tt, refl)

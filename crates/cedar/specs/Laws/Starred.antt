@@ -9,6 +9,7 @@ use Rattle.cedar.specs.ValueForm.{parseValue}
 use Rattle.cedar.specs.Types.{same}
 use Rattle.cedar.specs.Subtype.{sub}
 use Rattle.cedar.specs.Bound.{bound}
+use Rattle.cedar.specs.Text.{goesOn, textual}
 use Rattle.cedar.specs.Conformance.{conforms, ofArgument}
 use Rattle.cedar.specs.Outcome.{Outcome, refused, said, nothing, bytesOf}
 use Rattle.cedar.specs.Lines.{numberOf, answerText}
@@ -131,5 +132,5 @@ answers =
 
 -- Every starred row of 01 holds.
 pub starred : asked ≡ answers
-unfolding asked answers joined below seen refusal written enc parse parseValue same sub bound conforms ofArgument
+unfolding asked answers joined below seen refusal written enc parse parseValue same sub bound conforms ofArgument textual goesOn
 starred = refl
