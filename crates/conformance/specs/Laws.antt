@@ -3,7 +3,6 @@ pub mod Tables
 pub mod Kinds
 pub mod Names
 pub mod Values
-pub mod Ahead
 pub mod Verdicts
 pub mod Arguments
 pub mod Calls

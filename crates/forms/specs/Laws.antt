@@ -1,6 +1,7 @@
 -- Laws of the definitions, for the proofs here and in the crates above.
 pub mod Parts
 pub mod Rows
+pub mod Ahead
 pub mod Types
 pub mod Sure
 pub mod RowsTwin

@@ -34,5 +34,7 @@ impl Refusal {
 
     pub const JOB: u8 = 16;
 
+    pub const TEXT: u8 = 17;
+
     pub const LIMITS: u8 = 20;
 }

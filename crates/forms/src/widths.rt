@@ -5,6 +5,9 @@ impl Width {
     // The count before a table.
     pub const COUNT: usize = 2;
 
+    // The length of a body, at the end of its entry.
+    pub const LENGTH: usize = 2;
+
     // A name of an entity type form.
     pub const NAME: usize = 2;
 

@@ -25,7 +25,7 @@ use Rattle.forms.specs.ValueBytes.{memberRow, wholeV, wholeVAs, decV, decVAs}
 use Rattle.conformance.specs.Walks.{argumentsOf}
 use Rattle.conformance.specs.Laws.Verdicts.{Then, then-stop, then-on}
 use Rattle.conformance.specs.Laws.Tables.{by-table}
-use Rattle.conformance.specs.Laws.Ahead.{Ahead, ahead-again, decoded, decoded-none, table-ahead, table-decoded}
+use Rattle.forms.specs.Laws.Ahead.{Ahead, ahead-again, decoded, decoded-none, table-ahead, table-decoded}
 
 -- Arguments that are no call, by the kind of value.
 module _ (rule : Counts) (s : Schema) (d : List ℕ → Value) (b : List ℕ) (j : ℕ) (h : j < 8) where

@@ -18,7 +18,7 @@ use Rattle.conformance.specs.declared.verdicts.Verdict.the-variants.{Fai
 use Rattle.conformance.specs.Verdicts.{verdictOf, insideOf}
 use Rattle.forms.specs.ValueBytes.{wholeV, decV, decVAs}
 use Rattle.conformance.specs.Walks.{argumentsOf}
-use Rattle.conformance.specs.Laws.Values.{value-level, value-kind, dec-value}
+use Rattle.forms.specs.Laws.Values.{value-level, value-kind, dec-value}
 use Rattle.conformance.specs.Laws.Arguments.{fits-bool, fits-long, fits-string, fits-other, call-inside}
 
 -- A whole value as the first argument asked for.

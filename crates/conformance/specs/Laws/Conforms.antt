@@ -23,7 +23,8 @@ use Rattle.conformance.specs.Verdicts.{verdictOf}
 use Rattle.conformance.specs.Kinds.{takes}
 use Rattle.forms.specs.ValueBytes.{wholeV, decV, decVAs}
 use Rattle.conformance.specs.Walks.{isOpen, attributesOf, membersOf, pairsOf, argumentsOf}
-use Rattle.conformance.specs.Laws.Values.{value-level, value-as, value-kind, dec-value, no-members, no-pairs, no-uid, no-call}
+use Rattle.forms.specs.Laws.Values.{value-level, value-as, value-kind, dec-value}
+use Rattle.conformance.specs.Laws.Values.{no-members, no-pairs, no-uid, no-call}
 use Rattle.conformance.specs.Laws.Kinds.{atom-takes}
 
 module _ (rule : Counts) (s : Schema) (v : Value) where

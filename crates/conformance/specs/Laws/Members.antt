@@ -13,7 +13,7 @@ use Rattle.conformance.specs.declared.verdicts.Verdict.the-variants.{Hol
 use Rattle.conformance.specs.Verdicts.{verdictOf}
 use Rattle.forms.specs.ValueBytes.{memberRow, wholeV, wholeVAs, decV}
 use Rattle.conformance.specs.Walks.{membersOf}
-use Rattle.conformance.specs.Laws.Ahead.{Ahead, ahead-again, decoded, decoded-none, table-ahead, table-decoded}
+use Rattle.forms.specs.Laws.Ahead.{Ahead, ahead-again, decoded, decoded-none, table-ahead, table-decoded}
 use Rattle.conformance.specs.Laws.Verdicts.{Then, then-stop, then-on}
 
 pub record MembersAhead (l : ℕ) (g : Value → Said) (all : Said) (left : ℕ) (e b : List ℕ) : Type 0 where

@@ -17,7 +17,7 @@ use Rattle.forms.specs.Search.{below, used, lowAt, Laid}
 use Rattle.forms.specs.Laws.Parts.{length-rest}
 use Rattle.forms.specs.Laws.Skips.{Below, From, Named, below-most, below-stop, used-less, rows-used, rows-cut, rows-skip, rows-below, rows-from}
 use Rattle.forms.specs.ValueBytes.{pairRow}
-use Rattle.conformance.specs.Laws.Ahead.{Ahead, ahead-again, ahead-from, decoded, decoded-none}
+use Rattle.forms.specs.Laws.Ahead.{Ahead, ahead-again, ahead-from, decoded, decoded-none}
 
 pub pair-named : (w : ℕ → List ℕ → Bool) (d : ℕ → List ℕ → Value) → Named pairRow w noneLeft d (λ h. h)
 pair-named w d = record { key-is = λ es. refl; low-is = λ low es h. leb-true low (rd es 0) h; next-is = λ es. refl }

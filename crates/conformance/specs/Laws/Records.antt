@@ -25,7 +25,7 @@ use Rattle.conformance.specs.declared.verdicts.Verdict.the-variants.{Hol
 use Rattle.conformance.specs.Verdicts.{verdictOf}
 use Rattle.forms.specs.ValueBytes.{pairRow, wholeV, wholeVAs, decV}
 use Rattle.conformance.specs.Walks.{isOpen, attributesOf, pairsOf}
-use Rattle.conformance.specs.Laws.Ahead.{Ahead, ahead-again, decoded, decoded-none, table-ahead}
+use Rattle.forms.specs.Laws.Ahead.{Ahead, ahead-again, decoded, decoded-none, table-ahead}
 use Rattle.conformance.specs.Laws.Pairs.{pair-named, pairs-from}
 use Rattle.conformance.specs.Laws.Required.{attrs-from, records-table}
 use Rattle.conformance.specs.Laws.Verdicts.{Then, then-stop, then-on}

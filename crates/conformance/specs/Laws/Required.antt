@@ -19,7 +19,7 @@ use Rattle.forms.specs.Laws.Parts.{and-l, and-r, and-not-l, and-yes}
 use Rattle.forms.specs.Laws.Skips.{From, Named, rows-from}
 use Rattle.forms.specs.ValueBytes.{pairRow, wholeV, decV}
 use Rattle.conformance.specs.Walks.{Records, attributesOf, pairsOf}
-use Rattle.conformance.specs.Laws.Ahead.{Ahead, ahead-again, ahead-from, decoded, decoded-none, table-count, table-entries, table-ahead, table-decoded}
+use Rattle.forms.specs.Laws.Ahead.{Ahead, ahead-again, ahead-from, decoded, decoded-none, table-count, table-entries, table-ahead, table-decoded}
 use Rattle.conformance.specs.Laws.Pairs.{passed, has-first}
 
 pub attr-named : (w : ℕ × Bool → List ℕ → Bool) (d : ℕ × Bool → List ℕ → Ty) → Named attrRow w noneLeft d (λ h. h .0)

@@ -10,8 +10,8 @@ use Rattle.conformance.specs.Counts.{countsOf}
 use Rattle.forms.specs.ValueBytes.{memberRow, wholeV}
 use Rattle.conformance.specs.Laws.Arguments.{ArgumentsAhead, arguments-start, arguments-end, arguments-few, arguments-over, arguments-first, arguments-stop}
 use Rattle.conformance.specs.Laws.Arguments.{arguments-again}
-use Rattle.conformance.specs.Laws.Ahead.{table-count, table-entries, ahead-room, ahead-inside, ahead-body}
-use Rattle.conformance.specs.Laws.Values.{value-level, value-first, value-as}
+use Rattle.forms.specs.Laws.Ahead.{table-count, table-entries, ahead-room, ahead-inside, ahead-body}
+use Rattle.forms.specs.Laws.Values.{value-level, value-first, value-as}
 use mathlib.Core.Path.{_∙_}
 use borrow.Author.Needs.{needs}
 use Prim.Native.Nat.{_+_, _*_}

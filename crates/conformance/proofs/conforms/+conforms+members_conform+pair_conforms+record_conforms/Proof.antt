@@ -9,11 +9,11 @@ use Rattle.forms.specs.TypeBytes.{attrRow, whole, dec}
 use Rattle.cedar.specs.Conformance.{eachValue, hasRequired, conforms as has, verdict}
 use Rattle.conformance.specs.Walks.{isOpen, attributesOf, membersOf, pairsOf, recordSaid}
 use Rattle.conformance.specs.Laws.Members.{MembersAhead, members-start, members-end, members-stop, members-again}
-use Rattle.conformance.specs.Laws.Ahead.{table-count, table-entries, ahead-room, ahead-inside, ahead-body}
+use Rattle.forms.specs.Laws.Ahead.{table-count, table-entries, ahead-room, ahead-inside, ahead-body}
 use Rattle.forms.specs.ValueBytes.{memberRow, pairRow, wholeV}
 use Rattle.conformance.specs.Laws.Conforms.{taken-kind, kind-not, kind-atom-yes, set-members, record-pairs, record-parts, entity-names, uid-length}
 use Rattle.conformance.specs.Laws.Conforms.{action-name, extension-call}
-use Rattle.conformance.specs.Laws.Values.{value-level, value-first, value-as}
+use Rattle.forms.specs.Laws.Values.{value-level, value-first, value-as}
 use Rattle.forms.specs.Laws.Parts.{length-rest, rest-0}
 use Rattle.forms.specs.Laws.Views.{not-empty, is-set, is-entity, is-action, is-extension}
 use Rattle.conformance.specs.Counts.{countsOf}

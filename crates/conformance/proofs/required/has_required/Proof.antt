@@ -1,7 +1,7 @@
 use Rattle.conformance.specs.Laws.Required.{RequiredAhead, records-type, records-value, records-attrs, records-pairs, required-start, required-end}
 use Rattle.conformance.specs.Laws.Required.{required-skip, required-not, required-again}
 use Rattle.conformance.specs.Laws.Pairs.{pairs-laid, passed}
-use Rattle.conformance.specs.Laws.Ahead.{ahead-room}
+use Rattle.forms.specs.Laws.Ahead.{ahead-room}
 use Rattle.forms.specs.Parts.{rd, rest}
 use Prim.Native.Nat.{_<_, _≤_, _*_, _-_}
 use native.Mathlib.Omega.{arith}
