@@ -1,0 +1,3 @@
+-- Laws of the definitions, for the proofs of this crate.
+pub mod Steps
+pub mod Bodies
