@@ -10,6 +10,7 @@ use forms::values::whole_value;
 use schemas::sections::Sections;
 use schemas::whole::Checked;
 use schemas::whole::check_schema;
+use strings::values::is_textual;
 ghost use mathlib.Core.Path.{_≡_};
 ghost use Rattle.cedar.specs.Calls.{conformsBy, conformsCall, fullCall};
 ghost use Rattle.forms.specs.Limits.{asLimits};
@@ -29,6 +30,9 @@ fn conforms_under(counts: Counts, schema: &[u8], at: Sections, t: &[u8], v: &[u8
     }
     if !whole_value(v, limits) {
         return Answer::Refused(Refusal::VALUE);
+    }
+    if !is_textual(v, limits.levels) {
+        return Answer::Refused(Refusal::TEXT);
     }
     let said = conforms(counts, schema, at, t, v, limits.levels);
     match said {

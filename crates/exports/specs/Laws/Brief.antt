@@ -23,6 +23,7 @@ use Rattle.cedar.specs.Attribute.{lookup, mayHave, allNames}
 use Rattle.cedar.specs.Consistency.{plain, consistent}
 use Rattle.cedar.specs.Conversion.{convert}
 use Rattle.cedar.specs.Literal.{literal}
+use Rattle.cedar.specs.Text.{textual}
 use Rattle.cedar.specs.Conformance.{Verdict, holds, fails, failsInside, unknown, Counts, conforms, asUid}
 use Rattle.cedar.specs.Calls.{ask, modeOf, stepFits, answer, writeType, writeAttribute, writeNames, ofVerdict, literalCall, disjointCall, subtypeCall}
 use Rattle.cedar.specs.Calls.{boundCall, foldCall, lookupCall, mayHaveCall, namesCall, consistentCall, convertCall, conformsBy}
@@ -109,7 +110,7 @@ module _ (lim : Limits) where
   pub conforms-short : (rule : Counts) (schema t v : List ℕ) → Short (conformsBy rule lim schema t v)
   conforms-short rule schema t v =
       limited lim _ λ _. asked _ (wholeSchema lim schema) _ λ s. asked _ (wholeType lim t) _ λ a. asked _ (wholeValue lim v) _ λ x.
-      verdict-short (conforms rule s a x)
+      asked _ (guard (textual x)) _ λ _. verdict-short (conforms rule s a x)
 
   module _ (schema : List ℕ) where
     pub literal-short : (v : List ℕ) (room : ℕ) → Short (literalCall lim schema v room)

@@ -10,8 +10,9 @@ use Rattle.cedar.specs.Bytes.{guard}
 use Rattle.cedar.specs.Limits.{standard}
 use Rattle.cedar.specs.Outcome.{Outcome, said, bytesOf}
 use Rattle.cedar.specs.Whole.{wholeType, wholeValue, wholeSchema}
-use Rattle.cedar.specs.Result.{badMode, badSchema, badFirst, badSecond, badValue, notPlain}
+use Rattle.cedar.specs.Result.{badMode, badSchema, badFirst, badSecond, badValue, notPlain, badText}
 use Rattle.cedar.specs.Consistency.{plain}
+use Rattle.cedar.specs.Text.{textual}
 use Rattle.cedar.specs.Conformance.{Verdict, holds, fails, failsInside, unknown, Counts, conforms}
 use Rattle.cedar.specs.Calls.{ask, modeOf, ofVerdict, disjointCall, subtypeCall, mayHaveCall, consistentCall, conformsBy}
 use Rattle.cedar.specs.JobForm.{Operation}
@@ -66,7 +67,7 @@ quiet-consistent x y =
 pub quiet-conforms : (rule : Counts) (s x y : List ℕ) → Quiet (conformsBy rule standard s x y)
 quiet-conforms rule s x y =
     quiet-ask badSchema (wholeSchema standard s) _ λ z. quiet-ask badFirst (wholeType standard x) _ λ t.
-    quiet-ask badValue (wholeValue standard y) _ λ v. quiet-verdict (conforms rule z t v)
+    quiet-ask badValue (wholeValue standard y) _ λ v. quiet-ask badText (guard (textual v)) _ λ _. quiet-verdict (conforms rule z t v)
 
 -- An entry that lends no buffer leaves it as it was.
 pub answered-quiet : {o : Outcome} {r : Answer} (before : List ℕ) → Quiet o → r ≡ answerOf o → Answered o before before r

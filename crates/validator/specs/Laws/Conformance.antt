@@ -1,12 +1,14 @@
 -- The call of `typecheck_restricted_expr`, question by question. Assumes nothing.
 use mathlib.Core.Path.{_≡_, refl, ap, sym, _∙_}
 use mathlib.Core.List.{List}
-use mathlib.Core.Bool.{true}
+use mathlib.Core.Bool.{Bool, true, false, not}
 use mathlib.Core.Option.{none, some}
 use Prim.Native.Nat.{ℕ}
+use borrow.Author.Tests.{not-true, not-false}
 use Rattle.cedar.specs.Types.{Ty, Value, Schema}
 use Rattle.cedar.specs.Limits.{Limits, allowed}
 use Rattle.cedar.specs.Whole.{wholeSchema, wholeType, wholeValue}
+use Rattle.cedar.specs.Text.{textual}
 use Rattle.cedar.specs.Conformance.{Verdict as Said, holds, fails, failsInside, unknown, Counts, conforms}
 use Rattle.cedar.specs.Calls.{ofVerdict, conformsBy}
 use Rattle.conformance.specs.declared.verdicts.Verdict.{Verdict}
@@ -41,7 +43,13 @@ module _ (rule : Counts) (lim : Limits) (fair : allowed lim ≡ true) (schema t 
       pub conforms-no-value : wholeValue lim v ≡ none → Refused 5 ≡ answerOf (conformsBy rule lim schema t v)
       conforms-no-value g = rw (fair, e, f, g) refl
 
-      -- The walk's verdict.
-      pub conforms-said : (x : Value) → wholeValue lim v ≡ some x → (d : Verdict) → d ≡ verdictOf (conforms rule s a x) → (w : Verdict) → d ≡ w →
-          answerTo w ≡ answerOf (conformsBy rule lim schema t v)
-      conforms-said x g d q w z = ap answerTo (sym z ∙ q) ∙ answered (conforms rule s a x) ∙ rw (fair, e, f, g) refl
+      module _ (x : Value) (g : wholeValue lim v ≡ some x) where
+        pub conforms-no-text : (r : Bool) → r ≡ textual x → not r ≡ true → Refused 17 ≡ answerOf (conformsBy rule lim schema t v)
+        conforms-no-text r q n = let h : textual x ≡ false = sym q ∙ not-true r n in rw (fair, e, f, g, h) refl
+
+        -- The walk's verdict.
+        pub conforms-said : (r : Bool) → r ≡ textual x → not r ≡ false → (d : Verdict) → d ≡ verdictOf (conforms rule s a x) → (w : Verdict) → d ≡ w →
+            answerTo w ≡ answerOf (conformsBy rule lim schema t v)
+        conforms-said r p n d q w z =
+            let h : textual x ≡ true = sym p ∙ not-false r n in
+            ap answerTo (sym z ∙ q) ∙ answered (conforms rule s a x) ∙ rw (fair, e, f, g, h) refl
