@@ -1,8 +1,8 @@
 /*
  * Calls each entry of include/tirncheav.h by position, and prints each answer's number and the bytes that it left: the
  * lines of crates/entries/stdout, with the questions of the program `entries`. Then, the lines of tests/entries.stdout:
- * asks in loose mode with buffers of a few bytes, and prints what is lent with what stands behind it; and asks under other
- * limits, given with the call or kept with the schema's check.
+ * asks about a string that is no text; asks in loose mode with buffers of a few bytes, and prints what is lent with what
+ * stands behind it; and asks under other limits, given with the call or kept with the schema's check.
  */
 #include <inttypes.h>
 #include <stdio.h>
@@ -32,6 +32,8 @@ static const uint8_t unlike[] = {7, 11, 3, 0, 2, 0, 1, 0, 1, 1, 0, 2, 0, 1, 1, 0
 /* A schema of one function, 2, which takes nothing and returns extension 7; that extension; a call of 2 with an argument. */
 static const uint8_t function[] = {0, 0, 0, 0, 1, 0, 2, 0, 1, 7, 0, 0, 0};
 static const uint8_t extension[] = {12, 7, 0}, call[] = {7, 2, 0, 1, 0, 1, 0, 1};
+/* A set of a string with a byte that no text has. */
+static const uint8_t no_text[] = {5, 1, 0, 4, 0, 3, 1, 0, 0xff};
 
 /* An entity of 2,047 types, and a result buffer for it with a byte over. */
 static uint8_t wide[4097], large[4098];
@@ -256,6 +258,19 @@ static void ask_counted_under(size_t levels, size_t bytes) {
     ask_counted_checked(tirncheav_check_schema(levels, bytes, FORM(function)));
 }
 
+/* The conformances of a value that is no text, two levels, though the untyped set looks at no member. */
+static void ask_text(size_t levels, size_t bytes) {
+    uint64_t check = tirncheav_check_schema(levels, bytes, FORM(function));
+    print_line("typecheck_restricted_expr",
+               tirncheav_typecheck_restricted_expr(levels, bytes, FORM(function), FORM(untyped), FORM(no_text)), 0);
+    print_line("typecheck_restricted_expr_exact",
+               tirncheav_typecheck_restricted_expr_exact(levels, bytes, FORM(function), FORM(untyped), FORM(no_text)), 0);
+    print_line("typecheck_restricted_expr_checked",
+               tirncheav_typecheck_restricted_expr_checked(FORM(function), check, FORM(untyped), FORM(no_text)), 0);
+    print_line("typecheck_restricted_expr_exact_checked",
+               tirncheav_typecheck_restricted_expr_exact_checked(FORM(function), check, FORM(untyped), FORM(no_text)), 0);
+}
+
 /* Under limits other than the standard ones. The schema's bodies have two levels. */
 static void ask_limits(void) {
     ask_refused();
@@ -274,6 +289,10 @@ static void ask_limits(void) {
     ask_counted_under(1, 64);
     ask_counted_under(2, 64);
     ask_counted_under(TIRNCHEAV_MOST_LEVELS, TIRNCHEAV_MOST_BYTES);
+    ask_text(0, 64);
+    ask_text(1, 64);
+    ask_text(2, 64);
+    ask_text(TIRNCHEAV_MOST_LEVELS, TIRNCHEAV_MOST_BYTES);
     ask_wide(4097);
     ask_wide(4096);
 }
@@ -289,6 +308,7 @@ int main(void) {
     ask_broken(none);
     ask_counted(STANDARD);
     ask_counted_checked(tirncheav_check_schema(STANDARD, FORM(function)));
+    ask_text(STANDARD);
     ask_loose();
     ask_loose_checked(check);
     ask_limits();

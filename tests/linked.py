@@ -8,7 +8,7 @@ would see them whose source has two parameters exchanged. For each entry and eac
 
 And holds the stack that tests/stack.c sees the test of a form take to what is promised, under the standard limits and under the
 largest: nothing for a set, one step for each record, none below the level that is one too many. What other calls take grows no faster
-than the levels.
+than the levels, and for a string not at all with its length.
 """
 import itertools
 import os
@@ -118,6 +118,13 @@ def call_tests(told):
     return tests
 
 
+def text_tests(told):
+    """Conformance takes as much for a long string as for a short one."""
+    strings = {count: line for (what, count, _), line in told.items() if what == "string"}
+    short = strings[min(strings)][2]
+    return {f"the stack of a string of {count} characters": line == (YES, 0, short) for count, line in strings.items()}
+
+
 def stack_tests(levels, told):
     """A chain of sets takes the stack of one set if it is whole, and no more if it is refused: as a type, in a list, in a schema's
     body. Each record takes as much as any other, up to the level that is one too many."""
@@ -144,7 +151,7 @@ def all_stack_tests(told):
     tests = {"a record's stack under the standard limits and the largest": len(told) == 2 and len(steps) == 1}
     for levels, of in told.items():
         tests.update(stack_tests(levels, of))
-    return {**tests, **call_tests(told[max(told)])}
+    return {**tests, **call_tests(told[max(told)]), **text_tests(told[max(told)])}
 
 
 def main():

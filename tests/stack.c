@@ -63,6 +63,12 @@ static void call_full(void) {
                                                        sizeof extension, value, value_length);
 }
 
+static void call_text(void) {
+    static const uint8_t string_type[] = {5};
+    answer = tirncheav_typecheck_restricted_expr(levels, bytes, empty, sizeof empty, string_type, sizeof string_type,
+                                                 value, value_length);
+}
+
 static void call_lookup(void) {
     answer = tirncheav_lookup_attribute_type(levels, bytes, block, block_length, 1, both, sizeof both, out, sizeof out,
                                              work, sizeof work);
@@ -136,6 +142,17 @@ static void make_calls(size_t count) {
     memcpy(value + 7 * count, last, sizeof last);
 }
 
+/* A string of so many characters of two bytes. */
+static void make_string(size_t count) {
+    static const uint8_t head[] = {3, 0, 0}, character[] = {0xc3, 0xa4};
+    value_length = sizeof head + 2 * count;
+    memcpy(value, head, sizeof head);
+    put16(value + 1, 2 * count);
+    for (size_t i = 0; i < count; i++) {
+        memcpy(value + sizeof head + 2 * i, character, sizeof character);
+    }
+}
+
 /* A list of two types, or a schema whose entity types 2 and 4 have them as bodies: what stands before them. */
 static void make_two(const uint8_t *head, size_t n, size_t first, size_t second) {
     memcpy(block, head, n);
@@ -207,10 +224,19 @@ static void tell_calls(size_t count) {
     tell("lookup", count, "true", call_lookup);
 }
 
+/* Conformance of strings of so many characters. */
+static void tell_strings(const size_t *counts, size_t n) {
+    for (size_t i = 0; i < n; i++) {
+        make_string(counts[i]);
+        tell("string", counts[i], "true", call_text);
+    }
+}
+
 /* The longest of each is too long for the standard limits. */
 int main(void) {
     static const size_t sets[] = {1, 2, 14, 15, 16, 17, 30, 31, 32, 33, 100, 4000, 8000};
     static const size_t records[] = {1, 2, 3, 14, 15, 16, 17, 30, 31, 32, 33, 100, 455, 910};
+    static const size_t strings[] = {64, 640, 4000};
     size_t of_sets = sizeof sets / sizeof *sets, of_records = sizeof records / sizeof *records;
     levels = TIRNCHEAV_STANDARD_LEVELS;
     bytes = TIRNCHEAV_STANDARD_BYTES;
@@ -223,5 +249,6 @@ int main(void) {
     tell_calls(7);
     tell_calls(15);
     tell_calls(31);
+    tell_strings(strings, sizeof strings / sizeof *strings);
     return 0;
 }
