@@ -12,6 +12,9 @@
  * list may have as a whole is the same under all limits: 32,768 bytes, 256 entity types, 256 actions, 64 functions, 64
  * types.
  *
+ * Every string of a value must be UTF-8 as in RFC 3629, at every level. A call on conformance is refused with 17 where a
+ * whole value has one that is not, whether or not the type looks at it: after 5, and before the walk that may end in 7.
+ *
  * Every call answers one number. Its low byte is the kind; TIRNCHEAV_VALUE is the rest: the number of the question that
  * refused, or how many bytes were written. For a part of the caller's own form the rest is where it starts and ends.
  *
@@ -32,7 +35,7 @@ extern "C" {
 #endif
 
 enum tirncheav_kind {
-    TIRNCHEAV_REFUSED = 0,  /* the value is the number of the question: 1 to 15, or 20 */
+    TIRNCHEAV_REFUSED = 0,  /* the value is the number of the question: 1 to 15, 17 or 20 */
     TIRNCHEAV_YES = 1,
     TIRNCHEAV_NO = 2,
     TIRNCHEAV_NONE = 3,
@@ -101,12 +104,12 @@ uint64_t tirncheav_is_consistent_with(size_t levels, size_t bytes, const uint8_t
 uint64_t tirncheav_convert(size_t levels, size_t bytes, const uint8_t *t, size_t t_len, uint8_t *out, size_t out_len);
 
 /* Yes if the value v has the type t, else no. A call's arguments are compared with those that its function declares up to
- * the end of the shorter list. */
+ * the end of the shorter list. Refused with 17 where v is whole and a string anywhere in it is not UTF-8. */
 uint64_t tirncheav_typecheck_restricted_expr(size_t levels, size_t bytes, const uint8_t *schema, size_t schema_len,
                                              const uint8_t *t, size_t t_len, const uint8_t *v, size_t v_len);
 
 /* Yes if the value v has the type t and each call that this walk reaches, inside arguments too, has as many arguments as
- * its function declares, else no. A yes is a yes of the call above as well. */
+ * its function declares, else no. A yes is a yes of the call above as well. Refused with 17 as that one is. */
 uint64_t tirncheav_typecheck_restricted_expr_exact(size_t levels, size_t bytes, const uint8_t *schema,
                                                    size_t schema_len, const uint8_t *t, size_t t_len, const uint8_t *v,
                                                    size_t v_len);

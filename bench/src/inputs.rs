@@ -24,7 +24,7 @@ pub const WIDE: Size = Size {
     levels: 2,
 };
 
-const DEEP: Size = Size {
+pub const DEEP: Size = Size {
     name: "deep",
     width: 4,
     levels: 16,

@@ -9,6 +9,7 @@ mod jobs;
 mod largest;
 mod library;
 mod loose;
+mod texts;
 mod timing;
 
 use cases::Case;
@@ -22,7 +23,8 @@ fn figure(ns: f64) -> String {
 }
 
 fn main() {
-    let cases = cases::all();
+    let mut cases = cases::all();
+    cases.extend(texts::all());
     cases.iter().for_each(Case::same_answer);
     println!("| Operation | Input | Rust, ns | schema checked, ns | ratio | schema in each call, ns | ratio |");
     println!("|---|---|---|---|---|---|---|");
@@ -50,4 +52,6 @@ fn main() {
     largest::print();
     println!();
     jobs::print();
+    println!();
+    texts::print();
 }

@@ -1,6 +1,6 @@
 /*
- * Asks five questions under an empty schema, which is checked once, a sixth under other limits, and two about a call
- * with an argument too many.
+ * Asks five questions under an empty schema, which is checked once, a sixth under other limits, two about a call with an
+ * argument too many, and two about the bytes of a string.
  */
 #include <stdio.h>
 
@@ -57,6 +57,22 @@ static void ask_call(void) {
                  NULL);
 }
 
+/* A character of two bytes in UTF-8, and the first of them alone. */
+static void ask_text(void) {
+    static const uint8_t schema[6] = {0};
+    static const uint8_t string_type[] = {5}, text[] = {3, 2, 0, 0xc3, 0xa4}, broken[] = {3, 1, 0, 0xc3};
+    uint64_t check =
+        tirncheav_check_schema(TIRNCHEAV_STANDARD_LEVELS, TIRNCHEAV_STANDARD_BYTES, schema, sizeof schema);
+    print_answer("a string of text conforms",
+                 tirncheav_typecheck_restricted_expr_checked(schema, sizeof schema, check, string_type,
+                                                             sizeof string_type, text, sizeof text),
+                 NULL);
+    print_answer("one of broken bytes",
+                 tirncheav_typecheck_restricted_expr_checked(schema, sizeof schema, check, string_type,
+                                                             sizeof string_type, broken, sizeof broken),
+                 NULL);
+}
+
 int main(void) {
     static const uint8_t schema[6] = {0};
     static const uint8_t true_type[] = {1}, bool_type[] = {3}, long_type[] = {4}, longs[] = {7, 4}, strings[] = {7, 5};
@@ -89,5 +105,6 @@ int main(void) {
     print_answer("a set of Long at one level",
                  tirncheav_may_have_attr_checked(schema, sizeof schema, check, 1, longs, sizeof longs), out);
     ask_call();
+    ask_text();
     return 0;
 }

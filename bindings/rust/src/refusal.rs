@@ -2,7 +2,8 @@
 
 use std::fmt;
 
-/// The question that refused, by its number. `Limits` is asked before any other.
+/// The question that refused, by its number. `Limits` is asked before any other,
+/// `Text` right after `Value`.
 #[derive(Clone, Copy, Debug, PartialEq, Eq, Hash, PartialOrd, Ord)]
 pub enum Refusal {
     Mode = 1,
@@ -20,13 +21,14 @@ pub enum Refusal {
     EntityType = 13,
     EntityRecord = 14,
     NoBound = 15,
+    Text = 17,
     Limits = 20,
 }
 
 use Refusal::*;
 
 /// Each refusal and what it says.
-const ALL: [(Refusal, &str); 16] = [
+const ALL: [(Refusal, &str); 17] = [
     (Mode, "the mode is none of strict, permissive and loose"),
     (Schema, "the schema is not whole"),
     (First, "the first type, or the list, is not whole"),
@@ -51,6 +53,7 @@ const ALL: [(Refusal, &str); 16] = [
     (EntityType, "the entity types differ"),
     (EntityRecord, "an entity has no bound with a record"),
     (NoBound, "the types have no bound"),
+    (Text, "a string of the value is not UTF-8"),
     (Limits, "a limit is outside its range"),
 ];
 
@@ -60,7 +63,7 @@ impl Refusal {
         self as u8
     }
 
-    /// The refusal of a number: 1 to 15, or 20.
+    /// The refusal of a number: 1 to 15, 17 or 20.
     pub fn from_number(number: u8) -> Option<Refusal> {
         let mut all = ALL.iter().map(|(refusal, _)| *refusal);
         all.find(|refusal| refusal.number() == number)

@@ -236,6 +236,21 @@ impl<'a> Schema<'a> {
     /// // The value true and the type Bool.
     /// assert_eq!(schema.typecheck_restricted_expr(&[3], &[1]), Ok(true));
     /// ```
+    ///
+    /// Every string of the value must be UTF-8, whether or not the type looks at
+    /// it:
+    ///
+    /// ```
+    /// use tirncheav::{Refusal, Schema};
+    /// let schema = Schema::check(&[0; 6]).unwrap();
+    /// // A character of two bytes, and the first of them alone.
+    /// let (text, broken) = ([3, 2, 0, 0xc3, 0xa4], [3, 1, 0, 0xc3]);
+    /// assert_eq!(schema.typecheck_restricted_expr(&[5], &text), Ok(true));
+    /// assert_eq!(schema.typecheck_restricted_expr(&[5], &broken), Err(Refusal::Text));
+    /// // Where a Long is asked, text is a no.
+    /// assert_eq!(schema.typecheck_restricted_expr(&[4], &text), Ok(false));
+    /// assert_eq!(schema.typecheck_restricted_expr(&[4], &broken), Err(Refusal::Text));
+    /// ```
     pub fn typecheck_restricted_expr(&self, t: &[u8], value: &[u8]) -> Result<bool, Refusal> {
         yes_or_no(asked!(
             self,
@@ -258,6 +273,18 @@ impl<'a> Schema<'a> {
     /// let (extension, call) = ([12, 7, 0], [7, 2, 0, 1, 0, 1, 0, 1]);
     /// assert_eq!(schema.typecheck_restricted_expr(&extension, &call), Ok(true));
     /// assert_eq!(schema.typecheck_restricted_expr_exact(&extension, &call), Ok(false));
+    /// ```
+    ///
+    /// Every string must be UTF-8 here too, in an argument too many as well:
+    ///
+    /// ```
+    /// use tirncheav::{Refusal, Schema};
+    /// let block = [0, 0, 0, 0, 1, 0, 2, 0, 1, 7, 0, 0, 0];
+    /// let schema = Schema::check(&block).unwrap();
+    /// // A call with the argument ff, a byte that no text has.
+    /// let (extension, call) = ([12, 7, 0], [7, 2, 0, 1, 0, 4, 0, 3, 1, 0, 0xff]);
+    /// let told = schema.typecheck_restricted_expr_exact(&extension, &call);
+    /// assert_eq!(told, Err(Refusal::Text));
     /// ```
     pub fn typecheck_restricted_expr_exact(&self, t: &[u8], value: &[u8]) -> Result<bool, Refusal> {
         yes_or_no(asked!(

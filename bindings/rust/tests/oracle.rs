@@ -142,7 +142,7 @@ fn answers_are_the_published_ones() {
 fn refusals_have_their_numbers() {
     for number in 0..=255 {
         let refusal = Refusal::from_number(number);
-        assert_eq!(refusal.is_some(), matches!(number, 1..=15 | 20));
+        assert_eq!(refusal.is_some(), matches!(number, 1..=15 | 17 | 20));
         assert!(refusal.is_none_or(|refusal| refusal.number() == number));
     }
 }
