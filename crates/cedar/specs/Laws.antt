@@ -41,3 +41,4 @@ pub mod Starred
 pub mod Loose
 pub mod Full
 pub mod FullExample
+pub mod TextExample
