@@ -121,7 +121,7 @@ fn width(b: &[u8], at: usize) -> usize
 }
 
 // Are the n bytes at `at` all below 128?
-fn plain(b: &[u8], at: usize, n: usize) -> bool
+pub(crate) fn plain(b: &[u8], at: usize, n: usize) -> bool
     requires { ⌜ at + n ≤ length (now b) ⌝ }
     ensures { λ r. ⌜ (r ≡ true → Plain (now (b .entry)) at n) ⌝ }
 {

@@ -66,8 +66,8 @@ asked t v = (conformsCall standard schema t v, fullCall standard schema t v)
 abbrev both : Outcome → Outcome × Outcome
 both o = (o, o)
 
--- Section 7 of the RFC: A, not identical to, capital alpha and a full stop; Korean; Japanese; a mark of the order of bytes and a stump
--- of tree.
+-- The examples of the RFC, section 7: A, 'not identical to', alpha and a full stop; Korean; Japanese; a byte order mark and a character
+-- of four bytes.
 pub examples : (asked string (str (0x41 ∷ 0xE2 ∷ 0x89 ∷ 0xA2 ∷ 0xCE ∷ 0x91 ∷ 0x2E ∷ [])) ≡ both (said true))
     × (asked string (str (0xED ∷ 0x95 ∷ 0x9C ∷ 0xEA ∷ 0xB5 ∷ 0xAD ∷ 0xEC ∷ 0x96 ∷ 0xB4 ∷ [])) ≡ both (said true))
     × (asked string (str (0xE6 ∷ 0x97 ∷ 0xA5 ∷ 0xE6 ∷ 0x9C ∷ 0xAC ∷ 0xE8 ∷ 0xAA ∷ 0x9E ∷ [])) ≡ both (said true))

@@ -67,7 +67,7 @@ pair-table l b h =
     and-yes count _ (and-l count _ h) ∙ and-yes entries _ (and-l entries _ h₁) ∙
     pair-rows (wholeV l) (rd b 1) 0 (part 3 (3 + 4 * rd b 1) b) (rest (3 + 4 * rd b 1) b) (and-r entries _ h₁)
 
-pair-strings : (d : List ℕ → Value) (n : ℕ) (es bs : List ℕ) →
+pub pair-strings : (d : List ℕ → Value) (n : ℕ) (es bs : List ℕ) →
     textualPairs (pairsFrom (rowsOf pairRow (λ _. d) n es bs)) ≡ textualValues (valuesFrom (rowsOf (bodyRow 4) (λ _. d) n es bs))
 unfolding rowsOf textualPairs textualValues
 pair-strings d zero es bs = refl
