@@ -33,7 +33,7 @@ fn bodies_are_textual(v: &[u8], at: usize, width: usize, levels: usize, outermos
     let mut left = n;
     while 0 < left {
         let len = u16_at(e, width - Width::LENGTH);
-        if !strings_are_text(&b[0..len], levels, false) {
+        if !body_is_textual(&b[0..len], levels) {
             return false;
         }
         e = &e[width..];
@@ -41,6 +41,21 @@ fn bodies_are_textual(v: &[u8], at: usize, width: usize, levels: usize, outermos
         left -= 1;
     }
     true
+}
+
+// Whether every string of a body is text: a Boolean, a Long and a uid have none.
+fn body_is_textual(v: &[u8], levels: usize) -> bool
+    requires { ⌜ wholeV levels (now v) ≡ true ⌝ }
+    ensures { λ r. ⌜ r ≡ textual (decV levels (now (v .entry))) ⌝ }
+{
+    let k = v[0];
+    if k < ValueKind::STRING {
+        return true;
+    }
+    if k == ValueKind::UID {
+        return true;
+    }
+    strings_are_text(v, levels, false)
 }
 
 // Whether every string of v is text, a whole value form of at most so many levels, the outermost one or a body.

@@ -18,21 +18,31 @@ use borrow.Fn.Kinds.{In}
 use borrow.Fn.PlainCycle.{Measures, is, falls, and}
 use Rattle.strings.proofs.values.bodies_are_textual.Reads as bodies-are-textual
 use Rattle.strings.proofs.values.bodies_are_textual.Kinds as bodies-are-textual-kinds
-use Rattle.strings.proofs.values.+bodies_are_textual+strings_are_text.Lts-bodies_are_textual as bodies-are-textual-lts
+use Rattle.strings.proofs.values.+bodies_are_textual+body_is_textual+strings_are_text.Lts-bodies_are_textual as bodies-are-textual-lts
+use Rattle.strings.proofs.values.body_is_textual.Reads as body-is-textual
+use Rattle.strings.proofs.values.body_is_textual.Kinds as body-is-textual-kinds
+use Rattle.strings.proofs.values.+bodies_are_textual+body_is_textual+strings_are_text.Lts-body_is_textual as body-is-textual-lts
 use Rattle.strings.proofs.values.strings_are_text.Reads as strings-are-text
 use Rattle.strings.proofs.values.strings_are_text.Kinds as strings-are-text-kinds
-use Rattle.strings.proofs.values.+bodies_are_textual+strings_are_text.Lts-strings_are_text as strings-are-text-lts
+use Rattle.strings.proofs.values.+bodies_are_textual+body_is_textual+strings_are_text.Lts-strings_are_text as strings-are-text-lts
 use Rattle.forms.proofs.numbers.u16_at.Reads as u16-at-reads
 use Rattle.strings.proofs.text.is_text.Reads as is-text-reads
 use Rattle.strings.proofs.text.plain.Reads as plain-reads
-use Rattle.strings.proofs.values.+bodies_are_textual+strings_are_text.{statement}
-use Rattle.strings.proofs.values.+bodies_are_textual+strings_are_text.Tie.{close}
+use Rattle.strings.proofs.values.+bodies_are_textual+body_is_textual+strings_are_text.{
+  statement,
+}
+use Rattle.strings.proofs.values.+bodies_are_textual+body_is_textual+strings_are_text.Tie.{
+  close,
+}
 
 abbrev μ-bodies-are-textual : Measures 1 bodies-are-textual-kinds.ps ℕ
-μ-bodies-are-textual κs a = 2 * a .1 .1 .1 .0 + 1
+μ-bodies-are-textual κs a = 3 * a .1 .1 .1 .0 + 2
+
+abbrev μ-body-is-textual : Measures 1 body-is-textual-kinds.ps ℕ
+μ-body-is-textual κs a = 3 * a .1 .0 + 1
 
 abbrev μ-strings-are-text : Measures 1 strings-are-text-kinds.ps ℕ
-μ-strings-are-text κs a = 2 * a .1 .0
+μ-strings-are-text κs a = 3 * a .1 .0
 
 abbrev bodies-are-textual-at : ℕ → In 1 bodies-are-textual-kinds.ps
 bodies-are-textual-at t =
@@ -49,6 +59,22 @@ bodies-are-textual-below t =
     bodies-are-textual-kinds.ps
     (falls 1 bodies-are-textual-kinds.ps _<_ μ-bodies-are-textual t)
     bodies-are-textual.Pre
+
+abbrev body-is-textual-at : ℕ → In 1 body-is-textual-kinds.ps
+body-is-textual-at t =
+    and
+    1
+    body-is-textual-kinds.ps
+    (is 1 body-is-textual-kinds.ps μ-body-is-textual t)
+    body-is-textual.Pre
+
+abbrev body-is-textual-below : ℕ → In 1 body-is-textual-kinds.ps
+body-is-textual-below t =
+    and
+    1
+    body-is-textual-kinds.ps
+    (falls 1 body-is-textual-kinds.ps _<_ μ-body-is-textual t)
+    body-is-textual.Pre
 
 abbrev strings-are-text-at : ℕ → In 1 strings-are-text-kinds.ps
 strings-are-text-at t =
@@ -72,8 +98,8 @@ bodies-are-textual-callees t = (
   u16-at-reads.Learnt,
   plain-reads.Asked,
   plain-reads.Learnt,
-  strings-are-text-below t,
-  strings-are-text.Post,
+  body-is-textual-below t,
+  body-is-textual.Post,
 )
 
 abbrev strings-are-text-callees : ℕ → strings-are-text-lts.Claims
@@ -226,39 +252,38 @@ bodies-are-textual-u16-at-requires-2 : (t : ℕ) → bodies-are-textual-lts.Need
     bodies-are-textual-μ-loop
 bodies-are-textual-u16-at-requires-2 t c κs = omega (arith, ahead-room (c .before .loop .inv .rows) (c .loop-test .taken))
 
-bodies-are-textual-sub-strings-are-text :
-    (t : ℕ) → bodies-are-textual-lts.Need-sub-strings-are-text (bodies-are-textual-callees t)
+bodies-are-textual-sub-body-is-textual : (t : ℕ) → bodies-are-textual-lts.Need-sub-body-is-textual (bodies-are-textual-callees t)
     (bodies-are-textual-at t)
     bodies-are-textual.Post
     bodies-are-textual-Inv-loop
     bodies-are-textual-μ-loop
-bodies-are-textual-sub-strings-are-text t c = omega arith
+bodies-are-textual-sub-body-is-textual t c = omega arith
 
-bodies-are-textual-part-strings-are-text-start :
-    (t : ℕ) → bodies-are-textual-lts.Need-part-strings-are-text-start (bodies-are-textual-callees t)
+bodies-are-textual-part-body-is-textual-start :
+    (t : ℕ) → bodies-are-textual-lts.Need-part-body-is-textual-start (bodies-are-textual-callees t)
     (bodies-are-textual-at t)
     bodies-are-textual.Post
     bodies-are-textual-Inv-loop
     bodies-are-textual-μ-loop
-bodies-are-textual-part-strings-are-text-start t c = omega arith
+bodies-are-textual-part-body-is-textual-start t c = omega arith
 
-bodies-are-textual-part-strings-are-text-end :
-    (t : ℕ) → bodies-are-textual-lts.Need-part-strings-are-text-end (bodies-are-textual-callees t)
+bodies-are-textual-part-body-is-textual-end :
+    (t : ℕ) → bodies-are-textual-lts.Need-part-body-is-textual-end (bodies-are-textual-callees t)
     (bodies-are-textual-at t)
     bodies-are-textual.Post
     bodies-are-textual-Inv-loop
     bodies-are-textual-μ-loop
-bodies-are-textual-part-strings-are-text-end t c =
+bodies-are-textual-part-body-is-textual-end t c =
     let loop = c .before .before .loop in
     omega (arith, ahead-inside (loop .inv .rows) (c .before .loop-test .taken) (c .u16-at2 .result) (c .u16-at2 .ensures .0))
 
-bodies-are-textual-strings-are-text-requires :
-    (t : ℕ) → bodies-are-textual-lts.Need-strings-are-text-requires (bodies-are-textual-callees t)
+bodies-are-textual-body-is-textual-requires :
+    (t : ℕ) → bodies-are-textual-lts.Need-body-is-textual-requires (bodies-are-textual-callees t)
     (bodies-are-textual-at t)
     bodies-are-textual.Post
     bodies-are-textual-Inv-loop
     bodies-are-textual-μ-loop
-bodies-are-textual-strings-are-text-requires t c κs =
+bodies-are-textual-body-is-textual-requires t c κs =
     let u16-at2 = c .before .u16-at2 in
     let loop-test = c .before .before .loop-test in
     let loop = c .before .before .before .loop in
@@ -270,7 +295,7 @@ bodies-are-textual-returns-2 : (t : ℕ) → bodies-are-textual-lts.Need-returns
     bodies-are-textual-Inv-loop
     bodies-are-textual-μ-loop
 bodies-are-textual-returns-2 t c =
-    let f = c .before .strings-are-text in
+    let f = c .before .body-is-textual in
     let u16-at2 = c .before .before .before .u16-at2 in
     let loop-test = c .before .before .before .before .loop-test in
     let loop = c .before .before .before .before .before .loop in
@@ -353,7 +378,7 @@ bodies-are-textual-loop-again : (t : ℕ) → bodies-are-textual-lts.Need-loop-a
     bodies-are-textual-μ-loop
 bodies-are-textual-loop-again t c =
     let if3 = c .before .before .if3 in
-    let f = c .before .before .before .strings-are-text in
+    let f = c .before .before .before .body-is-textual in
     let u16-at2 = c .before .before .before .before .before .u16-at2 in
     let loop-test = c .before .before .before .before .before .before .loop-test in
     let loop = c .before .before .before .before .before .before .before .loop in
@@ -365,6 +390,45 @@ bodies-are-textual-returns-3 : (t : ℕ) → bodies-are-textual-lts.Need-returns
     bodies-are-textual-Inv-loop
     bodies-are-textual-μ-loop
 bodies-are-textual-returns-3 t c = bodies-end (c .before .loop .inv) (omega arith)
+
+body-is-textual-shared-slice-read-k : (t : ℕ) → body-is-textual-lts.Need-shared-slice-read-k (
+  strings-are-text-below t,
+  strings-are-text.Post,
+) (body-is-textual-at t) body-is-textual.Post
+body-is-textual-shared-slice-read-k t c =
+    let s = c .before .before in
+    omega (arith, value-first (s .args .levels) (s .args .v .now) (s .pre .1))
+
+body-is-textual-returns : (t : ℕ) → body-is-textual-lts.Need-returns (
+  strings-are-text-below t,
+  strings-are-text.Post,
+) (body-is-textual-at t) body-is-textual.Post
+body-is-textual-returns t c =
+    let s = c .before .before .before in
+    textual-other (s .args .levels) (s .args .v .now) (s .pre .1) (omega arith) (omega arith) (omega arith) (omega arith)
+
+body-is-textual-returns-2 : (t : ℕ) → body-is-textual-lts.Need-returns-2 (
+  strings-are-text-below t,
+  strings-are-text.Post,
+) (body-is-textual-at t) body-is-textual.Post
+body-is-textual-returns-2 t c =
+    let s = c .before .before .before .before in
+    textual-other (s .args .levels) (s .args .v .now) (s .pre .1) (omega arith) (omega arith) (omega arith) (omega arith)
+
+body-is-textual-strings-are-text-requires :
+    (t : ℕ) → body-is-textual-lts.Need-strings-are-text-requires (
+      strings-are-text-below t,
+      strings-are-text.Post,
+    ) (body-is-textual-at t) body-is-textual.Post
+body-is-textual-strings-are-text-requires t c κs =
+    let s = c .before .before .before .before in
+    (omega arith, s .pre .1)
+
+body-is-textual-returns-3 : (t : ℕ) → body-is-textual-lts.Need-returns-3 (
+  strings-are-text-below t,
+  strings-are-text.Post,
+) (body-is-textual-at t) body-is-textual.Post
+body-is-textual-returns-3 t c = c .strings-are-text .ensures
 
 strings-are-text-shared-slice-read-k : (t : ℕ) → strings-are-text-lts.Need-shared-slice-read-k (strings-are-text-callees t) (strings-are-text-at t) strings-are-text.Post
 strings-are-text-shared-slice-read-k t c =
@@ -491,9 +555,13 @@ strings-are-text-returns-5 t c =
     let m = c .match .rest in
     textual-other (s .args .levels) (s .args .v .now) (s .pre .1) (m .0 .0 .0 .1) (m .0 .0 .1) (m .0 .1) (m .1)
 
-pub +bodies-are-textual+strings-are-text-spec : {M : Type 1} → statement M
-+bodies-are-textual+strings-are-text-spec =
-    close μ-bodies-are-textual μ-strings-are-text (λ t. bodies-are-textual-lts.spec (bodies-are-textual-callees t)
+pub +bodies-are-textual+body-is-textual+strings-are-text-spec : {M : Type 1} → statement M
++bodies-are-textual+body-is-textual+strings-are-text-spec =
+    close
+    μ-bodies-are-textual
+    μ-body-is-textual
+    μ-strings-are-text
+    (λ t. bodies-are-textual-lts.spec (bodies-are-textual-callees t)
     (bodies-are-textual-at t)
     bodies-are-textual.Post
     bodies-are-textual-Inv-loop
@@ -513,10 +581,10 @@ pub +bodies-are-textual+strings-are-text-spec : {M : Type 1} → statement M
     (bodies-are-textual-loop-holds t)
     (bodies-are-textual-sub-u16-at t)
     (bodies-are-textual-u16-at-requires-2 t)
-    (bodies-are-textual-sub-strings-are-text t)
-    (bodies-are-textual-part-strings-are-text-start t)
-    (bodies-are-textual-part-strings-are-text-end t)
-    (bodies-are-textual-strings-are-text-requires t)
+    (bodies-are-textual-sub-body-is-textual t)
+    (bodies-are-textual-part-body-is-textual-start t)
+    (bodies-are-textual-part-body-is-textual-end t)
+    (bodies-are-textual-body-is-textual-requires t)
     (bodies-are-textual-returns-2 t)
     (bodies-are-textual-sub-e-2 t)
     (bodies-are-textual-part-e-start-2 t)
@@ -528,6 +596,15 @@ pub +bodies-are-textual+strings-are-text-spec : {M : Type 1} → statement M
     (bodies-are-textual-loop-less t)
     (bodies-are-textual-loop-again t)
     (bodies-are-textual-returns-3 t))
+    (λ t. body-is-textual-lts.spec
+    (strings-are-text-below t, strings-are-text.Post)
+    (body-is-textual-at t)
+    body-is-textual.Post
+    (body-is-textual-shared-slice-read-k t)
+    (body-is-textual-returns t)
+    (body-is-textual-returns-2 t)
+    (body-is-textual-strings-are-text-requires t)
+    (body-is-textual-returns-3 t))
     λ t. strings-are-text-lts.spec (strings-are-text-callees t)
     (strings-are-text-at t)
     strings-are-text.Post
