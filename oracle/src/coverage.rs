@@ -2,6 +2,7 @@
 
 mod edges;
 mod limits;
+mod texts;
 
 pub use limits::Limited;
 
@@ -12,12 +13,13 @@ use crate::limits::Limits;
 use crate::loose::LOOSE;
 use crate::model::Rules;
 use crate::questions::{answer_with, operation, Call, Outcome, SchemaCache};
+use texts::Texts;
 
 const COLUMNS: [&str; WIDTH] = [
     "yes", "no", "none", "bytes", "r:", "o:", "1", "2", "3", "4", "5", "6", "7", "8", "9", "10",
-    "11", "12", "13", "14", "15", UNALLOWED,
+    "11", "12", "13", "14", "15", "17", UNALLOWED,
 ];
-const WIDTH: usize = 22;
+const WIDTH: usize = 23;
 
 /// Limits outside their ranges, which no job and no program has.
 const UNALLOWED: &str = "20";
@@ -71,10 +73,10 @@ const POSSIBLE: [&[&str]; ROWS.len()] = [
     &["bytes", "2", "3", "9"],
     &["yes", "no", "3", "4", "6"],
     &["bytes", "3", "8"],
-    &["yes", "no", "2", "3", "5", "7"],
+    &["yes", "no", "2", "3", "5", "7", "17"],
     &["bytes", "1", "2", "3", "9", "11", "12", "13", "14", "15"],
     &["none", "bytes", "2", "5", "10"],
-    &["yes", "no", "2", "3", "5", "7"],
+    &["yes", "no", "2", "3", "5", "7", "17"],
     &["yes", "7"],
     &["yes", "7"],
     &["yes", "no", "2", "3", "4"],
@@ -114,6 +116,7 @@ pub struct Coverage {
     pub jobs: u64,
     pub bad_jobs: u64,
     pub empty_name_lists: u64,
+    texts: Texts,
     asked: Asked,
 }
 
@@ -126,6 +129,7 @@ fn column(outcome: &Outcome) -> usize {
         Outcome::Attribute(true, _) => 4,
         Outcome::Attribute(false, _) => 5,
         Outcome::Refused(20) => WIDTH - 1,
+        Outcome::Refused(17) => WIDTH - 2,
         Outcome::Refused(n) => 5 + *n as usize,
     }
 }
@@ -221,6 +225,9 @@ impl Coverage {
         if call.op == operation::FULL {
             self.count_full(call, schema, outcome);
         }
+        if self.asked != Asked::WithRooms {
+            self.texts.count(call, schema, outcome);
+        }
         let modes = [operation::SUBTYPE, operation::BOUND, operation::FOLD];
         if let Some(at) = modes.iter().position(|op| *op == call.op) {
             if call.mode == LOOSE {
@@ -282,6 +289,13 @@ impl Coverage {
         self.cells[NOT_FULL].iter().sum()
     }
 
+    /// How many of the questions are refused with 17.
+    pub fn broken(&self) -> u64 {
+        let at = column(&Outcome::Refused(17));
+        let rows = self.cells[..operation::COUNT].iter();
+        rows.map(|row| row[at]).sum()
+    }
+
     /// How many of the questions are in mode 2.
     pub fn loose(&self) -> u64 {
         self.cells[IN_LOOSE..OTHERWISE].iter().flatten().sum()
@@ -314,6 +328,9 @@ impl Coverage {
         if self.bad_jobs == 0 && self.asked == Asked::InJobs {
             missing.push("job 16".into());
         }
+        if self.asked != Asked::WithRooms {
+            missing.extend(self.texts.missing());
+        }
         missing
     }
 
@@ -322,7 +339,8 @@ impl Coverage {
         self.picked(&|possible, count| !possible && count > 0)
     }
 
-    /// The rows, one a line; `.` where an outcome is not possible.
+    /// The rows, one a line, `.` where an outcome is not possible; and those of
+    /// strings.
     fn lines(&self) -> String {
         let mut out = format!("{:<16}", "");
         let columns = &COLUMNS[self.columns()];
@@ -339,6 +357,10 @@ impl Coverage {
             }
             out.push('\n');
         }
+        if self.asked != Asked::WithRooms {
+            out += "strings\n";
+            out += &self.texts.table();
+        }
         out
     }
 
@@ -347,13 +369,14 @@ impl Coverage {
         self.lines()
             + &format!(
             "{} jobs, {} of them refused as a whole (16), {} questions, {} of them in mode 2, {} of operation 11, \
-             {} of these not as operation 8, {} empty answers\n",
+             {} of these not as operation 8, {} refused with 17, {} empty answers\n",
             self.jobs,
             self.bad_jobs,
             self.questions(),
             self.loose(),
             self.full(),
             self.not_full(),
+            self.broken(),
             self.empty_name_lists
         )
     }

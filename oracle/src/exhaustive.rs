@@ -3,6 +3,9 @@
 mod chains;
 mod counts;
 mod lengths;
+mod texts;
+
+pub use texts::each_string;
 
 use crate::limits::Limits;
 use crate::questions::operation::*;
@@ -123,6 +126,7 @@ fn values() -> Vec<Val> {
         Val::Bool(false),
         Val::Bool(true),
         Val::Long([255; 8]),
+        Val::Str("é".into()),
         Val::Str(vec![255]),
         Val::Uid(2, 0),
         Val::Uid(3, 0),
@@ -241,6 +245,13 @@ impl Jobs {
         });
     }
 
+    /// A value, by operations 8 and 11.
+    fn ask_both(&mut self, ty: &Ty, value: &Val) {
+        let (ty, value) = (ty.form(), value.form());
+        self.ask(CONFORMS, 0, 0, &ty, &value);
+        self.ask(FULL, 0, 0, &ty, &value);
+    }
+
     /// A job of its own, with another schema.
     fn with(&mut self, schema: &[u8], asks: &[Ask]) {
         self.jobs.push(job_form(schema, asks));
@@ -265,7 +276,7 @@ const fn few(levels: usize) -> Limits {
 pub fn jobs() -> Vec<Vec<u8>> {
     let mut jobs = Jobs::on(&schema());
     jobs.ask_all();
-    [jobs.closed(), counts::jobs()].concat()
+    [jobs.closed(), counts::jobs(), texts::jobs()].concat()
 }
 
 /// The same with a schema that is whole under such limits, and forms around
@@ -279,7 +290,7 @@ pub fn jobs_under(limits: Limits) -> Vec<Vec<u8>> {
     let mut jobs = Jobs::on(&schema);
     jobs.ask_all();
     lengths::ask_all(&mut jobs, limits.bytes);
-    [jobs.closed(), counts::jobs()].concat()
+    [jobs.closed(), counts::jobs(), texts::jobs()].concat()
 }
 
 /// Every pair of types by every operation that takes two.

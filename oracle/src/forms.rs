@@ -162,15 +162,28 @@ fn read_attrs(mut b: Bytes<'_>, levels: usize) -> Option<Attributes> {
     Some(Attributes::with_attributes(attrs))
 }
 
-/// A whole value form.
-pub fn read_value(limits: Limits, form: &[u8]) -> Option<RestrictedExpr> {
+/// A whole value form whose strings are UTF-8; else 5, or 17 where it is whole.
+pub fn read_value(limits: Limits, form: &[u8]) -> Result<RestrictedExpr, u8> {
     if form.len() > limits.bytes {
-        return None;
+        return Err(5);
     }
-    value_at(form, limits.levels)
+    let mut text = true;
+    let value = value_at(form, limits.levels, &mut text).ok_or(5)?;
+    match text {
+        true => Ok(value),
+        false => Err(17),
+    }
 }
 
-fn value_at(form: &[u8], levels: usize) -> Option<RestrictedExpr> {
+/// The Rust's string. Where the bytes are not UTF-8 it is empty, and `text` is
+/// no longer true.
+fn string_of(bytes: &[u8], text: &mut bool) -> String {
+    let string = std::str::from_utf8(bytes);
+    *text &= string.is_ok();
+    string.unwrap_or_default().to_owned()
+}
+
+fn value_at(form: &[u8], levels: usize, text: &mut bool) -> Option<RestrictedExpr> {
     if levels == 0 {
         return None;
     }
@@ -184,17 +197,17 @@ fn value_at(form: &[u8], levels: usize) -> Option<RestrictedExpr> {
         }
         3 => {
             let n = b.u16()? as usize;
-            RestrictedExpr::String(b.take(n)?.to_vec())
+            RestrictedExpr::String(string_of(b.take(n)?, text))
         }
         4 => RestrictedExpr::Euid(EntityUID {
             ty: EntityType(b.u16()?),
             eid: b.u16()?,
         }),
-        5 => return Some(RestrictedExpr::Set(read_values(b, levels)?)),
-        6 => return read_pairs(b, levels),
+        5 => return Some(RestrictedExpr::Set(read_values(b, levels, text)?)),
+        6 => return read_pairs(b, levels, text),
         7 => {
             let name = Name(b.u16()?);
-            return Some(RestrictedExpr::Call(name, read_values(b, levels)?));
+            return Some(RestrictedExpr::Call(name, read_values(b, levels, text)?));
         }
         _ => return None,
     };
@@ -203,19 +216,19 @@ fn value_at(form: &[u8], levels: usize) -> Option<RestrictedExpr> {
 }
 
 /// Count, lengths and bodies of a set or a call.
-fn read_values(mut b: Bytes<'_>, levels: usize) -> Option<Vec<RestrictedExpr>> {
+fn read_values(mut b: Bytes<'_>, levels: usize, text: &mut bool) -> Option<Vec<RestrictedExpr>> {
     let n = b.u16()? as usize;
     let mut lengths = Bytes(b.take(2 * n)?);
     let mut values = Vec::with_capacity(n);
     for _ in 0..n {
         let length = lengths.u16()?;
-        values.push(value_at(b.take(length as usize)?, levels - 1)?);
+        values.push(value_at(b.take(length as usize)?, levels - 1, text)?);
     }
     b.done()?;
     Some(values)
 }
 
-fn read_pairs(mut b: Bytes<'_>, levels: usize) -> Option<RestrictedExpr> {
+fn read_pairs(mut b: Bytes<'_>, levels: usize, text: &mut bool) -> Option<RestrictedExpr> {
     let n = b.u16()? as usize;
     let mut entries = Bytes(b.take(4 * n)?);
     let mut last = None;
@@ -224,7 +237,7 @@ fn read_pairs(mut b: Bytes<'_>, levels: usize) -> Option<RestrictedExpr> {
         let name = entries.u16()?;
         ascends(&mut last, name)?;
         let length = entries.u16()?;
-        let value = value_at(b.take(length as usize)?, levels - 1)?;
+        let value = value_at(b.take(length as usize)?, levels - 1, text)?;
         pairs.push((SmolStr::from_number(name), value));
     }
     b.done()?;

@@ -1,5 +1,5 @@
 //! Jobs from a seed: related types, types around every limit, conforming and
-//! damaged values, damaged bytes. Questions under other limits than a job's are
+//! damaged values, text and damaged text, damaged bytes. Questions under other limits than a job's are
 //! drawn from the same generators.
 
 mod asks;
@@ -8,6 +8,7 @@ mod damage;
 mod drawn;
 mod schemas;
 mod sizes;
+mod texts;
 mod types;
 mod unlike;
 mod values;
@@ -17,6 +18,7 @@ use crate::trees::{job_form, Ask};
 
 pub use drawn::Drawn;
 pub use sizes::{names, union_of_length};
+pub use texts::{BROKEN, EDGES};
 
 /// Numbers from a seed.
 #[derive(Clone)]

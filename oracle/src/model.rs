@@ -12,8 +12,10 @@ mod jobs;
 mod kept;
 mod limits;
 mod modes;
+pub mod places;
 mod read;
 mod relations;
+mod text;
 
 pub use conformance::Walk;
 pub use counts::Counts;

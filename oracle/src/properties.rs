@@ -1,12 +1,14 @@
-//! Claims about the published functions, about mode 2 and operation 11 beside
-//! them, and about limits, tried on generated types and values.
+//! Claims about the published functions, about mode 2, operation 11 and text
+//! beside them, and about limits, tried on generated types and values.
 
 mod full;
 mod limits;
 mod loose;
+mod text;
 
 pub use full::try_full;
 pub use limits::try_limits;
+pub use text::try_text;
 
 use crate::cedar_policy_core::entities::SchemaType;
 use crate::cedar_policy_core::extensions::Extensions;
@@ -101,7 +103,7 @@ fn actions_alike(types: &[&Given]) -> bool {
     types.iter().all(|t| one_list_a_name(&t.tree, &mut lists))
 }
 
-/// Try all claims once but those about limits and about operation 11.
+/// Try all claims once but those about limits, operation 11 and text.
 pub fn try_claims(gen: &mut Gen, tallies: &mut Tallies) {
     let tree = gen.schema();
     let form = tree.form();
@@ -235,7 +237,7 @@ fn across_modes(tallies: &mut Tallies, schema: &Schema, a: &Given, b: &Given) {
 }
 
 fn conforms(schema: &Schema, ty: &Type, value: &Val) -> Option<bool> {
-    let value = read_value(STANDARD, &value.form())?;
+    let value = read_value(STANDARD, &value.form()).ok()?;
     let extensions: &Extensions<'_> = &schema.extensions;
     ty.typecheck_restricted_expr(value.as_borrowed(), extensions)
         .ok()

@@ -112,7 +112,7 @@ impl<'a> SchemaCache<'a> {
     }
 
     /// What the model reads, of a schema that is whole.
-    fn tree(&self) -> &Sch {
+    pub fn tree(&self) -> &Sch {
         let read = || Rules::SOUND.whole_schema(self.limits, self.form);
         self.tree.get_or_init(|| read().expect("a whole schema"))
     }
@@ -413,7 +413,7 @@ fn convert(call: &Call<'_>) -> Refusable<Outcome> {
 fn conforms(call: &Call<'_>, cache: &SchemaCache<'_>) -> Refusable<Outcome> {
     let schema = cache.whole()?;
     let ty = first(call)?;
-    let value = read_value(call.limits, call.t1).ok_or(5)?;
+    let value = read_value(call.limits, call.t1)?;
     let answer = typecheck_restricted_expr(schema, &ty, &value);
     Ok(yes(answer.ok_or(7)?))
 }
@@ -422,22 +422,23 @@ fn conforms(call: &Call<'_>, cache: &SchemaCache<'_>) -> Refusable<Outcome> {
 fn conforms_fully(call: &Call<'_>, cache: &SchemaCache<'_>) -> Refusable<Outcome> {
     let schema = cache.whole()?;
     let ty = first(call)?;
-    let value = read_value(call.limits, call.t1).ok_or(5)?;
+    let value = read_value(call.limits, call.t1)?;
     let answer = full::conforms(cache.tree(), call.t0, call.t1);
     full::hold(answer, schema, &ty, &value);
     Ok(yes(answer.ok_or(7)?))
 }
 
-fn uid(limits: Limits, form: &[u8]) -> Option<EntityUID> {
-    match read_value(limits, form)? {
-        RestrictedExpr::Euid(uid) => Some(uid),
-        _ => None,
+/// A uid has no string: all else is 5, whatever its strings.
+fn uid(limits: Limits, form: &[u8]) -> Refusable<EntityUID> {
+    match read_value(limits, form) {
+        Ok(RestrictedExpr::Euid(uid)) => Ok(uid),
+        _ => Err(5),
     }
 }
 
 fn literal(call: &Call<'_>, cache: &SchemaCache<'_>) -> Refusable<Outcome> {
     let schema = cache.whole()?;
-    let uid = uid(call.limits, call.t0).ok_or(5)?;
+    let uid = uid(call.limits, call.t0)?;
     match Type::euid_literal(&uid, &schema.types) {
         None => Ok(Outcome::Nothing),
         Some(ty) => Ok(Outcome::Wrote(fits(call, write_type(&ty))?)),

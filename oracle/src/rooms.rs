@@ -11,7 +11,7 @@ use crate::limits::Limits;
 use crate::loose::LOOSE;
 use crate::questions::{answer, lookup_part, operation::*, Call, Outcome, Part};
 use crate::rounds::Round;
-use std::fmt::Write;
+use std::fmt::{self, Write};
 use std::ops::Range;
 
 /// The second entry of lookup, which is no operation of a job.
@@ -20,18 +20,43 @@ const OWN: u8 = 255;
 /// More would make long lines.
 const LARGEST: usize = 600;
 
-/// Calls in bytes, with the line of each, and how many are in mode 2, of
-/// operation 11, of these not as operation 8, under other limits than the
-/// standard ones, and refused with 20.
+/// How many calls there are, in mode 2, of operation 11, of these not as
+/// operation 8, refused with 17, under other limits than the standard ones, and
+/// refused with 20.
+#[derive(Clone, Copy, Default)]
+pub struct Tally {
+    calls: usize,
+    loose: usize,
+    full: usize,
+    not_full: usize,
+    pub broken: usize,
+    pub others: usize,
+    pub unallowed: usize,
+}
+
+impl fmt::Display for Tally {
+    fn fmt(&self, f: &mut fmt::Formatter<'_>) -> fmt::Result {
+        write!(
+            f,
+            "{} calls, {} of them in mode 2, {} of operation 11, {} of these not as operation 8, \
+             {} refused with 17, {} under other limits than the standard ones, {} refused with 20",
+            self.calls,
+            self.loose,
+            self.full,
+            self.not_full,
+            self.broken,
+            self.others,
+            self.unallowed
+        )
+    }
+}
+
+/// Calls in bytes, with the line of each.
 #[derive(Default)]
 pub struct Lent {
     pub input: Vec<u8>,
     pub lines: Vec<String>,
-    pub loose: usize,
-    pub full: usize,
-    pub not_full: usize,
-    pub others: usize,
-    pub unallowed: usize,
+    pub tally: Tally,
 }
 
 fn bracketed(bytes: &[u8]) -> String {
@@ -129,9 +154,11 @@ impl Lent {
         let numbers = [call.attr as usize, call.room, call.work]
             .into_iter()
             .chain(lengths);
-        self.loose += (call.mode == LOOSE) as usize;
-        self.others += (call.limits != Limits::STANDARD) as usize;
-        self.unallowed += !call.limits.allowed() as usize;
+        let tally = &mut self.tally;
+        tally.calls += 1;
+        tally.loose += (call.mode == LOOSE) as usize;
+        tally.others += (call.limits != Limits::STANDARD) as usize;
+        tally.unallowed += !call.limits.allowed() as usize;
         self.input.extend([op, call.mode]);
         for number in numbers {
             let number = u16::try_from(number).expect("a u16");
@@ -145,11 +172,13 @@ impl Lent {
         self.lines.push(line);
     }
 
-    /// Count a call of operation 11.
-    fn count_full(&mut self, call: &Call<'_>, outcome: &Outcome) {
+    /// Count a call of operation 11, and one whose value is not text.
+    fn count(&mut self, call: &Call<'_>, outcome: &Outcome) {
+        let tally = &mut self.tally;
+        tally.broken += (*outcome == Outcome::Refused(17)) as usize;
         if call.op == FULL {
-            self.full += 1;
-            self.not_full += (answer(&as_conforms(call)) != *outcome) as usize;
+            tally.full += 1;
+            tally.not_full += (answer(&as_conforms(call)) != *outcome) as usize;
         }
     }
 
@@ -171,7 +200,7 @@ impl Lent {
                 continue;
             }
             if call.room <= LARGEST && call.work <= LARGEST {
-                self.count_full(&call, &answered.outcome);
+                self.count(&call, &answered.outcome);
                 self.put(call.op, &call, told_line(&call, &answered.outcome));
             }
             if let Some(part) = &answered.part {

@@ -143,12 +143,32 @@ impl Val {
     }
 
     pub fn levels(&self) -> usize {
-        let deepest = match self {
-            Val::Set(values) | Val::Call(_, values) => values.iter().map(Val::levels).max(),
-            Val::Rec(pairs) => pairs.iter().map(|(_, v)| v.levels()).max(),
-            _ => None,
-        };
-        1 + deepest.unwrap_or(0)
+        1 + self.parts().map(Val::levels).max().unwrap_or(0)
+    }
+
+    /// What stands a level below, in turn.
+    pub fn parts(&self) -> Box<dyn Iterator<Item = &Val> + '_> {
+        match self {
+            Val::Set(values) | Val::Call(_, values) => Box::new(values.iter()),
+            Val::Rec(pairs) => Box::new(pairs.iter().map(|(_, v)| v)),
+            _ => Box::new(std::iter::empty()),
+        }
+    }
+
+    pub fn parts_mut(&mut self) -> Box<dyn Iterator<Item = &mut Val> + '_> {
+        match self {
+            Val::Set(values) | Val::Call(_, values) => Box::new(values.iter_mut()),
+            Val::Rec(pairs) => Box::new(pairs.iter_mut().map(|(_, v)| v)),
+            _ => Box::new(std::iter::empty()),
+        }
+    }
+
+    /// The strings at every level, in turn.
+    pub fn strings(&self) -> Vec<&[u8]> {
+        match self {
+            Val::Str(bytes) => vec![bytes],
+            _ => self.parts().flat_map(Val::strings).collect(),
+        }
     }
 
     fn put(&self, out: &mut Vec<u8>) {

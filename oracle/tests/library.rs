@@ -424,6 +424,37 @@ unsafe extern "C" fn names_spare_workspace(
     }
 }
 
+/// A yes where a string is not UTF-8.
+#[rustfmt::skip]
+unsafe extern "C" fn conforms_unexamined(
+    l: usize, y: usize, s: P, sn: usize, a: P, an: usize, b: P, bn: usize,
+) -> u64 {
+    unexamined(conforms(l, y, s, sn, a, an, b, bn))
+}
+
+#[rustfmt::skip]
+unsafe extern "C" fn full_unexamined(
+    l: usize, y: usize, s: P, sn: usize, a: P, an: usize, b: P, bn: usize,
+) -> u64 {
+    unexamined(full(l, y, s, sn, a, an, b, bn))
+}
+
+#[rustfmt::skip]
+unsafe extern "C" fn full_unexamined_checked(
+    s: P, sn: usize, c: u64, a: P, an: usize, b: P, bn: usize,
+) -> u64 {
+    unexamined(full_checked(s, sn, c, a, an, b, bn))
+}
+
+fn unexamined(number: u64) -> u64 {
+    match number {
+        NOT_TEXT => 1,
+        other => other,
+    }
+}
+
+const NOT_TEXT: u64 = 17 << 8;
+
 /// A check that keeps the standard limits.
 unsafe extern "C" fn check_at_the_standard(_: usize, _: usize, s: P, sn: usize) -> u64 {
     check_schema(16, 4096, s, sn)
@@ -444,6 +475,10 @@ fn broken_checks_are_seen() {
             typecheck_restricted_expr: full_checked,
             ..CHECKED
         },
+        Checked {
+            typecheck_restricted_expr_exact: full_unexamined_checked,
+            ..CHECKED
+        },
     ];
     for checked in broken {
         assert!(differences(&mut CheckedLibrary(ORACLE, checked)) > 0);
@@ -451,7 +486,7 @@ fn broken_checks_are_seen() {
 }
 
 /// Each with one entry that breaks a promise.
-const BROKEN: [Entries; 9] = [
+const BROKEN: [Entries; 11] = [
     Entries {
         least_upper_bound: bound_writes_when_refused,
         ..ORACLE
@@ -486,6 +521,14 @@ const BROKEN: [Entries; 9] = [
     },
     Entries {
         typecheck_restricted_expr: full,
+        ..ORACLE
+    },
+    Entries {
+        typecheck_restricted_expr: conforms_unexamined,
+        ..ORACLE
+    },
+    Entries {
+        typecheck_restricted_expr_exact: full_unexamined,
         ..ORACLE
     },
 ];

@@ -224,7 +224,7 @@ fn calls_of_rooms() {
     (0..500).for_each(|_| lent.put_round(&Round::drawn(&mut gen)));
     let lines = rooms::lines(&lent.input, &mut Oracle).expect("calls");
     assert_eq!(lines.lines().collect::<Vec<_>>(), lent.lines);
-    assert!(lent.unallowed > 100 && lent.others > 1000);
+    assert!(lent.tally.unallowed > 100 && lent.tally.others > 1000);
 }
 
 #[test]

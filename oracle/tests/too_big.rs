@@ -33,7 +33,7 @@ fn a_value_of_seventeen_levels() {
         value = RestrictedExpr::Set(vec![value]);
     }
     assert_eq!(form.len(), 81);
-    assert!(read_value(STANDARD, &form).is_none());
+    assert_eq!(read_value(STANDARD, &form).err(), Some(5));
     let any_set = read_type(STANDARD, &[6]).expect("whole");
     assert_eq!(
         typecheck_restricted_expr(&schema, &any_set, &value),

@@ -7,7 +7,8 @@
 //! `compare --rooms PATH --seed N --jobs K` does so with the program `rooms`.
 //! With `--standard` the three are asked what K jobs ask, under the standard
 //! limits, and calls with rooms; the first two take `--exhaustive` for seed and
-//! jobs: every small question, under the standard limits and few levels.
+//! jobs: every small question, under the standard limits and few levels; or
+//! `--strings`: every short string, by operations 8 and 11.
 //! `compare --program PATH --seed N --jobs K` compares a program that reads
 //! one job on standard input.
 //! `compare --batch PATH --seed N --jobs K` compares a program that reads a
@@ -19,12 +20,15 @@ use oracle::candidates::{Candidate, KeptModel, Model};
 use oracle::coverage::{Coverage, Limited};
 use oracle::exhaustive;
 use oracle::generate::Gen;
-use oracle::harness::{difference, judged, Judged};
+use oracle::harness::{check_call, difference, judged, Judged};
 use oracle::jobs::{print_outcomes, read_job};
+use oracle::limits::Limits;
 use oracle::model::Rules;
 use oracle::programs;
-use oracle::rooms::Lent;
+use oracle::questions::{answer_with, operation::*, Call, Outcome, SchemaCache};
+use oracle::rooms::{Lent, Tally};
 use oracle::rounds::Round;
+use oracle::trees::Val;
 use std::process::ExitCode;
 
 fn hex(bytes: &[u8]) -> String {
@@ -91,6 +95,9 @@ type Candidates<'a> = [&'a mut dyn Candidate];
 fn compare_candidates(candidates: &mut Candidates<'_>, args: &Arguments) -> ExitCode {
     if args.has("--exhaustive") {
         return compare_exhaustively(candidates);
+    }
+    if args.has("--strings") {
+        return compare_strings(candidates);
     }
     let mut gen = Gen::new(args.number("--seed", 1));
     let count = 0..args.number("--jobs", 1000);
@@ -171,6 +178,38 @@ fn compare_exhaustively(candidates: &mut Candidates<'_>) -> ExitCode {
     code(standard + few)
 }
 
+/// Every short string where a String is asked for: yes, or 17.
+fn compare_strings(candidates: &mut Candidates<'_>) -> ExitCode {
+    let cache = SchemaCache::of(Limits::STANDARD, &[0; 6]);
+    let [mut asked, mut text, mut differences] = [0; 3];
+    exhaustive::each_string(|string| {
+        let value = Val::Str(string.to_vec()).form();
+        for op in [CONFORMS, FULL] {
+            let call = Call {
+                limits: cache.limits,
+                op,
+                mode: 0,
+                attr: 0,
+                schema: cache.form,
+                t0: &[5],
+                t1: &value,
+                room: 0,
+                work: 0,
+            };
+            let outcome = answer_with(&call, &cache);
+            asked += 1;
+            text += (outcome == Outcome::Yes) as u64;
+            for candidate in candidates.iter_mut() {
+                let what = check_call(*candidate, &call, &outcome);
+                tell(&mut differences, what, &value);
+            }
+        }
+    });
+    println!("{asked} questions, {text} of them yes, the others 17");
+    println!("{differences} with a difference");
+    code(differences)
+}
+
 /// The answers of a program to some jobs, in turn.
 type Asker = fn(&str, &[Vec<u8>]) -> Vec<Vec<u8>>;
 
@@ -212,9 +251,12 @@ fn compare_program(path: &str, ask: Asker, run: usize, args: &Arguments) -> Exit
     code(differences)
 }
 
-/// The next calls for the program `rooms`.
-fn lent(gen: &mut Gen, jobs: u64, standard: bool) -> Lent {
-    let mut lent = Lent::default();
+/// The next calls for the program `rooms`, counted with those before.
+fn lent(gen: &mut Gen, jobs: u64, standard: bool, tally: Tally) -> Lent {
+    let mut lent = Lent {
+        tally,
+        ..Lent::default()
+    };
     for _ in 0..jobs {
         match standard {
             true => lent.put_judged(&judged(gen)),
@@ -226,21 +268,16 @@ fn lent(gen: &mut Gen, jobs: u64, standard: bool) -> Lent {
 
 fn compare_rooms(path: &str, args: &Arguments) -> ExitCode {
     let mut gen = Gen::new(args.number("--seed", 1));
-    let [mut calls, mut loose, mut full, mut not_full, mut others, mut unallowed] = [0; 6];
+    let mut tally = Tally::default();
     let (mut differences, mut left) = (0, args.number("--jobs", 1000));
     while left > 0 {
         let jobs = left.min(2000);
         left -= jobs;
-        let lent = lent(&mut gen, jobs, args.has("--standard"));
+        let lent = lent(&mut gen, jobs, args.has("--standard"), tally);
         let output = programs::ask(path, &lent.input);
         let output = String::from_utf8(output).expect("ASCII");
         assert_eq!(output.lines().count(), lent.lines.len(), "lines");
-        calls += lent.lines.len();
-        loose += lent.loose;
-        full += lent.full;
-        not_full += lent.not_full;
-        others += lent.others;
-        unallowed += lent.unallowed;
+        tally = lent.tally;
         for (got, wanted) in output.lines().zip(&lent.lines) {
             if got != wanted {
                 differences += 1;
@@ -250,8 +287,7 @@ fn compare_rooms(path: &str, args: &Arguments) -> ExitCode {
             }
         }
     }
-    println!("{calls} calls, {loose} of them in mode 2, {full} of operation 11, {not_full} of these not as operation 8, {others} under other limits than the standard ones, {unallowed} refused with 20");
-    println!("{differences} with a difference");
+    println!("{tally}\n{differences} with a difference");
     code(differences)
 }
 

@@ -76,7 +76,7 @@ impl Limited {
         format!(
             "under other limits than the standard ones\n{}forms of exactly their limit, and of one more\n{}\
              {} questions, {} of them under other limits, {} of these refused with 20; of all {} in mode 2, \
-             {} of operation 11, {} of these not as operation 8; \
+             {} of operation 11, {} of these not as operation 8, {} refused with 17; \
              {} judged by the model alone, with more than {NESTED} records around each other\n",
             self.others.lines(),
             self.edges.table(),
@@ -86,6 +86,7 @@ impl Limited {
             sum(Coverage::loose),
             sum(Coverage::full),
             sum(Coverage::not_full),
+            sum(Coverage::broken),
             self.left_out,
         )
     }

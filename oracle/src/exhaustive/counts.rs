@@ -3,7 +3,6 @@
 //! unknown, and where no walk looks.
 
 use super::{attr, set, Jobs};
-use crate::questions::operation::*;
 use crate::trees::{FunctionEntry, Sch, Ty, Val};
 
 /// The functions, and a name that is none of them.
@@ -115,20 +114,14 @@ fn held(v: &Val, w: &Val) -> Vec<(Ty, Val)> {
     ]
 }
 
-fn ask_both(jobs: &mut Jobs, ty: &Ty, value: &Val) {
-    let (ty, value) = (ty.form(), value.form());
-    jobs.ask(CONFORMS, 0, 0, &ty, &value);
-    jobs.ask(FULL, 0, 0, &ty, &value);
-}
-
 fn ask_all(jobs: &mut Jobs) {
     let ext = Ty::Ext(ASKED);
-    calls(3).iter().for_each(|v| ask_both(jobs, &ext, v));
+    calls(3).iter().for_each(|v| jobs.ask_both(&ext, v));
     for v in calls(2) {
-        around(&v).iter().for_each(|v| ask_both(jobs, &ext, v));
+        around(&v).iter().for_each(|v| jobs.ask_both(&ext, v));
         for w in arguments() {
             let held = held(&v, &w);
-            held.iter().for_each(|(ty, v)| ask_both(jobs, ty, v));
+            held.iter().for_each(|(ty, v)| jobs.ask_both(ty, v));
         }
     }
 }

@@ -125,14 +125,27 @@ impl Gen {
     }
 
     fn conformance_forms(&mut self, schema: &Sch) -> (Vec<u8>, Vec<u8>) {
-        let (ty, mut value) = match self.rng.percent(50) {
-            true => self.called(schema),
-            false => self.conforming(schema),
-        };
+        let (ty, mut value) = self.conformance(schema);
         if self.rng.percent(3) {
             self.spoil_value(&mut value);
         }
         (self.form(ty), value.form())
+    }
+
+    /// A type and a value, in some cases with a string that is not text.
+    pub fn conformance(&mut self, schema: &Sch) -> (Ty, Val) {
+        let (ty, mut value) = match self.rng.below(100) {
+            0..=44 => self.called(schema),
+            45..=89 => self.conforming(schema),
+            _ => self.texted(schema),
+        };
+        if self.rng.percent(20) {
+            self.plant_string(&mut value);
+        }
+        if self.rng.percent(20) {
+            self.break_text(&mut value);
+        }
+        (ty, value)
     }
 
     /// A type, and a value that was made for it and then changed.
@@ -191,10 +204,14 @@ impl Gen {
     }
 
     fn literal(&mut self) -> Vec<u8> {
-        match self.rng.percent(8) {
-            true => self.value(2).form(),
-            false => self.uid().form(),
+        let mut value = match self.rng.percent(8) {
+            true => self.value(2),
+            false => self.uid(),
+        };
+        if self.rng.percent(50) {
+            self.break_text(&mut value);
         }
+        value.form()
     }
 }
 

@@ -7,32 +7,6 @@ use crate::trees::{Attr, FunctionEntry, Sch, Ty, Val};
 /// A call's function and arguments.
 type CallParts<'v> = (&'v mut u16, &'v mut Vec<Val>);
 
-/// The call at a place of the value, counted from the outermost.
-fn call_at<'v>(value: &'v mut Val, left: &mut usize) -> Option<CallParts<'v>> {
-    match value {
-        Val::Call(name, args) => {
-            if *left == 0 {
-                return Some((name, args));
-            }
-            *left -= 1;
-            args.iter_mut().find_map(|v| call_at(v, left))
-        }
-        Val::Set(values) => values.iter_mut().find_map(|v| call_at(v, left)),
-        Val::Rec(pairs) => pairs.iter_mut().find_map(|(_, v)| call_at(v, left)),
-        _ => None,
-    }
-}
-
-/// How many calls are in the value.
-fn calls(value: &Val) -> usize {
-    match value {
-        Val::Call(_, args) => 1 + args.iter().map(calls).sum::<usize>(),
-        Val::Set(values) => values.iter().map(calls).sum(),
-        Val::Rec(pairs) => pairs.iter().map(|(_, v)| calls(v)).sum(),
-        _ => 0,
-    }
-}
-
 /// The functions that return the extension and can be called with what they
 /// declare, so many calls deep.
 fn callable(schema: &Sch, extension: u16, depth: usize) -> Vec<&FunctionEntry> {
@@ -95,7 +69,7 @@ impl Gen {
 
     /// An extension that some function returns, if there is one; mostly of a
     /// function that can be called.
-    fn returned(&mut self, schema: &Sch) -> u16 {
+    pub fn returned(&mut self, schema: &Sch) -> u16 {
         let returned = schema.functions.iter().filter_map(|f| f.returns);
         let returned: Vec<u16> = match self.rng.percent(80) {
             true => returned
@@ -171,7 +145,7 @@ impl Gen {
 
     /// A call of a function that returns the extension, with the arguments that
     /// it declares, so many calls deep at most.
-    fn counted_call(&mut self, extension: u16, schema: &Sch, depth: usize) -> Val {
+    pub fn counted_call(&mut self, extension: u16, schema: &Sch, depth: usize) -> Val {
         let mut able = callable(schema, extension, depth);
         if able.is_empty() {
             return Val::Call(*self.rng.pick(FUNCTIONS), Vec::new());
@@ -195,8 +169,10 @@ impl Gen {
 
     /// Some call of a value.
     fn some_call<'v>(&mut self, value: &'v mut Val) -> Option<CallParts<'v>> {
-        let mut place = self.rng.below(calls(value).max(1));
-        call_at(value, &mut place)
+        match self.some_part(value, |v| matches!(v, Val::Call(..)))? {
+            Val::Call(name, args) => Some((name, args)),
+            _ => None,
+        }
     }
 
     /// Change one call: mostly its count, or its function to one that is not in

@@ -109,8 +109,12 @@ impl Gen {
         let levels = self.level_edge();
         let leaf = self.ty(1);
         let form = self.below_holders(leaf, levels).form();
-        let (leaf, holders) = (self.value(1), self.level_edge() - 1);
-        let value = self.nest(leaf, holders).form();
+        let (leaf, holders) = (self.leaf(), self.level_edge() - 1);
+        let mut value = self.nest(leaf, holders);
+        if self.rng.percent(40) {
+            self.break_text(&mut value);
+        }
+        let value = value.form();
         let list = list_form(&[vec![0], form.clone()]);
         let (mode, none) = (self.rng.mode(), Vec::new);
         let mut asks = vec![

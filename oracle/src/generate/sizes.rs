@@ -103,12 +103,20 @@ impl Gen {
 
     fn sized_values(&mut self, asks: &mut Vec<Ask>) {
         let length = self.edge();
-        let string = Val::Str(vec![200; length - 3]).form();
+        let string = Val::Str(self.sized_text(length - 3)).form();
         asks.push(ask(CONFORMS, 0, 0, vec![5], string.clone()));
         asks.push(ask(FULL, 0, 0, vec![5], string));
-        let set = Val::Set(vec![Val::Str(vec![65; length - 8])]).form();
+        let set = Val::Set(vec![Val::Str(self.sized_text(length - 8))]).form();
         asks.push(ask(CONFORMS, 0, 0, vec![7, 5], set.clone()));
         asks.push(ask(LITERAL, 0, 0, set, Vec::new()));
+    }
+
+    /// So many bytes that are text, or are not.
+    fn sized_text(&mut self, length: usize) -> Vec<u8> {
+        match self.rng.percent(60) {
+            true => self.text_of(length),
+            false => self.broken_text_of(length),
+        }
     }
 
     /// Two unions whose union has so many names, below so many sets.

@@ -40,14 +40,6 @@ impl Gen {
         Val::Long(self.rng.next().to_le_bytes())
     }
 
-    fn string(&mut self) -> Val {
-        let n = match self.rng.percent(1) {
-            true => self.rng.from(254, 300),
-            false => self.rng.below(5),
-        };
-        Val::Str((0..n).map(|_| self.rng.below(256) as u8).collect())
-    }
-
     pub fn uid(&mut self) -> Val {
         let ty = match self.rng.percent(50) {
             true => *self.rng.pick(ENTITIES),
@@ -96,9 +88,15 @@ impl Gen {
     }
 
     fn extra_pair(&mut self, pairs: &mut Vec<(u16, Val)>) {
+        let value = self.value(2);
+        self.put_pair(pairs, value);
+    }
+
+    /// Put a pair in, if its name is not there.
+    pub fn put_pair(&mut self, pairs: &mut Vec<(u16, Val)>, value: Val) {
         let name = *self.rng.pick(ATTRS);
         if pairs.iter().all(|p| p.0 != name) {
-            pairs.push((name, self.value(2)));
+            pairs.push((name, value));
             pairs.sort_by_key(|p| p.0);
         }
     }
@@ -190,9 +188,17 @@ impl Gen {
     /// A nest around a value, of three levels less than the most to two more.
     pub fn deep_value(&mut self) -> Val {
         let most = self.limits.levels;
-        let value = self.value(1);
+        let value = self.leaf();
         let holders = self.rng.from(most.saturating_sub(4), most + 1);
         self.nest(value, holders)
+    }
+
+    /// A value of one level, mostly a string.
+    pub fn leaf(&mut self) -> Val {
+        match self.rng.percent(50) {
+            true => self.string(),
+            false => self.value(1),
+        }
     }
 
     /// The value below so many holders.

@@ -8,7 +8,7 @@ use crate::questions::{operation::*, Call, Outcome, Part};
 use crate::trees::{Attr, Sch, Ty, Val};
 
 /// A question: its number if the answer is no.
-fn ask(number: u8, yes: bool) -> Result<(), u8> {
+pub fn ask(number: u8, yes: bool) -> Result<(), u8> {
     match yes {
         true => Ok(()),
         false => Err(number),
@@ -51,7 +51,7 @@ impl Rules {
             true => self.whole_schema(limits, call.schema),
             false => None,
         };
-        self.answer_under(&call, &schema)
+        self.unexamining(422).answer_under(&call, &schema)
     }
 
     fn limits_pass(self, call: &Call<'_>) -> bool {
@@ -85,6 +85,7 @@ impl Rules {
             let schema = self.whole_schema(call.limits.nearest(), call.schema);
             ask(2, schema.is_some())?;
         }
+        self.text_asked_early(425, call.limits.nearest(), call)?;
         ask(20, self.limits_pass(call))
     }
 
@@ -258,16 +259,20 @@ impl Rules {
         if full && self.fault(342) {
             self.first(call)?;
         }
+        self.text_asked_early(414, call.limits, call)?;
         let schema = schema.as_ref().ok_or(2)?;
         if self.fault(183) || (full && self.fault(341)) {
             ask(5, self.whole_value(call.limits, call.t1).is_some())?;
         }
+        self.text_asked_early(413, call.limits, call)?;
         let ty = self.first(call)?;
-        let value = self.whole_value(call.limits, call.t1).ok_or(5)?;
+        let value = self.whole_value(call.limits, call.t1);
+        let value = value.ok_or_else(|| self.not_whole(call))?;
         let walk = match full || self.fault(312) {
             true => self.conforms_fully(schema, &ty, &value),
             false => self.conforms(Counts::Any, schema, &ty, &value),
         };
+        self.text_asked(call, schema, &ty, &value, walk)?;
         match walk {
             _ if self.ends_early(298, [value.levels()]) => said(false),
             _ if self.ends_early(299, [ty.levels()]) => said(false),
@@ -282,6 +287,7 @@ impl Rules {
         let (ty, id) = match value {
             Val::Uid(ty, id) => (ty, id),
             _ if self.fault(194) => return Ok(Outcome::Nothing),
+            other if self.fault(418) && !self.strings_are_text(&other) => return Err(17),
             _ => return Err(5),
         };
         match self.literal(schema, ty, id) {

@@ -144,7 +144,13 @@ impl Rules {
     }
 
     /// The stand-in's rule for one argument.
-    fn argument_fits(self, counts: Counts, schema: &Sch, expected: (u8, u16), arg: &Val) -> Walk {
+    pub fn argument_fits(
+        self,
+        counts: Counts,
+        schema: &Sch,
+        expected: (u8, u16),
+        arg: &Val,
+    ) -> Walk {
         match (expected.0, arg) {
             (1, Val::Bool(_)) | (2, Val::Long(_)) | (3, Val::Str(_)) => Yes,
             (4, Val::Call(name, args)) => {

@@ -90,14 +90,11 @@ fn miscounted(schema: &Sch, name: u16, args: &[Val]) -> bool {
 
 /// Is no call miscounted, anywhere in the value?
 fn all_counted(schema: &Sch, value: &Val) -> bool {
-    match value {
-        Val::Call(name, args) => {
-            !miscounted(schema, *name, args) && args.iter().all(|v| all_counted(schema, v))
-        }
-        Val::Set(values) => values.iter().all(|v| all_counted(schema, v)),
-        Val::Rec(pairs) => pairs.iter().all(|(_, v)| all_counted(schema, v)),
+    let own = match value {
+        Val::Call(name, args) => !miscounted(schema, *name, args),
         _ => true,
-    }
+    };
+    own && value.parts().all(|v| all_counted(schema, v))
 }
 
 /// Does any call satisfy the test that a walk reaches which no answer ends?

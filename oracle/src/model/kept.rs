@@ -48,7 +48,7 @@ impl Rules {
         };
         match refused.filter(|_| self.fault(283)) {
             Some(number) => Outcome::Refused(number),
-            None => self.answer_under(&call, &kept.schema),
+            None => self.unexamining(421).answer_under(&call, &kept.schema),
         }
     }
 

@@ -9,6 +9,8 @@ pub struct Reading<'a> {
     rules: Rules,
     bytes: &'a [u8],
     at: usize,
+    /// Was a string read that is not text, with the fault that asks so early?
+    broken: bool,
 }
 
 impl<'a> Reading<'a> {
@@ -17,6 +19,7 @@ impl<'a> Reading<'a> {
             rules,
             bytes,
             at: 0,
+            broken: false,
         }
     }
 
@@ -140,9 +143,7 @@ impl<'a> Reading<'a> {
                 if self.rules.fault(47) && n > 255 {
                     return None;
                 }
-                if self.rules.fault(20) && std::str::from_utf8(&bytes).is_err() {
-                    return None;
-                }
+                self.broken |= self.rules.fault(410) && !self.rules.text(&bytes);
                 Some(Val::Str(bytes))
             }
             4 => Some(Val::Uid(self.u16()?, self.u16()?)),
@@ -216,6 +217,13 @@ impl Rules {
         }
         let value = r.val(self.or(16, limits.levels, limits.levels + 1))?;
         (r.at_end() || self.fault(22)).then_some(value)
+    }
+
+    /// Is a string that is not text read before the form is found not whole?
+    pub fn reads_broken(self, limits: Limits, form: &[u8]) -> bool {
+        let mut r = Reading::new(self, form);
+        r.val(limits.levels);
+        r.broken
     }
 
     /// The largest of a block, which no limit changes.

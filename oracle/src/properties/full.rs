@@ -26,7 +26,7 @@ fn asked(tree: Sch, value: &Val) -> Option<Asked> {
     let (schema_form, form) = (tree.form(), value.form());
     Some(Asked {
         schema: read_schema(STANDARD, &schema_form)?,
-        value: read_value(STANDARD, &form)?,
+        value: read_value(STANDARD, &form).ok()?,
         tree,
         schema_form,
         form,

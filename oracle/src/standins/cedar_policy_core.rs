@@ -52,7 +52,7 @@ pub mod ast {
     pub enum RestrictedExpr {
         Bool(bool),
         Long(i64),
-        String(Vec<u8>),
+        String(String),
         Euid(EntityUID),
         Set(Vec<RestrictedExpr>),
         Record(Vec<(SmolStr, RestrictedExpr)>),
@@ -110,7 +110,7 @@ pub mod ast {
             }
         }
 
-        pub fn as_string(&self) -> Option<&'a [u8]> {
+        pub fn as_string(&self) -> Option<&'a str> {
             match self.0 {
                 RestrictedExpr::String(s) => Some(s),
                 _ => None,
