@@ -50,6 +50,17 @@ impl Tallies {
             tally.smallest = Some(text);
         }
     }
+
+    /// Panics unless there are so many claims, each tried more than so often, and
+    /// just those failed that must.
+    pub fn expect(&self, claims: usize, tried: u64, failing: &[&str]) {
+        assert_eq!(self.0.len(), claims);
+        for (name, tally) in &self.0 {
+            assert!(tally.tried > tried, "{name}");
+            let fails = failing.contains(name);
+            assert_eq!(tally.failed > 0, fails, "{name}: {:?}", tally.smallest);
+        }
+    }
 }
 
 /// The claims that are not about limits are tried under these.

@@ -249,10 +249,5 @@ const FAILING: &str = "full: it is as operation 8, some count does not fit";
 fn claims_hold() {
     let (mut gen, mut tallies) = (Gen::new(4), Tallies::default());
     (0..20_000).for_each(|_| try_full(&mut gen, &mut tallies));
-    assert_eq!(tallies.0.len(), 10);
-    for (name, tally) in &tallies.0 {
-        assert!(tally.tried > 1000, "{name}");
-        let fails = *name == FAILING;
-        assert_eq!(tally.failed > 0, fails, "{name}: {:?}", tally.smallest);
-    }
+    tallies.expect(10, 1000, &[FAILING]);
 }

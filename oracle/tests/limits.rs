@@ -231,9 +231,5 @@ fn calls_of_rooms() {
 fn claims_hold() {
     let (mut gen, mut tallies) = (Gen::new(4), Tallies::default());
     (0..5_000).for_each(|_| try_limits(&mut gen, &mut tallies));
-    assert_eq!(tallies.0.len(), 4);
-    for (name, tally) in &tallies.0 {
-        assert!(tally.tried > 1000, "{name}");
-        assert_eq!(tally.failed, 0, "{name}: {:?}", tally.smallest);
-    }
+    tallies.expect(4, 1000, &[]);
 }

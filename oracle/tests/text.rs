@@ -299,10 +299,5 @@ const FAILING: &str = "text: strings that are UTF-8 joined are so each";
 fn claims_hold() {
     let (mut gen, mut tallies) = (Gen::new(4), Tallies::default());
     (0..20_000).for_each(|_| try_text(&mut gen, &mut tallies));
-    assert_eq!(tallies.0.len(), 6);
-    for (name, tally) in &tallies.0 {
-        assert!(tally.tried > 1000, "{name}");
-        let fails = *name == FAILING;
-        assert_eq!(tally.failed > 0, fails, "{name}: {:?}", tally.smallest);
-    }
+    tallies.expect(6, 1000, &[FAILING]);
 }
