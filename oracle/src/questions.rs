@@ -57,6 +57,23 @@ pub struct Call<'a> {
     pub work: usize,
 }
 
+impl<'a> Call<'a> {
+    /// At the standard limits, strict, without a buffer.
+    pub fn plain(op: u8, schema: &'a [u8], t0: &'a [u8], t1: &'a [u8]) -> Call<'a> {
+        Call {
+            limits: Limits::STANDARD,
+            op,
+            mode: 0,
+            attr: 0,
+            schema,
+            t0,
+            t1,
+            room: 0,
+            work: 0,
+        }
+    }
+}
+
 /// What a call gives.
 #[derive(Clone, Debug, PartialEq, Eq)]
 pub enum Outcome {

@@ -6,7 +6,6 @@ use oracle::exhaustive;
 use oracle::generate::Gen;
 use oracle::harness::check_call;
 use oracle::jobs::{lines, read_job};
-use oracle::limits::Limits;
 use oracle::model::Rules;
 use oracle::properties::{try_full, Tallies};
 use oracle::questions::{answer, operation::*, Call, Outcome};
@@ -19,20 +18,6 @@ const UNKNOWN: Outcome = Outcome::Refused(7);
 fn hex(text: &str) -> Vec<u8> {
     let byte = |at: usize| u8::from_str_radix(&text[at..at + 2], 16).unwrap();
     (0..text.len()).step_by(2).map(byte).collect()
-}
-
-fn call<'a>(op: u8, schema: &'a [u8], t0: &'a [u8], t1: &'a [u8]) -> Call<'a> {
-    Call {
-        limits: Limits::STANDARD,
-        op,
-        mode: 0,
-        attr: 0,
-        schema,
-        t0,
-        t1,
-        room: 0,
-        work: 0,
-    }
 }
 
 /// Extension 7 is returned by 2, of no argument, by 3, of a Bool, by 4, of an
@@ -73,7 +58,7 @@ fn attr(name: u16, required: bool, ty: Ty) -> Attr {
 /// What operations 8 and 11 give.
 fn both(ty: &Ty, value: &Val) -> [Outcome; 2] {
     let (schema, ty, value) = (schema().form(), ty.form(), value.form());
-    [CONFORMS, FULL].map(|op| answer(&call(op, &schema, &ty, &value)))
+    [CONFORMS, FULL].map(|op| answer(&Call::plain(op, &schema, &ty, &value)))
 }
 
 /// Operation 8 says yes.
@@ -92,7 +77,7 @@ fn settled() {
         hex("070c0700"),
         hex("0502000800050007020001000100010709000000"),
     );
-    let asked = |op| answer(&call(op, &schema, &ty, &value));
+    let asked = |op| answer(&Call::plain(op, &schema, &ty, &value));
     assert_eq!(asked(CONFORMS), UNKNOWN);
     assert_eq!(asked(FULL), NO);
 }
@@ -178,7 +163,7 @@ fn calls_that_no_walk_reaches() {
 fn refusals() {
     let schema = schema().form();
     for op in [CONFORMS, FULL] {
-        let refused = |s: &[u8], t: &[u8], v: &[u8]| answer(&call(op, s, t, v));
+        let refused = |s: &[u8], t: &[u8], v: &[u8]| answer(&Call::plain(op, s, t, v));
         assert_eq!(refused(&[13], &[13], &[13]), Outcome::Refused(2));
         assert_eq!(refused(&schema, &[13], &[13]), Outcome::Refused(3));
         assert_eq!(refused(&schema, &[4], &[13]), Outcome::Refused(5));
@@ -210,7 +195,7 @@ fn candidates() {
     let call = Call {
         room: 9,
         work: 9,
-        ..call(FULL, &schema, &ty, &value)
+        ..Call::plain(FULL, &schema, &ty, &value)
     };
     let candidates: [&mut dyn Candidate; 3] = [
         &mut Oracle,
@@ -230,7 +215,7 @@ fn small_questions() {
         let job = read_job(&job).expect("whole");
         for q in job.questions.iter().filter(|q| q.op == FULL) {
             let full = answer(&q.call(job.schema));
-            let conforms = answer(&call(CONFORMS, job.schema, q.t0, q.t1));
+            let conforms = answer(&Call::plain(CONFORMS, job.schema, q.t0, q.t1));
             match (&conforms, &full) {
                 (a, b) if a == b => seen[0] += 1,
                 (&Outcome::Yes, &Outcome::No) => seen[1] += 1,

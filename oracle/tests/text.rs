@@ -16,20 +16,6 @@ const YES: Outcome = Outcome::Yes;
 const NO: Outcome = Outcome::No;
 const NOT_TEXT: Outcome = Outcome::Refused(17);
 
-fn call<'a>(op: u8, schema: &'a [u8], t0: &'a [u8], t1: &'a [u8]) -> Call<'a> {
-    Call {
-        limits: Limits::STANDARD,
-        op,
-        mode: 0,
-        attr: 0,
-        schema,
-        t0,
-        t1,
-        room: 0,
-        work: 0,
-    }
-}
-
 /// Extension 7 is returned by 2, of no argument, and by 3, of a String.
 fn schema() -> Sch {
     let function = |name, args: &[(u8, u16)]| FunctionEntry {
@@ -77,7 +63,7 @@ const EXTENSION: Ty = Ty::Ext(7);
 /// What operations 8 and 11 give.
 fn both(ty: &Ty, value: &Val) -> [Outcome; 2] {
     let (schema, ty, value) = (schema().form(), ty.form(), value.form());
-    [CONFORMS, FULL].map(|op| answer(&call(op, &schema, &ty, &value)))
+    [CONFORMS, FULL].map(|op| answer(&Call::plain(op, &schema, &ty, &value)))
 }
 
 /// Both refuse the value with its string broken, and not with text in its
@@ -186,7 +172,7 @@ fn order() {
     let broken = broken().form();
     let over = [broken.as_slice(), &[0]].concat();
     for op in [CONFORMS, FULL] {
-        let asked = |s: &[u8], t: &[u8], v: &[u8]| answer(&call(op, s, t, v));
+        let asked = |s: &[u8], t: &[u8], v: &[u8]| answer(&Call::plain(op, s, t, v));
         assert_eq!(asked(&[13], &[5], &broken), Outcome::Refused(2));
         assert_eq!(asked(&schema, &[13], &broken), Outcome::Refused(3));
         assert_eq!(asked(&schema, &[5], &over), Outcome::Refused(5));
@@ -197,7 +183,7 @@ fn order() {
         };
         let outside = Call {
             limits,
-            ..call(op, &schema, &[5], &broken)
+            ..Call::plain(op, &schema, &[5], &broken)
         };
         assert_eq!(answer(&outside), Outcome::Refused(20));
     }
@@ -213,7 +199,7 @@ fn order() {
 fn literals() {
     for value in [text(), broken(), Val::Set(vec![broken()])] {
         let (schema, form) = (schema().form(), value.form());
-        let outcome = answer(&call(LITERAL, &schema, &form, &[]));
+        let outcome = answer(&Call::plain(LITERAL, &schema, &form, &[]));
         assert_eq!(outcome, Outcome::Refused(5));
     }
 }
@@ -258,7 +244,7 @@ fn candidates() {
                 limits,
                 room: 9,
                 work: 9,
-                ..call(FULL, &schema, &[6], value)
+                ..Call::plain(FULL, &schema, &[6], value)
             };
             assert_eq!(check_call(candidate, &call, &NOT_TEXT), None);
         }
