@@ -90,3 +90,17 @@ allNames fits s (rec o xs) = ok (names xs)
 allNames fits s (act n xs) = ok (names xs)
 allNames fits s (ent ns) = entityNames fits s ns
 allNames fits s (ext n) = ok []
+
+-- The types that a name has in those of some entity types that list it.
+abbrev pub listedBodies : Schema → ℕ → List ℕ → List Ty
+listedBodies s a [] = []
+listedBodies s a (n ∷ ns) = maybe (listedBodies s a ns) (λ y. y .1 ∷ listedBodies s a ns) (attrOf s a n)
+
+-- The bodies that a lookup joins: an entity's, or the one of a record or action.
+abbrev pub joinedBodies : Schema → ℕ → Ty → List Ty
+joinedBodies s a (atom k) = []
+joinedBodies s a (set t) = []
+joinedBodies s a (rec o xs) = maybe [] (λ y. y .1 ∷ []) (find a xs)
+joinedBodies s a (act n xs) = maybe [] (λ y. y .1 ∷ []) (find a xs)
+joinedBodies s a (ent ns) = listedBodies s a ns
+joinedBodies s a (ext n) = []

@@ -9,11 +9,13 @@ use lib.ListN.{length}
 use Rattle.cedar.specs.Types.{Mode, strict, permissive, loose, Ty, maybe}
 use Rattle.cedar.specs.Bytes.{encNames, _>>=_, guard}
 use Rattle.cedar.specs.TypeForm.{enc}
+use Rattle.cedar.specs.ValueForm.{encValue}
+use Rattle.cedar.specs.Levels.{depth, depthValue}
 use Rattle.cedar.specs.Limits.{Limits, allowed}
 use Rattle.cedar.specs.Whole.{wholeType, wholeValue, wholeList, wholeSchema}
 use Rattle.cedar.specs.Result.{Result, ok, err, badMode, badSchema, badFirst, badSecond, badValue, notPlain, unknownFunction, notConvertible}
 use Rattle.cedar.specs.Result.{answerTooLong, badText, badLimits}
-use Rattle.cedar.specs.Outcome.{Outcome, refused, said, nothing, typed, attribute, named}
+use Rattle.cedar.specs.Outcome.{Outcome, refused, said, nothing, measured, typed, attribute, named}
 use Rattle.cedar.specs.Text.{textual}
 use Rattle.cedar.specs.Disjoint.{disjoint}
 use Rattle.cedar.specs.Subtype.{sub}
@@ -70,6 +72,21 @@ ofVerdict holds = said true
 ofVerdict fails = said false
 ofVerdict failsInside = said false
 ofVerdict unknown = refused unknownFunction
+
+-- Measuring a type: how long its form is, and how many levels it has.
+abbrev pub measureTypeCall : Limits → List ℕ → Outcome
+measureTypeCall lim t =
+    ask badLimits (guard (allowed lim)) λ _.
+    ask badFirst (wholeType lim t) λ a.
+    measured (length (enc a)) (depth a)
+
+-- Measuring a value.
+abbrev pub measureValueCall : Limits → List ℕ → Outcome
+measureValueCall lim v =
+    ask badLimits (guard (allowed lim)) λ _.
+    ask badValue (wholeValue lim v) λ x.
+    ask badText (guard (textual x)) λ _.
+    measured (length (encValue x)) (depthValue x)
 
 -- Part 2, `euid_literal`.
 abbrev pub literalCall : Limits → List ℕ → List ℕ → ℕ → Outcome

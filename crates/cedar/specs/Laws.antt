@@ -29,10 +29,12 @@ pub mod SubtypeSound
 pub mod BoundSound
 pub mod DisjointSound
 pub mod Lookup
+pub mod Depth
 pub mod BodyPlace
 pub mod AttributeSound
 pub mod Limits
 pub mod Calls
+pub mod Levels
 pub mod Textual
 pub mod Carried
 pub mod Sequence

@@ -3,6 +3,7 @@ pub mod Types
 pub mod Bytes
 pub mod Table
 pub mod Limits
+pub mod Levels
 pub mod TypeForm
 pub mod ValueForm
 pub mod ListForm

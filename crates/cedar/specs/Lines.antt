@@ -6,7 +6,7 @@ use lib.Dec.{ltb}
 use Rattle.cedar.specs.Types.{maybe}
 use Rattle.cedar.specs.Limits.{Limits, standard}
 use Rattle.cedar.specs.Result.{badJob}
-use Rattle.cedar.specs.Outcome.{Outcome, refused, said, nothing, typed, attribute, named, bytesOf}
+use Rattle.cedar.specs.Outcome.{Outcome, refused, said, nothing, measured, typed, attribute, named, bytesOf}
 use Rattle.cedar.specs.Calls.{literalCall, disjointCall, subtypeCall, boundCall, foldCall, lookupCall, mayHaveCall, namesCall, consistentCall}
 use Rattle.cedar.specs.Calls.{convertCall, conformsCall, fullCall}
 use Rattle.cedar.specs.JobForm.{Operation, subtypeOp, boundOp, disjointOp, lookupOp, mayHaveOp, namesOp, consistentOp, convertOp, conformsOp, foldOp}
@@ -63,16 +63,18 @@ abbrev pub numberOf : Outcome → ℕ
 numberOf (refused n) = n
 numberOf (said b) = 0
 numberOf nothing = 0
+numberOf (measured n l) = 0
 numberOf (typed t) = 0
 numberOf (attribute r t) = 0
 numberOf (named ns) = 0
 
--- What stands before an answer's bytes, or the whole answer: -, yes, no, none, r:, o:.
+-- What stands before an answer's bytes, or the whole answer: -, yes, no, none, r:, o:. No question of a job measures.
 abbrev pub answerText : Outcome → List ℕ
 answerText (refused n) = 45 ∷ []
 answerText (said true) = 121 ∷ 101 ∷ 115 ∷ []
 answerText (said false) = 110 ∷ 111 ∷ []
 answerText nothing = 110 ∷ 111 ∷ 110 ∷ 101 ∷ []
+answerText (measured n l) = []
 answerText (typed t) = []
 answerText (attribute true t) = 114 ∷ 58 ∷ []
 answerText (attribute false t) = 111 ∷ 58 ∷ []

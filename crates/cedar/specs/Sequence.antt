@@ -18,7 +18,7 @@ use Rattle.cedar.specs.Whole.{wholeSchema, wholeValue}
 use Rattle.cedar.specs.Attribute.{entityOf}
 use Rattle.cedar.specs.Conformance.{Counts, pairs}
 use Rattle.cedar.specs.Conforms.{Conforms}
-use Rattle.cedar.specs.Outcome.{Outcome, refused, said, nothing, typed, attribute, named}
+use Rattle.cedar.specs.Outcome.{Outcome, refused, said, nothing, measured, typed, attribute, named}
 use Rattle.cedar.specs.Calls.{disjointCall, boundCall, lookupCall, ownAttributeCall, mayHaveCall}
 
 -- A type on the list: its bytes, and the positions of all that it was made from.
@@ -54,6 +54,7 @@ abbrev pub written : Outcome → Option (List ℕ)
 written (refused n) = none
 written (said b) = none
 written nothing = none
+written (measured n l) = none
 written (typed t) = some (enc t)
 written (attribute r t) = none
 written (named ns) = none

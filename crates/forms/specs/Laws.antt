@@ -2,6 +2,7 @@
 pub mod Parts
 pub mod Rows
 pub mod Ahead
+pub mod Bodies
 pub mod Types
 pub mod Sure
 pub mod RowsTwin

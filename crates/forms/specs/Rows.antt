@@ -1,7 +1,7 @@
 -- Tables in the borrow checker's terms: entries of one width, then their bodies. Assumes nothing: these are definitions.
 use Prim.Native.Nat.{ℕ, zero, suc, _+_, _*_, _-_}
 use mathlib.Core.List.{List, [], _∷_}
-use mathlib.Core.Bool.{Bool, _&&_}
+use mathlib.Core.Bool.{Bool, true, _&&_}
 use lib.Dec.{eqb, leb}
 use lib.ListN.{length}
 use Rattle.forms.specs.Parts.{part, rest, rd}
@@ -41,6 +41,10 @@ module _ {S H : Type 0} where
   -- Where the entries of a table end whose count stands at c.
   abbrev pub tableEnd : Row S H → ℕ → List ℕ → ℕ
   tableEnd r c b = c + 2 + r .width * rd b c
+
+-- An entry of a width, of which the length alone is looked at.
+abbrev pub bodyRow : ℕ → Row (Unit {0}) (Unit {0})
+bodyRow width = record { width = width; ok = λ s es. true; next = λ es. tt; head = λ es. tt }
 
 -- No byte over.
 abbrev pub noneLeft : List ℕ → Bool

@@ -9,9 +9,9 @@ ghost use mathlib.Core.Path.{_≡_};
 ghost use mathlib.Core.Bool.{true};
 ghost use Prim.Native.Nat.{_<_, _≤_};
 ghost use Rattle.cedar.specs.Text.{textual, textualValues};
-ghost use Rattle.forms.specs.Rows.{tableFits};
+ghost use Rattle.forms.specs.Rows.{bodyRow, tableFits};
 ghost use Rattle.forms.specs.ValueBytes.{wholeV, decV};
-ghost use Rattle.strings.specs.Bodies.{bodyRow, bodiesAt};
+ghost use Rattle.strings.specs.Bodies.{bodiesAt};
 
 // Whether every string of the bodies is text, in a table whose count stands at `at` and whose entries have this width. The outermost
 // table is first looked at as one run of bytes: where none is above 127, nor is any in a string.

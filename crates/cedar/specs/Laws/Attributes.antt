@@ -8,7 +8,8 @@ use mathlib.Core.Option.{Option, none, some, Option·some-injective}
 use lib.Dec.{T, eqb}
 use lib.ListN.{length}
 use Rattle.cedar.specs.Types.{Ty, Attrs, nil, attr, present, eqNames, mem, names, find}
-use Rattle.cedar.specs.Laws.Shape.{Ascend, depth, depths, Ordered, OrderedFrom}
+use Rattle.cedar.specs.Levels.{depth, depths}
+use Rattle.cedar.specs.Laws.Shape.{Ascend, Ordered, OrderedFrom}
 use Rattle.cedar.specs.TypeForm.{count}
 use Rattle.cedar.specs.Laws.Tests.{T→true, cond-case, none-some, none-of, eqb-equal, eqb-false}
 use Rattle.cedar.specs.Laws.Equality.{eqNames→eq}

@@ -12,7 +12,7 @@ use Rattle.cedar.specs.TypeForm.{enc}
 use Rattle.cedar.specs.Limits.{Limits, allowed}
 use Rattle.cedar.specs.Whole.{wholeType, wholeValue, wholeSchema}
 use Rattle.cedar.specs.Result.{Result, ok, err, answerTooLong, badText, badLimits}
-use Rattle.cedar.specs.Outcome.{Outcome, refused, said, nothing, typed, attribute, named}
+use Rattle.cedar.specs.Outcome.{Outcome, refused, said, nothing, measured, typed, attribute, named}
 use Rattle.cedar.specs.Text.{textual}
 use Rattle.cedar.specs.Disjoint.{disjoint}
 use Rattle.cedar.specs.Bound.{bound}
@@ -30,6 +30,7 @@ abbrev pub Answer : Outcome → Type 0
 Answer (refused n) = ⊥
 Answer (said b) = Unit {0}
 Answer nothing = Unit {0}
+Answer (measured n l) = Unit {0}
 Answer (typed t) = Unit {0}
 Answer (attribute r t) = Unit {0}
 Answer (named ns) = Unit {0}

@@ -9,7 +9,8 @@ use mathlib.Core.Option.{Option, none, some, Option·some-injective}
 use lib.Dec.{T, eqb, eqb→eq}
 use lib.ListN.{length, length-append}
 use Rattle.cedar.specs.Types.{Ty, rec, Attrs, Value, boolean, number, text, uid, setOf, recordOf, call, Pairs, empty, pair, Entity, Schema, present}
-use Rattle.cedar.specs.Laws.Shape.{depthValue, depthPairs, OrderedValue, OrderedPairs}
+use Rattle.cedar.specs.Levels.{depthValue, depthPairs}
+use Rattle.cedar.specs.Laws.Shape.{OrderedValue, OrderedPairs}
 use Rattle.cedar.specs.Bytes.{_>>=_, Bytes}
 use Rattle.cedar.specs.ValueForm.{encValue, entriesOf, valuesOf}
 use Rattle.cedar.specs.SchemaForm.{encBody}

@@ -11,7 +11,8 @@ use lib.ListN.{length}
 use lib.Dec.{T, eqb, eqb→eq}
 use Rattle.cedar.specs.Types.{Mode, strict, isPermissive, isLoose, bool, anyset, anyent, Ty, atom, set, rec, act, ent, ext, Attrs, nil, attr}
 use Rattle.cedar.specs.Types.{present, asSet, asRec, asAct, asEnt, eqFlag, eqNames, names, find, isEntity, isRecord}
-use Rattle.cedar.specs.Laws.Shape.{Ascend, Ordered, OrderedFrom, depth, depths, WF}
+use Rattle.cedar.specs.Levels.{depth, depths}
+use Rattle.cedar.specs.Laws.Shape.{Ascend, Ordered, OrderedFrom, WF}
 use Rattle.cedar.specs.Subtype.{sub}
 use Rattle.cedar.specs.Result.{Result, ok, err}
 use Rattle.cedar.specs.Bound.{union, apart, isTruth, lost, upper, sameNames, absent, joinEqual, joinKept, joinOne, joinSet, joinNames, bound, joinAttrs}

@@ -9,7 +9,7 @@ use Rattle.cedar.specs.Result.{badLimits}
 use Rattle.cedar.specs.Outcome.{refused}
 use Rattle.cedar.specs.Conformance.{Counts}
 use Rattle.cedar.specs.Calls.{literalCall, disjointCall, subtypeCall, boundCall, foldCall, lookupCall, ownAttributeCall, mayHaveCall, namesCall}
-use Rattle.cedar.specs.Calls.{consistentCall, convertCall, conformsBy}
+use Rattle.cedar.specs.Calls.{consistentCall, convertCall, conformsBy, measureTypeCall, measureValueCall}
 use Rattle.cedar.specs.Laws.Tests.{T-and}
 
 -- The programs' limits are allowed.
@@ -36,6 +36,12 @@ module _ (lim : Limits) (h : allowed lim ≡ true) where
 
 -- Under limits out of their ranges every call is refused by 20, whatever else it was given.
 module _ (lim : Limits) (h : allowed lim ≡ false) where
+  pub measure-type-refused : (t : List ℕ) → measureTypeCall lim t ≡ refused badLimits
+  measure-type-refused t = rw h refl
+
+  pub measure-value-refused : (v : List ℕ) → measureValueCall lim v ≡ refused badLimits
+  measure-value-refused v = rw h refl
+
   pub literal-refused : (s v : List ℕ) (room : ℕ) → literalCall lim s v room ≡ refused badLimits
   literal-refused s v room = rw h refl
 

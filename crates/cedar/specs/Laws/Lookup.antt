@@ -6,7 +6,8 @@ use mathlib.Core.Bool.{Bool, _&&_}
 use mathlib.Core.Path.{_≡_, refl, subst}
 use mathlib.Core.Option.{Option, none, some, Option·some-injective}
 use Rattle.cedar.specs.Types.{permissive, Ty, atom, set, rec, act, ent, ext, Attrs, Entity, Schema, find}
-use Rattle.cedar.specs.Laws.Shape.{depth, depths, Ordered, OrderedFrom, WF}
+use Rattle.cedar.specs.Levels.{depth, depths}
+use Rattle.cedar.specs.Laws.Shape.{Ordered, OrderedFrom, WF}
 use Rattle.cedar.specs.Result.{Result, ok, err}
 use Rattle.cedar.specs.Bound.{bound}
 use Rattle.cedar.specs.Attribute.{entityOf, attrOf, stepped, foldAttr, lookupNames, lookup}

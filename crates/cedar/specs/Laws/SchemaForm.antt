@@ -17,6 +17,7 @@ use Rattle.cedar.specs.SchemaForm.{readEntity, readAction, readFunction,
 use Rattle.cedar.specs.SchemaForm.{actionsOf, functionsOf, parseSchema}
 use Rattle.cedar.specs.SchemaForm.{encBody}
 use Rattle.cedar.specs.Attribute.{entityIn}
+use Rattle.cedar.specs.Literal.{actionIn}
 use Rattle.cedar.specs.Limits.{maxEntities, maxActions, maxFunctions}
 use Rattle.cedar.specs.Laws.Encoders.{heads, tails, entityRows, actionRows, functionRows, writeEntity, writeAction, writeFunction, encArg, encArgs}
 use Rattle.cedar.specs.Laws.Encoders.{encSchema}
@@ -440,3 +441,11 @@ entityIn-good Good [] low n e w q = none-some q
 entityIn-good Good (d ∷ es) low n e w q = cond-case (eqb n (d .name)) q
     (λ t p. subst (λ (x : Entity). (n ≡ x .name) × Good (rec (x .isOpen) (x .attrs))) (Option·some-injective _ _ p) (eqb→eq n (d .name) t, w .3))
     (λ t p. entityIn-good Good es (suc (d .name)) n e (w .4) p)
+
+-- The body of an action entry that is found is good.
+pub actionIn-good : (Good : Ty → Type 0) (xs : List Action) (low : ℕ × ℕ) (k i : ℕ) (a : Action) → ActionsFrom Good low xs → actionIn xs k i ≡ some a →
+    Good (rec false (a .attrs))
+actionIn-good Good [] low k i a w q = none-some q
+actionIn-good Good (d ∷ xs) low k i a w q = cond-case (eqb k (d .type) && eqb i (d .id)) q
+    (λ t p. subst (λ (x : Action). Good (rec false (x .attrs))) (Option·some-injective _ _ p) (w .2))
+    (λ t p. actionIn-good Good xs (d .type, suc (d .id)) k i a (w .3) p)

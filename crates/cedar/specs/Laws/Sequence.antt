@@ -20,7 +20,7 @@ use Rattle.cedar.specs.Disjoint.{disjoint}
 use Rattle.cedar.specs.Attribute.{entityOf, ownAttr, lookup, mayHave}
 use Rattle.cedar.specs.Conformance.{holds, Counts, hasName, conforms}
 use Rattle.cedar.specs.Conforms.{Conforms}
-use Rattle.cedar.specs.Outcome.{Outcome, refused, said, nothing, typed, attribute, named}
+use Rattle.cedar.specs.Outcome.{Outcome, refused, said, nothing, measured, typed, attribute, named}
 use Rattle.cedar.specs.Calls.{stepFits, disjointCall, boundCall}
 use Rattle.cedar.specs.Sequence.{Listed, Step, standing, EachBytes, givenFrom, written, copied, afterStep, afterSteps, attributeOf, isActionForm, LooksUp}
 use Rattle.cedar.specs.Sequence.{Kept, RunKeeps}
@@ -238,6 +238,7 @@ module _ (lim : Limits) (small : lim .bytes < 65536) (c : Counts) (schema : List
   copied-good xs good j k x y ej ek mode room (refused n) e = good
   copied-good xs good j k x y ej ek mode room (said b) e = good
   copied-good xs good j k x y ej ek mode room nothing e = good
+  copied-good xs good j k x y ej ek mode room (measured n l) e = good
   copied-good xs good j k x y ej ek mode room (typed z) e = new-good xs good j k x y ej ek mode room z e
   copied-good xs good j k x y ej ek mode room (attribute r z) e = good
   copied-good xs good j k x y ej ek mode room (named ns) e = good

@@ -1,30 +1,16 @@
--- What forms have in common with trees: how many levels a tree has, and that its names are in order.
-use Prim.Native.Nat.{ℕ, suc, _≤_, max}
+-- What forms have in common with trees: their names are in order, within a number of levels.
+use Prim.Native.Nat.{ℕ, suc, _≤_}
 use mathlib.Core.List.{List, [], _∷_}
 use mathlib.Core.Path.{_≡_}
 use lib.ListN.{length}
 use Rattle.cedar.specs.Types.{Ty, atom, set, rec, act, ent, ext, Attrs, nil, attr}
 use Rattle.cedar.specs.Types.{Value, boolean, number, text, uid, setOf, recordOf, call, Values, end, value, Pairs, empty, pair}
+use Rattle.cedar.specs.Levels.{depth, depthValue}
 
 -- Names ascend strictly, from `low` on.
 abbrev pub Ascend : ℕ → List ℕ → Type 0
 Ascend low [] = Unit {0}
 Ascend low (n ∷ ns) = (low ≤ n) × Ascend (suc n) ns
-
-unfoldable mutual
-  -- The levels of a type: a lone form is level 1, each part one below its holder.
-  pub depth : Ty → ℕ
-  depth (atom k) = 1
-  depth (set t) = suc (depth t)
-  depth (rec o xs) = suc (depths xs)
-  depth (act n xs) = suc (depths xs)
-  depth (ent ns) = 1
-  depth (ext n) = 1
-
-  -- The levels of the deepest attribute.
-  pub depths : Attrs → ℕ
-  depths nil = 0
-  depths (attr n r t xs) = max (depth t) (depths xs)
 
 unfoldable mutual
   -- Names ascend throughout a type, and an entity has a name.
@@ -44,27 +30,6 @@ unfoldable mutual
 -- A type in order, of at most so many levels.
 abbrev pub WF : ℕ → Ty → Type 0
 WF l t = (depth t ≤ l) × Ordered t
-
-unfoldable mutual
-  -- The levels of a value.
-  pub depthValue : Value → ℕ
-  depthValue (boolean b) = 1
-  depthValue (number l) = 1
-  depthValue (text l) = 1
-  depthValue (uid k i) = 1
-  depthValue (setOf vs) = suc (depthValues vs)
-  depthValue (recordOf ps) = suc (depthPairs ps)
-  depthValue (call f vs) = suc (depthValues vs)
-
-  -- The levels of the deepest member or argument.
-  pub depthValues : Values → ℕ
-  depthValues end = 0
-  depthValues (value v vs) = max (depthValue v) (depthValues vs)
-
-  -- The levels of the deepest pair.
-  pub depthPairs : Pairs → ℕ
-  depthPairs empty = 0
-  depthPairs (pair n v ps) = max (depthValue v) (depthPairs ps)
 
 unfoldable mutual
   -- Names ascend throughout a value, and a Long has 8 bytes.

@@ -10,7 +10,8 @@ use lib.Dec.{leb, leb→le, le→leb}
 use lib.ListN.{length}
 use Rattle.cedar.specs.Types.{Atom, never, true′, false′, bool, long, string, anyset, anyent, Ty, atom, set, rec, act, ent, ext, Attrs, nil, attr}
 use Rattle.cedar.specs.Laws.Encoders.{heads, tails}
-use Rattle.cedar.specs.Laws.Shape.{depth, depths, Ordered, OrderedFrom, WF}
+use Rattle.cedar.specs.Levels.{depth, depths}
+use Rattle.cedar.specs.Laws.Shape.{Ordered, OrderedFrom, WF}
 use Rattle.cedar.specs.Bytes.{u16, flag, _>>=_, guard, word, bit, encNames, parseNames, Bytes}
 use Rattle.cedar.specs.TypeForm.{Kind, one, setKind, recKind, entKind, actKind, extKind, noKind, kindOf, atomCode, count, enc, entries, bodies}
 use Rattle.cedar.specs.TypeForm.{readAttr, ascendingAttr, attrsOf, parseAttrs, parseAs, parse}

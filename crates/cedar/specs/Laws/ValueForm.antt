@@ -9,7 +9,8 @@ use lib.Dec.{T, eqb, eqb→eq, eqb-refl}
 use lib.ListN.{length}
 use Rattle.cedar.specs.Types.{Value, boolean, number, text, uid, setOf, recordOf, call, Values, end, value, Pairs, empty, pair}
 use Rattle.cedar.specs.Laws.Encoders.{heads, tails}
-use Rattle.cedar.specs.Laws.Shape.{depthValue, depthValues, depthPairs, OrderedValue, OrderedValues, OrderedPairs, WFValue}
+use Rattle.cedar.specs.Levels.{depthValue, depthValues, depthPairs}
+use Rattle.cedar.specs.Laws.Shape.{OrderedValue, OrderedValues, OrderedPairs, WFValue}
 use Rattle.cedar.specs.Bytes.{u16, flag, guard, word, Bytes}
 use Rattle.cedar.specs.Table.{ascending, anyOrder, readLength}
 use Rattle.cedar.specs.ValueForm.{ValueKind, boolKind, longKind, stringKind, uidKind, setKind, recordKind, callKind, noKind, valueKind, countValues}

@@ -77,6 +77,10 @@ opened (suc l) b k h e = (
   rw (sub-one (suc l), ← e) refl,
 )
 
+-- A whole form has a level.
+pub whole-level : (l : ℕ) (b : List ℕ) → whole l b ≡ true → 0 < l
+whole-level l b h = opened l b (kind b) h refl .0
+
 -- The attributes whose count stands at c.
 table-sound : (l c : ℕ) (b : List ℕ) → tableFits attrRow (λ _. whole l) 0 c b ≡ true →
     (c + 2 ≤ length b) × (c + 2 + 5 * rd b c ≤ length b) × Sound l (rd b c) 0 (part (c + 2) (c + 2 + 5 * rd b c) b) (rest (c + 2 + 5 * rd b c) b)

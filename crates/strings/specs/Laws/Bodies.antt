@@ -11,12 +11,12 @@ use Rattle.cedar.specs.Types.{Value, text, setOf, recordOf, call}
 use Rattle.cedar.specs.ValueForm.{ValueKind, setKind, recordKind, callKind, valueKind, valuesFrom, pairsFrom}
 use Rattle.cedar.specs.Text.{isText, textual, textualValues, textualPairs}
 use Rattle.forms.specs.Parts.{part, rest, rd, kind}
-use Rattle.forms.specs.Rows.{rowsTo, rowsOf, noneLeft, tableEnd, tableFits, tableOf}
+use Rattle.forms.specs.Rows.{bodyRow, rowsOf, tableFits}
 use Rattle.forms.specs.ValueBytes.{pairRow, wholeV, wholeVAs, decV, decVAs}
 use Rattle.forms.specs.Laws.Parts.{and-l, and-r, and-yes, and-not-l}
 use Rattle.forms.specs.Laws.Ahead.{Ahead, ahead-again, decoded, decoded-none, table-ahead, table-decoded}
 use Rattle.forms.specs.Laws.Values.{value-level, value-as, dec-value}
-use Rattle.strings.specs.Bodies.{bodyRow, bodiesAt}
+use Rattle.strings.specs.Bodies.{bodiesAt}
 
 -- What is left of the bodies, each whole, answers for all.
 pub record BodiesAhead (l width : ℕ) (all : Bool) (left : ℕ) (e b : List ℕ) : Type 0 where
@@ -47,26 +47,7 @@ module _ {l width : ℕ} {all : Bool} {left : ℕ} {e b : List ℕ} (i : BodiesA
     pub bodies-again : not x ≡ false → BodiesAhead l width all (left - 1) (rest width e) (rest n b)
     bodies-again h = record { rows = ahead-again (i .rows) p n q; same = step ∙ and-yes x _ (not-false x h) }
 
--- Pairs in order are bodies, and their strings are those of the bodies.
-pair-rows : (w : List ℕ → Bool) (n low : ℕ) (es bs : List ℕ) → rowsTo pairRow (λ _. w) noneLeft n low es bs ≡ true →
-    rowsTo (bodyRow 4) (λ _. w) noneLeft n tt es bs ≡ true
-unfolding rowsTo
-pair-rows w zero low es bs h = h
-pair-rows w (suc n) low es bs h =
-    let room = leb (rd es 2) (length bs) in
-    let good = w (part 0 (rd es 2) bs) in
-    let h₁ = and-r (leb low (rd es 0)) _ h in
-    let h₂ = and-r room _ h₁ in
-    and-yes room _ (and-l room _ h₁) ∙ and-yes good _ (and-l good _ h₂) ∙ pair-rows w n (rd es 0 + 1) (rest 4 es) (rest (rd es 2) bs) (and-r good _ h₂)
-
-pub pair-table : (l : ℕ) (b : List ℕ) → wholeVAs (wholeV l) recordKind b ≡ true → tableFits (bodyRow 4) (λ _. wholeV l) tt 1 b ≡ true
-pair-table l b h =
-    let count = leb 3 (length b) in
-    let entries = leb (3 + 4 * rd b 1) (length b) in
-    let h₁ = and-r count _ h in
-    and-yes count _ (and-l count _ h) ∙ and-yes entries _ (and-l entries _ h₁) ∙
-    pair-rows (wholeV l) (rd b 1) 0 (part 3 (3 + 4 * rd b 1) b) (rest (3 + 4 * rd b 1) b) (and-r entries _ h₁)
-
+-- The strings of pairs are those of their bodies.
 pub pair-strings : (d : List ℕ → Value) (n : ℕ) (es bs : List ℕ) →
     textualPairs (pairsFrom (rowsOf pairRow (λ _. d) n es bs)) ≡ textualValues (valuesFrom (rowsOf (bodyRow 4) (λ _. d) n es bs))
 unfolding rowsOf textualPairs textualValues

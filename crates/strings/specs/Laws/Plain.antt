@@ -10,11 +10,11 @@ use Rattle.cedar.specs.Types.{Value}
 use Rattle.cedar.specs.ValueForm.{ValueKind, boolKind, longKind, stringKind, uidKind, setKind, recordKind, callKind, noKind, valueKind, valuesFrom}
 use Rattle.cedar.specs.Text.{isText, textual, textualValues, textualPairs}
 use Rattle.forms.specs.Parts.{part, rest, rd, kind}
-use Rattle.forms.specs.Rows.{rowsOf}
+use Rattle.forms.specs.Rows.{bodyRow, rowsOf}
 use Rattle.forms.specs.ValueBytes.{decVAs, decV}
 use Rattle.forms.specs.Laws.Parts.{and-yes}
 use Rattle.forms.specs.Laws.Ahead.{table-decoded}
-use Rattle.strings.specs.Bodies.{bodyRow, bodiesAt}
+use Rattle.strings.specs.Bodies.{bodiesAt}
 use Rattle.strings.specs.Steps.{Plain}
 use Rattle.strings.specs.Laws.Steps.{passes-none, passes-block, text-yes}
 use Rattle.strings.specs.Laws.Bodies.{pair-strings}

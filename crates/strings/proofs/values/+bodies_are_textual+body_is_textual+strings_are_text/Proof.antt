@@ -5,12 +5,14 @@ use mathlib.Core.Bool.{true}
 use Prim.Native.Nat.{_+_, _*_, _-_}
 use native.Mathlib.Omega.{arith}
 use Rattle.cedar.specs.Text.{textualValues}
-use Rattle.forms.specs.ValueBytes.{wholeV}
+use Rattle.forms.specs.Rows.{bodyRow}
+use Rattle.forms.specs.ValueBytes.{pairRow, wholeV}
 use Rattle.forms.specs.Laws.Parts.{rest-0}
+use Rattle.forms.specs.Laws.Bodies.{table-bodies}
 use Rattle.forms.specs.Laws.Ahead.{table-count, table-entries, ahead-room, ahead-inside, ahead-body}
 use Rattle.forms.specs.Laws.Values.{value-level, value-first, value-as}
-use Rattle.strings.specs.Bodies.{bodyRow, bodiesAt}
-use Rattle.strings.specs.Laws.Bodies.{BodiesAhead, bodies-start, bodies-end, bodies-stop, bodies-again, pair-table}
+use Rattle.strings.specs.Bodies.{bodiesAt}
+use Rattle.strings.specs.Laws.Bodies.{BodiesAhead, bodies-start, bodies-end, bodies-stop, bodies-again}
 use Rattle.strings.specs.Laws.Bodies.{string-room, textual-string, textual-set, textual-record, textual-call, textual-other}
 use Rattle.strings.specs.Laws.Plain.{plain-bodies}
 use Prim.Native.Nat.{ℕ, _<_}
@@ -499,7 +501,7 @@ strings-are-text-bodies-are-textual-requires-2 :
 strings-are-text-bodies-are-textual-requires-2 t c κs =
     let s = c .before .before .before .before in
     let whole = value-as (s .args .levels) (s .args .v .now) (s .pre .1) 6 (c .before .match .keys3) in
-    (omega (arith, value-level (s .args .levels) (s .args .v .now) (s .pre .1)), (omega arith, rw (rest-0 (s .args .v .now)) (pair-table (s .args .levels - 1) (s .args .v .now) whole)))
+    (omega (arith, value-level (s .args .levels) (s .args .v .now) (s .pre .1)), (omega arith, rw (rest-0 (s .args .v .now)) (table-bodies pairRow (wholeV (s .args .levels - 1)) 0 1 (s .args .v .now) whole)))
 
 strings-are-text-sub-bodies-are-textual-5 :
     (t : ℕ) → strings-are-text-lts.Need-sub-bodies-are-textual-5 (strings-are-text-callees t) (strings-are-text-at t) strings-are-text.Post

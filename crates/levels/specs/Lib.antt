@@ -1,0 +1,2 @@
+pub mod Deepest
+pub mod Laws
