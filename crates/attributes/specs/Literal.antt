@@ -4,14 +4,15 @@ use mathlib.Core.List.{List, [], _∷_, _++_}
 use mathlib.Core.Option.{Option, none, some}
 use mathlib.Core.Path.{_≡_}
 use lib.ListN.{length}
-use Rattle.cedar.specs.Types.{Ty, act, ent}
+use Rattle.cedar.specs.Types.{Ty, rec, act, ent}
+use Rattle.cedar.specs.Levels.{depth}
 use Rattle.cedar.specs.Bytes.{u16}
 use Rattle.cedar.specs.TypeForm.{actionCode, enc}
 use Rattle.cedar.specs.Limits.{Limits, mostBytes}
 use Rattle.cedar.specs.Literal.{literal}
 use Rattle.forms.specs.Parts.{part, rest}
 use Rattle.schemas.specs.SchemaBytes.{decS}
-use Rattle.schemas.specs.Entries.{bodyAttrs}
+use Rattle.schemas.specs.Entries.{openAt, bodyAttrs}
 use Rattle.schemas.specs.Laws.Finders.{BodyAt}
 use Rattle.attributes.specs.declared.euid_literal.Literal.{Literal}
 use Rattle.attributes.specs.declared.euid_literal.Literal.the-variants.{Action, Entity, Nothing}
@@ -33,6 +34,12 @@ abbrev pub literalLength : Literal → ℕ
 literalLength (Action s e) = e - s + 1
 literalLength Entity = 5
 literalLength Nothing = 0
+
+-- How many levels the type has.
+abbrev pub literalLevels : Limits → List ℕ → Literal → ℕ
+literalLevels lim b (Action s e) = depth (rec (openAt (part s e b)) (bodyAttrs lim (part s e b)))
+literalLevels lim b Entity = 1
+literalLevels lim b Nothing = 0
 
 -- An action's body lies in the schema, no shorter than an empty record form and no longer than a form may be.
 abbrev pub Laid : List ℕ → Literal → Type 0

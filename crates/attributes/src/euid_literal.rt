@@ -1,6 +1,8 @@
 // The type of a uid.
 use forms::kinds::Kind;
+use forms::limits::Limits;
 use forms::offsets::Offset;
+use levels::depths::type_levels;
 use schemas::entries::FoundEntry;
 use schemas::entries::find_action;
 use schemas::entries::find_entity;
@@ -15,7 +17,7 @@ ghost use lib.ListN.{length};
 ghost use Rattle.cedar.specs.Outcome.{over};
 ghost use Rattle.forms.specs.Limits.{asLimits};
 ghost use Rattle.schemas.specs.Entries.{Sectioned};
-ghost use Rattle.attributes.specs.Literal.{literalLength, literalForm, Laid, LiteralAt};
+ghost use Rattle.attributes.specs.Literal.{literalLength, literalLevels, literalForm, Laid, Standing, LiteralAt};
 
 // What a uid's type is: an action, with the start and end of the body that lists its attributes; an entity; or nothing.
 pub enum Literal {
@@ -52,6 +54,18 @@ pub fn literal_length(schema: &[u8], found: Literal) -> usize
             body.len() + 1
         }
         Literal::Entity => Offset::ENTITY_END,
+        Literal::Nothing => 0,
+    }
+}
+
+// How many levels the type has: an action as many as the body that lists its attributes.
+pub fn literal_levels(schema: &[u8], found: Literal, limits: Limits) -> usize
+    requires { ⌜ Standing (asLimits limits) (now schema) found ⌝ }
+    ensures { λ r. ⌜ r ≡ literalLevels (asLimits limits) (now (schema .entry)) found ⌝ }
+{
+    match found {
+        Literal::Action(start, end) => type_levels(&schema[start..end], limits.levels),
+        Literal::Entity => 1,
         Literal::Nothing => 0,
     }
 }

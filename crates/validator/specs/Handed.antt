@@ -6,7 +6,7 @@ use mathlib.Core.Option.{Option}
 use mathlib.Core.Path.{_≡_}
 use denote.Ref.{RefT, ptr, now}
 use Rattle.cedar.specs.Types.{maybe}
-use Rattle.cedar.specs.Outcome.{Outcome, refused, said, nothing, typed, attribute, named, bytesOf}
+use Rattle.cedar.specs.Outcome.{Outcome, refused, said, nothing, measured, typed, attribute, named, bytesOf}
 use Rattle.forms.specs.Parts.{part}
 use Rattle.validator.specs.declared.own_attribute_type.OwnPart.{OwnPart}
 use Rattle.validator.specs.declared.own_attribute_type.OwnPart.the-variants.{Refused, Nothing, At}
@@ -16,6 +16,7 @@ abbrev pub partOf : Outcome → Option (ℕ × ℕ) → OwnPart
 partOf (refused n) place = Refused n
 partOf (said b) place = Nothing
 partOf nothing place = Nothing
+partOf (measured n l) place = Nothing
 partOf (typed t) place = Nothing
 partOf (attribute q t) place = maybe Nothing (λ p. At (p .0) (p .1) q) place
 partOf (named ns) place = Nothing
@@ -31,6 +32,7 @@ abbrev pub toldOf : Outcome → ℕ
 toldOf (refused n) = n
 toldOf (said b) = 0
 toldOf nothing = 0
+toldOf (measured n l) = 0
 toldOf (typed t) = 0
 toldOf (attribute true t) = 114
 toldOf (attribute false t) = 111

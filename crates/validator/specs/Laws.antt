@@ -11,6 +11,7 @@ pub mod Handed
 pub mod Literal
 pub mod Conversion
 pub mod Conformance
+pub mod Measure
 pub mod Bound
 pub mod Lookup
 pub mod Fold

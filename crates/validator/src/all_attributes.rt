@@ -47,7 +47,7 @@ fn named(
         return Answer::Refused(Refusal::RESULT);
     }
     copy(&kept[0..n], out);
-    Answer::Wrote(n)
+    Answer::Named(n)
 }
 
 // The answer by the limits of a check. No more bytes are cleared for a form than the smaller of two sizes has that fits.

@@ -6,6 +6,7 @@ use conversions::core_types::write_core;
 use forms::limits::Limits;
 use forms::refusals::Refusal;
 use forms::types::whole_type;
+use levels::depths::type_levels;
 use writing::form_lengths::FormLength;
 ghost use mathlib.Core.Path.{_≡_};
 ghost use mathlib.Core.Bool.{true};
@@ -29,7 +30,7 @@ fn convert_under(limits: Limits, t: &[u8], out: &mut [u8]) -> Answer
                 return Answer::Refused(Refusal::RESULT);
             }
             write_core(t, limits.levels, out);
-            Answer::Wrote(n)
+            Answer::Typed(n, type_levels(&out[0..n], limits.levels))
         }
         FormLength::Not(e) => Answer::Refused(e),
     }

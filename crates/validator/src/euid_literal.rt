@@ -3,6 +3,7 @@ use crate::answers::Answer;
 use crate::rooms::answer_fits;
 use attributes::euid_literal::find_literal;
 use attributes::euid_literal::literal_length;
+use attributes::euid_literal::literal_levels;
 use attributes::euid_literal::write_literal;
 use forms::kinds::ValueKind;
 use forms::limits::Limits;
@@ -52,7 +53,7 @@ fn literal_under(schema: &[u8], at: Sections, v: &[u8], out: &mut [u8]) -> Answe
         return Answer::Refused(Refusal::RESULT);
     }
     write_literal(schema, found, entity, out);
-    Answer::Wrote(n)
+    Answer::Typed(n, literal_levels(schema, found, limits))
 }
 
 // The answer under a schema that was checked before, and the limits of its check.

@@ -8,6 +8,7 @@ use forms::modes::KnownMode;
 use forms::modes::Mode;
 use forms::refusals::Refusal;
 use forms::types::whole_type;
+use levels::depths::type_levels;
 use schemas::whole::Checked;
 use schemas::whole::check_schema;
 use writing::form_lengths::FormLength;
@@ -52,7 +53,7 @@ fn least_upper_bound_under(
                 return Answer::Refused(Refusal::RESULT);
             }
             write_bound(m, t0, t1, limits.levels, n, out);
-            Answer::Wrote(n)
+            Answer::Typed(n, type_levels(&out[0..n], limits.levels))
         }
         FormLength::Not(e) => Answer::Refused(e),
     }

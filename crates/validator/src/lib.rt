@@ -9,6 +9,8 @@ pub mod is_subtype;
 pub mod least_upper_bound;
 pub mod lookup_attribute_type;
 pub mod may_have_attr;
+pub mod measure_type;
+pub mod measure_value;
 pub mod own_attribute_type;
 pub mod reduce_to_least_upper_bound;
 pub mod rooms;

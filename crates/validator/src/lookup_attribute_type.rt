@@ -5,6 +5,7 @@ use crate::workspaces::clear;
 use forms::limits::Limits;
 use forms::refusals::Refusal;
 use forms::types::whole_type;
+use levels::depths::type_levels;
 use lookups::lookup_attribute_type::Looked;
 use lookups::lookup_attribute_type::look_up;
 use schemas::sections::Sections;
@@ -44,7 +45,7 @@ fn looked_up(
                 return Answer::Refused(Refusal::RESULT);
             }
             copy(&last[0..n], out);
-            Answer::Attribute(required, n)
+            Answer::Attribute(required, n, type_levels(&last[0..n], limits.levels - 1))
         }
         Looked::Nothing => Answer::Nothing,
         Looked::TooLong => Answer::Refused(Refusal::WORKSPACE),

@@ -9,6 +9,7 @@ use forms::lists::whole_list;
 use forms::modes::KnownMode;
 use forms::modes::Mode;
 use forms::refusals::Refusal;
+use levels::depths::type_levels;
 use schemas::whole::Checked;
 use schemas::whole::check_schema;
 use writing::writers::copy;
@@ -53,7 +54,7 @@ fn reduced(
                 return Answer::Refused(Refusal::RESULT);
             }
             copy(&last[0..n], out);
-            Answer::Wrote(n)
+            Answer::Typed(n, type_levels(&last[0..n], limits.levels))
         }
         Folded::Not(e) => Answer::Refused(e),
     }

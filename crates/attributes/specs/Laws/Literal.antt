@@ -8,6 +8,7 @@ use mathlib.Core.Path.{_≡_, refl, ap, sym, subst, _∙_}
 use lib.ListN.{length, drop, length-append}
 use Rattle.cedar.specs.Types.{rec, isAction, maybe}
 use Rattle.cedar.specs.Bytes.{Bytes, u16}
+use Rattle.cedar.specs.Levels.{depth}
 use Rattle.cedar.specs.TypeForm.{enc}
 use Rattle.cedar.specs.Outcome.{over}
 use Rattle.cedar.specs.Limits.{Limits, allowed}
@@ -15,6 +16,7 @@ use Rattle.cedar.specs.Attribute.{entityOf}
 use Rattle.cedar.specs.Literal.{actionOf}
 use Rattle.cedar.specs.Laws.Limits.{allowed-bytes}
 use Rattle.forms.specs.Parts.{part, rest}
+use Rattle.forms.specs.TypeBytes.{dec}
 use Rattle.forms.specs.Laws.Parts.{rest-is, length-rest, length-part}
 use Rattle.schemas.specs.SchemaBytes.{decS}
 use Rattle.schemas.specs.Entries.{openAt, bodyAttrs}
@@ -22,7 +24,7 @@ use Rattle.schemas.specs.Laws.Finders.{BodyAt, EntityAt, ActionAt}
 use Rattle.writing.specs.Laws.Writing.{back, over-at, room-at}
 use Rattle.attributes.specs.declared.euid_literal.Literal.{Literal}
 use Rattle.attributes.specs.declared.euid_literal.Literal.the-variants.{Action, Entity, Nothing}
-use Rattle.attributes.specs.Literal.{literalType, literalForm, literalLength, Laid, Standing, LiteralAt}
+use Rattle.attributes.specs.Literal.{literalType, literalForm, literalLength, literalLevels, Laid, Standing, LiteralAt}
 use Rattle.forms.specs.Laws.Bytes.{Bytes-part, enc-dec}
 
 -- A body that stands is laid out.
@@ -56,7 +58,21 @@ literal-form lim b bytes k (Action s e) v =
 literal-form lim b bytes k Entity v = refl
 literal-form lim b bytes k Nothing v = refl
 
+-- An action's type has as many levels as its body.
+pub literal-levels : (lim : Limits) (b : List ℕ) (k : ℕ) (x : Literal) → maybe 0 depth (literalType lim b k x) ≡ literalLevels lim b x
+unfolding depth
+literal-levels lim b k (Action s e) = refl
+literal-levels lim b k Entity = refl
+literal-levels lim b k Nothing = refl
+
 -- An answer by its cases.
+pub standing-body : (lim : Limits) (b : List ℕ) (x : Literal) (s e : ℕ) → x ≡ Action s e → Standing lim b x → BodyAt lim b s e
+standing-body lim b x s e h p = subst (λ (y : Literal). Standing lim b y) h p
+
+pub body-levels : (lim : Limits) (b : List ℕ) (x : Literal) (s e : ℕ) → x ≡ Action s e → Standing lim b x → depth (dec (lim .levels) (part s e b)) ≡ literalLevels lim b x
+body-levels lim b x s e h p =
+    ap depth (standing-body lim b x s e h p .view .is) ∙ sym (ap (literalLevels lim b) h)
+
 pub laid-body : (b : List ℕ) (x : Literal) (s e : ℕ) → x ≡ Action s e → Laid b x → Laid b (Action s e)
 laid-body b x s e h p = subst (λ (y : Literal). Laid b y) h p
 

@@ -4,7 +4,7 @@ use Prim.Native.Nat.{ℕ, _<_}
 use native.Mathlib.Omega.{arith}
 use mathlib.Core.List.{List}
 use mathlib.Core.Bool.{Bool, true, false}
-use mathlib.Core.Path.{_≡_, refl, sym, ap, _∙_}
+use mathlib.Core.Path.{_≡_, refl, sym, ap, ap₂, _∙_}
 use mathlib.Core.Option.{Option, none, some}
 use mathlib.Core.Logic.{_↔_, inl, inr}
 use lib.ListN.{length, take}
@@ -12,93 +12,112 @@ use lib.Seq.{take-append-seam}
 use denote.Ref.{RefT, now}
 use Rattle.cedar.specs.Types.{Ty, Schema, maybe}
 use Rattle.cedar.specs.TypeForm.{enc}
+use Rattle.cedar.specs.Levels.{depth}
 use Rattle.cedar.specs.Bytes.{guard}
 use Rattle.cedar.specs.Limits.{Limits, allowed}
 use Rattle.cedar.specs.Whole.{wholeSchema, wholeType}
-use Rattle.cedar.specs.Result.{Result, ok, err, badLimits, badSchema, badFirst}
-use Rattle.cedar.specs.Bound.{bound}
+use Rattle.cedar.specs.Result.{badLimits, badSchema, badFirst}
 use Rattle.cedar.specs.Attribute.{ownAttr}
 use Rattle.cedar.specs.Conformance.{Counts}
 use Rattle.cedar.specs.Conforms.{Conforms}
-use Rattle.cedar.specs.Outcome.{Outcome, refused, said, nothing, typed, attribute, named, bytesOf, resultAfter}
-use Rattle.cedar.specs.Calls.{ask, modeOf, writeType, disjointCall, boundCall, lookupCall, ownAttributeCall, mayHaveCall, conformsBy}
+use Rattle.cedar.specs.Outcome.{Outcome, refused, said, nothing, measured, typed, attribute, named, bytesOf, levelsOf, resultAfter}
+use Rattle.cedar.specs.Calls.{ask, measureTypeCall, disjointCall, boundCall, lookupCall, ownAttributeCall, mayHaveCall, conformsBy}
 use Rattle.cedar.specs.Sequence.{written, LooksUp}
-use Rattle.cedar.specs.Laws.Calls.{ask-case, allowed-case, answer-case}
+use Rattle.cedar.specs.Laws.TypeForm.{depth-pos}
+use Rattle.cedar.specs.Laws.Levels.{Told}
 use Rattle.validator.specs.Answers.{answerOf, Answered, AnsweredIn}
 use Rattle.validator.specs.Handed.{toldOf, Handed}
 use Rattle.validator.specs.declared.answers.Answer.{Answer}
-use Rattle.validator.specs.declared.answers.Answer.the-variants.{Refused, Yes, No, Nothing, Wrote, Attribute}
+use Rattle.validator.specs.declared.answers.Answer.the-variants.{Refused, Yes, No, Nothing, Measured, Typed, Attribute, Named}
 
--- What a caller copies, by the answer that it sees: after `Wrote n` the first n bytes of its buffer, else nothing.
+-- What a caller copies, by the answer that it sees: after `Typed n d` the first n bytes of its buffer, else nothing.
 abbrev pub copies : Answer → List ℕ → Option (List ℕ)
 copies (Refused n) after = none
 copies Yes after = none
 copies No after = none
 copies Nothing after = none
-copies (Wrote n) after = some (take n after)
-copies (Attribute r n) after = none
+copies (Measured n d) after = none
+copies (Typed n d) after = some (take n after)
+copies (Attribute r n d) after = none
+copies (Named n) after = none
 
 apart : {C : Type 0} → _≡_ {A = ℕ} 0 1 → C
 apart e = absurd (omega arith)
 
-type-unnamed : {C : Type 0} (lim : Limits) (room : ℕ) (r : Result Ty) (ns : List ℕ) → writeType lim room r ≡ named ns → C
-type-unnamed lim room (ok t) ns e = answer-case lim room (enc t) (typed t) (named ns) tt e λ l p. apart (cc)
-type-unnamed lim room (err n) ns e = apart (cc)
-
--- A bound call answers with no name list, the other outcome whose answer is `Wrote`.
-bound-unnamed : {C : Type 0} (lim : Limits) (mode : ℕ) (schema t₀ t₁ : List ℕ) (room : ℕ) (ns : List ℕ) → boundCall lim mode schema t₀ t₁ room ≡ named ns → C
-bound-unnamed lim mode schema t₀ t₁ room ns e =
-    allowed-case lim _ (named ns) tt e λ _ e₀.
-    ask-case _ (modeOf mode) _ (named ns) tt e₀ λ m em e₁.
-    ask-case _ (wholeSchema lim schema) _ (named ns) tt e₁ λ s es e₂.
-    ask-case _ (wholeType lim t₀) _ (named ns) tt e₂ λ a ea e₃.
-    ask-case _ (wholeType lim t₁) _ (named ns) tt e₃ λ b eb e₄.
-    type-unnamed lim room (bound m a b) ns e₄
-
--- A call that answers with no name list: what it wrote is what the caller copies.
-written-copies : (o : Outcome) → ((ns : List ℕ) → o ≡ named ns → ⊥) → (before after : List ℕ) (r : Answer) → Answered o before after r →
-    written o ≡ copies r after
-written-copies (refused n) u before after r h = sym (ap (λ (z : Answer). copies z after) (h .answer))
-written-copies (said true) u before after r h = sym (ap (λ (z : Answer). copies z after) (h .answer))
-written-copies (said false) u before after r h = sym (ap (λ (z : Answer). copies z after) (h .answer))
-written-copies nothing u before after r h = sym (ap (λ (z : Answer). copies z after) (h .answer))
-written-copies (typed t) u before after r h =
+-- What a call wrote is what the caller copies.
+written-copies : (o : Outcome) (before after : List ℕ) (r : Answer) → Answered o before after r → written o ≡ copies r after
+written-copies (refused n) before after r h = sym (ap (λ (z : Answer). copies z after) (h .answer))
+written-copies (said true) before after r h = sym (ap (λ (z : Answer). copies z after) (h .answer))
+written-copies (said false) before after r h = sym (ap (λ (z : Answer). copies z after) (h .answer))
+written-copies nothing before after r h = sym (ap (λ (z : Answer). copies z after) (h .answer))
+written-copies (measured n l) before after r h = sym (ap (λ (z : Answer). copies z after) (h .answer))
+written-copies (typed t) before after r h =
     sym (ap (λ (z : Answer). copies z after) (h .answer) ∙ ap (λ (l : List ℕ). some (take (length (enc t)) l)) (h .result) ∙
     ap (λ (l : List ℕ). some l) (take-append-seam (enc t) _))
-written-copies (attribute q t) u before after r h = sym (ap (λ (z : Answer). copies z after) (h .answer))
-written-copies (named ns) u before after r h = absurd (u ns refl)
+written-copies (attribute q t) before after r h = sym (ap (λ (z : Answer). copies z after) (h .answer))
+written-copies (named ns) before after r h = sym (ap (λ (z : Answer). copies z after) (h .answer))
 
 module _ (lim : Limits) (mode : ℕ) (schema t₀ t₁ before after : List ℕ) (r : Answer)
     (h : Answered (boundCall lim mode schema t₀ t₁ (length before)) before after r) where
   -- Bound: what the theorem's run copies is what the caller copies:
   pub bound-copies : written (boundCall lim mode schema t₀ t₁ (length before)) ≡ copies r after
-  bound-copies =
-      written-copies (boundCall lim mode schema t₀ t₁ (length before)) (λ ns e. bound-unnamed lim mode schema t₀ t₁ (length before) ns e) before after r h
+  bound-copies = written-copies (boundCall lim mode schema t₀ t₁ (length before)) before after r h
 
-  -- after `Wrote n`, the first n bytes of the buffer;
-  pub bound-wrote : (n : ℕ) → r ≡ Wrote n → written (boundCall lim mode schema t₀ t₁ (length before)) ≡ some (take n after)
-  bound-wrote n e = bound-copies ∙ ap (λ (z : Answer). copies z after) e
+  -- after `Typed n d`, the first n bytes of the buffer;
+  pub bound-typed : (n d : ℕ) → r ≡ Typed n d → written (boundCall lim mode schema t₀ t₁ (length before)) ≡ some (take n after)
+  bound-typed n d e = bound-copies ∙ ap (λ (z : Answer). copies z after) e
 
   -- after a refusal, nothing.
   pub bound-refused : (n : ℕ) → r ≡ Refused n → written (boundCall lim mode schema t₀ t₁ (length before)) ≡ none
   bound-refused n e = bound-copies ∙ ap (λ (z : Answer). copies z after) e
 
--- `Attribute q n` is an attribute of that flag, and n is its type's length.
-attribute-seen : {C : Type 0} (o : Outcome) (q : Bool) (n : ℕ) → answerOf o ≡ Attribute q n → ((y : Ty) → o ≡ attribute q y → length (enc y) ≡ n → C) → C
-attribute-seen (refused m) q n e k = apart (cc)
-attribute-seen (said true) q n e k = apart (cc)
-attribute-seen (said false) q n e k = apart (cc)
-attribute-seen nothing q n e k = apart (cc)
-attribute-seen (typed t) q n e k = apart (cc)
-attribute-seen (attribute p t) q n e k = k t (cc) (cc)
-attribute-seen (named ns) q n e k = apart (cc)
+-- `Attribute q n d` is an attribute of that flag, its type's length and levels.
+attribute-seen : {C : Type 0} (o : Outcome) (q : Bool) (n d : ℕ) → answerOf o ≡ Attribute q n d →
+    ((y : Ty) → o ≡ attribute q y → length (enc y) ≡ n → depth y ≡ d → C) → C
+attribute-seen (refused m) q n d e k = apart (cc)
+attribute-seen (said true) q n d e k = apart (cc)
+attribute-seen (said false) q n d e k = apart (cc)
+attribute-seen nothing q n d e k = apart (cc)
+attribute-seen (measured m l) q n d e k = apart (cc)
+attribute-seen (typed t) q n d e k = apart (cc)
+attribute-seen (attribute p t) q n d e k = k t (cc) (cc) (cc)
+attribute-seen (named ns) q n d e k = apart (cc)
 
--- Lookup: after `Attribute q n`, the first n bytes of the buffer are the form of a type that is looked up, with the flag q.
-pub lookup-finds : (lim : Limits) (schema : List ℕ) (a : ℕ) (t before after work workAfter : List ℕ) (r : Answer) (q : Bool) (n : ℕ)
-    → AnsweredIn (lookupCall lim schema a t (length before) (length work)) before after work workAfter r → r ≡ Attribute q n
+-- `Typed n d` is a type's length and levels.
+typed-seen : {C : Type 0} (o : Outcome) (n d : ℕ) → answerOf o ≡ Typed n d → ((y : Ty) → o ≡ typed y → length (enc y) ≡ n → depth y ≡ d → C) → C
+typed-seen (refused m) n d e k = apart (cc)
+typed-seen (said true) n d e k = apart (cc)
+typed-seen (said false) n d e k = apart (cc)
+typed-seen nothing n d e k = apart (cc)
+typed-seen (measured m l) n d e k = apart (cc)
+typed-seen (typed t) n d e k = k t refl (cc) (cc)
+typed-seen (attribute p t) n d e k = apart (cc)
+typed-seen (named ns) n d e k = apart (cc)
+
+-- What stands in the buffer of a call that wrote a type: measuring it tells what the call told.
+front-measured : (lim : Limits) (o : Outcome) (y : Ty) → bytesOf o ≡ enc y → levelsOf o ≡ depth y → Told lim o → (before after : List ℕ) →
+    after ≡ resultAfter o before → (n d : ℕ) → length (enc y) ≡ n → depth y ≡ d → measureTypeCall lim (take n after) ≡ measured n d
+front-measured lim o y b l told before after f n d p q =
+    let w : take n after ≡ bytesOf o = rw (f, ← p, ← b) (take-append-seam (bytesOf o) _) in
+    ap (measureTypeCall lim) w ∙ told (omega (arith, l, depth-pos y)) ∙ ap₂ measured (ap length b ∙ p) (l ∙ q)
+
+module _ (lim : Limits) (o : Outcome) (told : Told lim o) (before after : List ℕ) (r : Answer) (h : Answered o before after r) where
+  -- After `Typed n d`, measuring the first n bytes of the buffer tells n and d;
+  pub typed-measured : (n d : ℕ) → r ≡ Typed n d → measureTypeCall lim (take n after) ≡ measured n d
+  typed-measured n d e =
+      typed-seen o n d (sym (h .answer) ∙ e) λ y p i j. front-measured lim o y (ap bytesOf p) (ap levelsOf p) told before after (h .result) n d i j
+
+  -- so it does after `Attribute q n d`.
+  pub attribute-measured : (q : Bool) (n d : ℕ) → r ≡ Attribute q n d → measureTypeCall lim (take n after) ≡ measured n d
+  attribute-measured q n d e =
+      attribute-seen o q n d (sym (h .answer) ∙ e) λ y p i j. front-measured lim o y (ap bytesOf p) (ap levelsOf p) told before after (h .result) n d i j
+
+-- Lookup: after `Attribute q n d`, the first n bytes of the buffer are the form of a type that is looked up, with the flag q.
+pub lookup-finds : (lim : Limits) (schema : List ℕ) (a : ℕ) (t before after work workAfter : List ℕ) (r : Answer) (q : Bool) (n d : ℕ)
+    → AnsweredIn (lookupCall lim schema a t (length before) (length work)) before after work workAfter r → r ≡ Attribute q n d
     → (y : Ty) × LooksUp lim schema a t q y × (enc y ≡ take n after)
-lookup-finds lim schema a t before after work workAfter r q n h e =
-    attribute-seen (lookupCall lim schema a t (length before) (length work)) q n (sym (h .answer) ∙ e) λ y p l.
+lookup-finds lim schema a t before after work workAfter r q n d h e =
+    attribute-seen (lookupCall lim schema a t (length before) (length work)) q n d (sym (h .answer) ∙ e) λ y p l _.
     let f : after ≡ resultAfter (attribute q y) before = h .result ∙ ap (λ (o : Outcome). resultAfter o before) p in (
       y,
       inl (length before, length work, p),
@@ -157,6 +176,7 @@ yes-said (refused m) e = apart (cc)
 yes-said (said true) e = refl
 yes-said (said false) e = apart (cc)
 yes-said nothing e = apart (cc)
+yes-said (measured m l) e = apart (cc)
 yes-said (typed t) e = apart (cc)
 yes-said (attribute p t) e = apart (cc)
 yes-said (named ns) e = apart (cc)
@@ -166,6 +186,7 @@ no-said (refused m) e = apart (cc)
 no-said (said true) e = apart (cc)
 no-said (said false) e = refl
 no-said nothing e = apart (cc)
+no-said (measured m l) e = apart (cc)
 no-said (typed t) e = apart (cc)
 no-said (attribute p t) e = apart (cc)
 no-said (named ns) e = apart (cc)

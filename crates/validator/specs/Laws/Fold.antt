@@ -4,11 +4,12 @@ use native.Mathlib.Omega.{arith}
 use mathlib.Core.List.{List}
 use mathlib.Core.Bool.{Bool, true, false, not, _&&_}
 use mathlib.Core.Option.{none, some}
-use mathlib.Core.Path.{_≡_, refl, ap, sym, subst, _∙_}
+use mathlib.Core.Path.{_≡_, refl, ap, ap₂, sym, subst, _∙_}
 use lib.Dec.{leb}
 use lib.ListN.{length}
 use borrow.Author.Tests.{leb-true, not-true, not-false}
 use Rattle.cedar.specs.Types.{Mode, Ty, Schema, present}
+use Rattle.cedar.specs.Levels.{depth}
 use Rattle.cedar.specs.TypeForm.{enc}
 use Rattle.cedar.specs.Limits.{Limits, allowed, blockBytes}
 use Rattle.cedar.specs.Result.{Result}
@@ -18,7 +19,7 @@ use Rattle.cedar.specs.Fold.{foldTypes}
 use Rattle.cedar.specs.Calls.{modeOf, stepFits, writeType, foldCall}
 use Rattle.cedar.specs.Laws.Limits.{allowed-levels, allowed-bytes}
 use Rattle.forms.specs.Parts.{part}
-use Rattle.forms.specs.TypeBytes.{dec}
+use Rattle.forms.specs.TypeBytes.{whole, dec}
 use Rattle.forms.specs.ListBytes.{listFits, listOf}
 use Rattle.forms.specs.Laws.Parts.{and-r, length-part}
 use Rattle.forms.specs.Laws.Sure.{sure-present, sure-yes}
@@ -26,7 +27,7 @@ use Rattle.forms.specs.Laws.Lists.{whole-list-twin}
 use Rattle.folds.specs.declared.lists.Folded.{Folded}
 use Rattle.folds.specs.declared.lists.Folded.the-variants.{To, Not}
 use Rattle.folds.specs.Lists.{Opened, FoldsTo}
-use Rattle.validator.specs.declared.answers.Answer.the-variants.{Refused, Wrote}
+use Rattle.validator.specs.declared.answers.Answer.the-variants.{Refused, Typed}
 use Rattle.validator.specs.Answers.{Answered}
 use Rattle.validator.specs.Laws.Writing.{refuses}
 
@@ -65,6 +66,9 @@ module _ (lim : Limits) (f : Result Ty) (o last : List ℕ) (r : Folded) (h : Fo
 
     pub folds-exact : enc (dec (lim .levels) (part 0 n last)) ≡ part 0 n last
     folds-exact = ends (To n) e .1 .exact
+
+    pub folds-whole : whole (lim .levels) (part 0 n last) ≡ true
+    folds-whole = ends (To n) e .1 .good
 
     pub folds-length : length (enc (dec (lim .levels) (part 0 n last))) ≡ n
     folds-length = ap length folds-exact ∙ sized
@@ -111,7 +115,7 @@ module _ (lim : Limits) (fair : allowed lim ≡ true) (mode : ℕ) (s list o : L
 
         pub fold-writes : (n : ℕ) (last : List ℕ) → writeType lim (length o) folded ≡ typed (dec (lim .levels) (part 0 n last)) →
             enc (dec (lim .levels) (part 0 n last)) ≡ part 0 n last → length (enc (dec (lim .levels) (part 0 n last))) ≡ n →
-            (xs : List ℕ) → xs ≡ over (part 0 n last) o → Answered outcome o xs (Wrote n)
-        fold-writes n last q exact l xs w =
-            subst (λ (z : Outcome). Answered z o xs (Wrote n)) (sym (goes-on ∙ q))
-            record { answer = ap Wrote (sym l); result = w ∙ ap (λ (z : List ℕ). over z o) (sym exact) }
+            (xs : List ℕ) → xs ≡ over (part 0 n last) o → (d : ℕ) → d ≡ depth (dec (lim .levels) (part 0 n last)) → Answered outcome o xs (Typed n d)
+        fold-writes n last q exact l xs w d p =
+            subst (λ (z : Outcome). Answered z o xs (Typed n d)) (sym (goes-on ∙ q))
+            record { answer = ap₂ Typed (sym l) p; result = w ∙ ap (λ (z : List ℕ). over z o) (sym exact) }

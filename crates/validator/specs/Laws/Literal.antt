@@ -10,6 +10,7 @@ use lib.ListN.{length}
 use borrow.Author.Tests.{leb-true, not-false}
 use Rattle.cedar.specs.Types.{Ty, maybe}
 use Rattle.cedar.specs.Bytes.{Bytes}
+use Rattle.cedar.specs.Levels.{depth}
 use Rattle.cedar.specs.TypeForm.{enc}
 use Rattle.cedar.specs.Limits.{Limits, mostBytes, allowed}
 use Rattle.cedar.specs.Result.{ok}
@@ -18,14 +19,15 @@ use Rattle.cedar.specs.Outcome.{Outcome, nothing, over}
 use Rattle.cedar.specs.Literal.{literal}
 use Rattle.cedar.specs.Calls.{writeType, literalCall}
 use Rattle.cedar.specs.Laws.Limits.{allowed-bytes}
+use Rattle.cedar.specs.Laws.Result.{ok-inj}
 use Rattle.schemas.specs.SchemaBytes.{decS}
 use Rattle.writing.specs.declared.form_lengths.FormLength.the-variants.{Of}
 use Rattle.writing.specs.FormLengths.{formLengthOf}
 use Rattle.attributes.specs.declared.euid_literal.Literal.{Literal}
 use Rattle.attributes.specs.declared.euid_literal.Literal.the-variants as literals
-use Rattle.attributes.specs.Literal.{literalType, literalForm, literalLength, Laid, Standing, LiteralAt}
-use Rattle.attributes.specs.Laws.Literal.{literal-form, literal-sized}
-use Rattle.validator.specs.declared.answers.Answer.the-variants.{Refused, Nothing, Wrote}
+use Rattle.attributes.specs.Literal.{literalType, literalForm, literalLength, literalLevels, Laid, Standing, LiteralAt}
+use Rattle.attributes.specs.Laws.Literal.{literal-form, literal-levels, literal-sized}
+use Rattle.validator.specs.declared.answers.Answer.the-variants.{Refused, Nothing, Typed}
 use Rattle.validator.specs.Answers.{Answered}
 use Rattle.validator.specs.Uids.{uidOf}
 use Rattle.validator.specs.Laws.Writing.{refuses, writes, writes-over}
@@ -97,7 +99,10 @@ module _ (lim : Limits) (fair : allowed lim ≡ true) (schema v o : List ℕ) wh
               pub literal-room : literalLength x ≤ length o
               literal-room = omega (arith, l, leb-true n (min (length o) (lim .bytes)) (sym fits ∙ not-false y h))
 
-              pub literal-writes : (xs : List ℕ) → xs ≡ over (literalForm schema k x) o → Answered outcome o xs (Wrote n)
-              literal-writes xs w =
+              pub literal-writes : (xs : List ℕ) → xs ≡ over (literalForm schema k x) o → (d : ℕ) → d ≡ literalLevels lim schema x →
+                  Answered outcome o xs (Typed n d)
+              literal-writes xs w d p =
+                  let q : depth (found .0) ≡ literalLevels lim schema x = sym (ap (maybe 0 depth) (found .1 .0)) ∙ literal-levels lim schema k x in
                   writes lim (allowed-bytes lim fair .1) (ok (found .0)) o outcome goes-to (Of n) told n refl y fits h xs n
                   record { bytes = w ∙ ap (λ (z : List ℕ). over z o) (found .1 .1); many = sized }
+                  d (λ t e. p ∙ sym q ∙ ap depth (ok-inj e))

@@ -4,11 +4,12 @@ use native.Mathlib.Omega.{arith}
 use mathlib.Core.List.{List}
 use mathlib.Core.Bool.{Bool, true, false, not}
 use mathlib.Core.Option.{Option, none, some}
-use mathlib.Core.Path.{_≡_, refl, ap, sym, subst, _∙_}
+use mathlib.Core.Path.{_≡_, refl, ap, ap₂, sym, subst, _∙_}
 use lib.Dec.{leb}
 use lib.ListN.{length}
 use borrow.Author.Tests.{leb-true, not-true, not-false}
 use Rattle.cedar.specs.Types.{Ty, Schema}
+use Rattle.cedar.specs.Levels.{depth}
 use Rattle.cedar.specs.TypeForm.{enc}
 use Rattle.cedar.specs.Limits.{Limits, allowed}
 use Rattle.cedar.specs.Result.{Result, ok, err}
@@ -17,7 +18,7 @@ use Rattle.cedar.specs.Outcome.{Outcome, nothing, attribute, over}
 use Rattle.cedar.specs.Attribute.{lookup}
 use Rattle.cedar.specs.Calls.{stepFits, writeAttribute, lookupCall}
 use Rattle.forms.specs.Parts.{part}
-use Rattle.forms.specs.TypeBytes.{dec}
+use Rattle.forms.specs.TypeBytes.{whole, dec}
 use Rattle.forms.specs.Laws.Parts.{length-part}
 use Rattle.lookups.specs.declared.lookup_attribute_type.Looked.{Looked}
 use Rattle.lookups.specs.declared.lookup_attribute_type.Looked.the-variants as looks
@@ -58,6 +59,9 @@ module _ (lim : Limits) (fair : allowed lim ≡ true) (schema : List ℕ) (a : �
         pub small : n ≤ lim .bytes
         small = ends (looks.Found q n) e .1 .fits
 
+        pub lookup-whole : whole (lim .levels - 1) (part 0 n last) ≡ true
+        lookup-whole = ends (looks.Found q n) e .1 .good
+
         exact : enc (dec (lim .levels - 1) (part 0 n last)) ≡ part 0 n last
         exact = ends (looks.Found q n) e .1 .exact
 
@@ -77,10 +81,11 @@ module _ (lim : Limits) (fair : allowed lim ≡ true) (schema : List ℕ) (a : �
             pub lookup-room : length (part 0 n last) ≤ length o
             lookup-room = omega (arith, sized, leb-true n (min (length o) (lim .bytes)) (sym fits ∙ not-false y k))
 
-            pub lookup-writes : (xs : List ℕ) → xs ≡ over (part 0 n last) o → Answered outcome o xs (Attribute q n)
-            lookup-writes xs w =
+            pub lookup-writes : (xs : List ℕ) → xs ≡ over (part 0 n last) o → (d : ℕ) → d ≡ depth (dec (lim .levels - 1) (part 0 n last)) →
+                Answered outcome o xs (Attribute q n d)
+            lookup-writes xs w d p =
                 let c : outcome ≡ attribute q (dec (lim .levels - 1) (part 0 n last)) = comes-to (ok (some (q, dec (lim .levels - 1) (part 0 n last))))
                 (ends (looks.Found q n) e .0) ∙
                 rw (fits-as y fits, not-false y k) refl in
-                subst (λ (z : Outcome). Answered z o xs (Attribute q n)) (sym c)
-                record { answer = ap (Attribute q) (sym (ap length exact ∙ sized)); result = w ∙ ap (λ (z : List ℕ). over z o) (sym exact) }
+                subst (λ (z : Outcome). Answered z o xs (Attribute q n d)) (sym c)
+                record { answer = ap₂ (Attribute q) (sym (ap length exact ∙ sized)) p; result = w ∙ ap (λ (z : List ℕ). over z o) (sym exact) }

@@ -22,7 +22,7 @@ use Rattle.lookups.specs.declared.all_attributes.Names.{Names}
 use Rattle.lookups.specs.declared.all_attributes.Names.the-variants.{Of, TooLong}
 use Rattle.lookups.specs.Names.{NamedBy}
 use Rattle.writing.specs.Laws.Writing.{over-front}
-use Rattle.validator.specs.declared.answers.Answer.the-variants.{Refused, Wrote}
+use Rattle.validator.specs.declared.answers.Answer.the-variants.{Refused, Named}
 use Rattle.validator.specs.Answers.{Answered}
 use Rattle.validator.specs.Laws.Writing.{refuses}
 
@@ -73,8 +73,8 @@ module _ (lim : Limits) (fair : allowed lim ≡ true) (schema t o : List ℕ) (w
               pub names-fit : length (part 0 n kept) ≤ length o
               names-fit = omega (arith, names-small, ap length names-form, told .1 .many)
 
-              pub names-write : (xs : List ℕ) → xs ≡ over (part 0 n kept) o → Answered outcome o xs (Wrote n)
+              pub names-write : (xs : List ℕ) → xs ≡ over (part 0 n kept) o → Answered outcome o xs (Named n)
               names-write xs w =
                   let c : outcome ≡ named all = comes-to (ok all) (told .0) ∙ rw (fits-as y fits, not-false y k) refl in
-                  subst (λ (z : Outcome). Answered z o xs (Wrote n)) (sym c)
-                  record { answer = ap Wrote (told .1 .many); result = w ∙ ap (λ (z : List ℕ). over z o) names-form }
+                  subst (λ (z : Outcome). Answered z o xs (Named n)) (sym c)
+                  record { answer = ap Named (told .1 .many); result = w ∙ ap (λ (z : List ℕ). over z o) names-form }

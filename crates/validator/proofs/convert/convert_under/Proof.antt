@@ -1,19 +1,16 @@
+-- `validator::convert::convert_under` meets its contract. Assumes nothing.
 use Rattle.forms.specs.Limits.{asLimits}
 use Rattle.cedar.specs.Laws.Limits.{allowed-bytes}
+use native.Mathlib.Omega.{arith}
 use lib.ListN.{length}
+use Rattle.cedar.specs.Calls.{convertCall}
 use Rattle.forms.specs.TypeBytes.{dec}
 use Rattle.conversions.specs.CoreTypes.{core}
-use Rattle.validator.specs.Laws.Writing.{type-is, type-not, refuses, writes-not, writes-over, writes-ready, writes}
-use Rattle.validator.specs.Laws.Conversion.{convert-not, convert-whole}
+use Rattle.validator.specs.Laws.Writing.{type-is, type-not, refuses, writes-not, writes-over, writes-ready, wrote, Wrote, wrote-small, wrote-whole, wrote-levels}
+use Rattle.validator.specs.Laws.Conversion.{convert-not, convert-whole, core-within}
 use borrow.Author.Needs.{needs}
 use Rattle.validator.proofs.convert.convert_under.Statement.{statement}
 use Rattle.validator.proofs.convert.convert_under.Tie as tie
-use Rattle.validator.proofs.convert.convert_under.Reads as reads
-use Rattle.validator.proofs.convert.convert_under.Lts as lts
-use Rattle.conversions.proofs.core_types.core_length.Reads as core-length-reads
-use Rattle.conversions.proofs.core_types.write_core.Reads as write-core-reads
-use Rattle.forms.proofs.types.whole_type.Reads as whole-type-reads
-use Rattle.validator.proofs.rooms.answer_fits.Reads as answer-fits-reads
 
 whole-type-requires : tie.Need-whole-type-requires
 whole-type-requires c κs = search needs
@@ -70,6 +67,43 @@ write-core-requires c κs =
           (core-length .result) (core-length .ensures) (n .given .0 .0) (n .given .1) (answer-fits .result) (answer-fits .ensures) (c .before .if2 .left),
     )
 
+-- The core type was written.
+core-wrote : (c : tie.After-write-core) →
+    let n = c .before .before .before .before .before .n in
+    let start = c .before .before .before .before .before .before .before .before .before .before .before .before in
+    let args = start .args in
+    Wrote (asLimits (args .limits)) (convertCall (asLimits (args .limits)) (args .t .now) (length (args .out .now)))
+    (args .out .now) (c .write-core .last .1 .1 .0) (n .given .0 .0)
+core-wrote c =
+    let if2 = c .before .before .if2 in
+    let answer-fits = c .before .before .before .answer-fits in
+    let n = c .before .before .before .before .before .n in
+    let after-core-length = c .before .before .before .before .before .before .before in
+    let core-length = after-core-length .core-length in
+    let if1 = after-core-length .before .if1 in
+    let whole-type = after-core-length .before .before .whole-type in
+    let known = after-core-length .before .before .before .before .shared-slice-known in
+    let start = after-core-length .before .before .before .before .before in
+    let args = start .args in
+    let by-type-is = type-is (asLimits (args .limits)) (args .t .now) (whole-type .result) (whole-type .ensures) (if1 .left) in
+    let by-convert-whole = convert-whole (asLimits (args .limits)) (start .pre) (args .t .now) (length (args .out .now)) (by-type-is .0) in
+    wrote (asLimits (args .limits)) (allowed-bytes (asLimits (args .limits)) (start .pre) .1) (core (dec (args .limits .levels) (args .t .now)))
+    (args .out .now) _ by-convert-whole (core-length .result) (core-length .ensures) (n .given .0 .0) (n .given .1)
+    (answer-fits .result) (answer-fits .ensures) (if2 .left) (c .write-core .last .1 .1 .0) (c .write-core .result) (c .write-core .ensures)
+    (core-within (asLimits (args .limits)) (args .t .now) (λ i. known .given i .fits) (by-type-is .1))
+
+sub-type-levels : tie.Need-sub-type-levels
+sub-type-levels c = search needs
+
+part-type-levels-start : tie.Need-part-type-levels-start
+part-type-levels-start c = search needs
+
+part-type-levels-end : tie.Need-part-type-levels-end
+part-type-levels-end c = omega (arith, wrote-small (core-wrote (c .before .before .before)))
+
+type-levels-requires : tie.Need-type-levels-requires
+type-levels-requires c κs = wrote-whole (core-wrote (c .before .before .before .before))
+
 enum-known-e : tie.Need-enum-known-e
 enum-known-e c = search needs
 
@@ -77,22 +111,7 @@ same-length : tie.Need-same-length
 same-length c = search needs
 
 returns-3 : tie.Need-returns-3
-returns-3 c =
-    let write-core = c .before .before .write-core in
-    let if2 = c .before .before .before .before .if2 in
-    let answer-fits = c .before .before .before .before .before .answer-fits in
-    let n = c .before .before .before .before .before .before .before .n in
-    let after-core-length = c .before .before .before .before .before .before .before .before .before in
-    let core-length = after-core-length .core-length in
-    let if1 = after-core-length .before .if1 in
-    let whole-type = after-core-length .before .before .whole-type in
-    let start = after-core-length .before .before .before .before .before in
-    let args = start .args in
-    let by-convert-whole = convert-whole (asLimits (args .limits)) (start .pre) (args .t .now) (length (args .out .now))
-    (type-is (asLimits (args .limits)) (args .t .now) (whole-type .result) (whole-type .ensures) (if1 .left) .0) in
-    writes (asLimits (args .limits)) (allowed-bytes (asLimits (args .limits)) (start .pre) .1) (core (dec (args .limits .levels) (args .t .now)))
-    (args .out .now) _ by-convert-whole (core-length .result) (core-length .ensures) (n .given .0 .0) (n .given .1)
-    (answer-fits .result) (answer-fits .ensures) (if2 .left) (write-core .last .1 .1 .0) (write-core .result) (write-core .ensures)
+returns-3 c = wrote-levels (core-wrote (c .before .before .before .before .before)) (c .type-levels .result) (c .type-levels .ensures)
 
 returns-4 : tie.Need-returns-4
 returns-4 c =
@@ -118,6 +137,10 @@ convert-under-spec =
     answer-fits-requires
     returns-2
     write-core-requires
+    sub-type-levels
+    part-type-levels-start
+    part-type-levels-end
+    type-levels-requires
     enum-known-e
     same-length
     returns-3

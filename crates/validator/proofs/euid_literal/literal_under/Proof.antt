@@ -124,12 +124,17 @@ write-literal-requires c κs =
     (else3 .if3 .left) in
     (find-literal .find-literal .ensures .laid, (u16-at .u16-at .ensures .1, by-literal-room))
 
+literal-levels-requires : tie.Need-literal-levels-requires
+literal-levels-requires c κs =
+    let find-literal = c .before .before .before .before .before .before .before .before in
+    find-literal .find-literal .ensures .stands
+
 same-length : tie.Need-same-length
 same-length c = search needs
 
 returns-4 : tie.Need-returns-4
 returns-4 c =
-    let write-literal = c .before .before in
+    let write-literal = c .before .before .before in
     let else3 = write-literal .before .before in
     let answer-fits = else3 .before in
     let else2 = answer-fits .before in
@@ -151,7 +156,8 @@ returns-4 c =
     (u16-at .u16-at .result) (u16-at2 .u16-at2 .result)
     by-uid-read (find-literal .find-literal .result) (find-literal .find-literal .ensures) by-Bytes-index (literal-length .literal-length .result)
     (literal-length .literal-length .ensures) (else2 .if2 .left) (answer-fits .answer-fits .result) (answer-fits .answer-fits .ensures)
-    (else3 .if3 .left) (write-literal .write-literal .last .1 .1 .1 .0) (write-literal .write-literal .ensures)
+    (else3 .if3 .left) (write-literal .write-literal .last .1 .1 .1 .0) (write-literal .write-literal .ensures) (c .literal-levels .result)
+    (c .literal-levels .ensures)
 
 pub literal-under-spec : {M : Type 1} → statement M
 literal-under-spec =
@@ -167,5 +173,6 @@ literal-under-spec =
     answer-fits-requires
     returns-3
     write-literal-requires
+    literal-levels-requires
     same-length
     returns-4)

@@ -2,15 +2,18 @@
 use Rattle.cedar.specs.Laws.Limits.{allowed-bytes}
 use Rattle.forms.specs.Limits.{asLimits}
 use mathlib.Core.Path.{refl}
-use lib.ListN.{length}
+use Prim.Native.Nat.{ℕ, _<_}
+use native.Mathlib.Omega.{arith}
+use lib.ListN.{length, getD}
+use Rattle.cedar.specs.Calls.{boundCall}
 use Rattle.cedar.specs.Laws.DirectBound.{direct}
 use Rattle.forms.specs.TypeBytes.{dec}
 use Rattle.forms.specs.Modes.{asMode}
 use Rattle.forms.specs.Laws.Modes.{mode-known, mode-none}
 use Rattle.validator.specs.Laws.Questions.{type-missing, type-there, type-whole}
 use Rattle.validator.specs.Laws.Schemas.{checked-missing, checked-there}
-use Rattle.validator.specs.Laws.Writing.{refuses, writes-not, writes-over, writes-ready, writes-length, writes}
-use Rattle.validator.specs.Laws.Bound.{bound-mode, bound-schema, bound-first, bound-second, bound-direct}
+use Rattle.validator.specs.Laws.Writing.{refuses, writes-not, writes-over, writes-ready, writes-length, wrote, Wrote, wrote-small, wrote-whole, wrote-levels}
+use Rattle.validator.specs.Laws.Bound.{bound-mode, bound-schema, bound-first, bound-second, bound-direct, bound-within}
 use borrow.Author.Needs.{needs}
 use Rattle.validator.proofs.least_upper_bound.least_upper_bound_under.Statement.{
   statement,
@@ -180,16 +183,15 @@ write-bound-requires c κs =
       ),
     )
 
-enum-known-e : tie.Need-enum-known-e
-enum-known-e c = search needs
-
-same-length : tie.Need-same-length
-same-length c = search needs
-
-returns-6 : tie.Need-returns-6
-returns-6 c =
-    let write-bound = c .before .before in
-    let else4 = write-bound .before .before in
+-- The bound was written.
+bound-wrote : (c : tie.After-write-bound) →
+    let n = c .before .before .before .before .before in
+    let start = n .before .before .before .before .before .before .before .before .before .before .before .before .before .before .before .before .before in
+    let args = start .args in
+    Wrote (asLimits (args .limits)) (boundCall (asLimits (args .limits)) (args .mode) (args .schema .now) (args .t0 .now) (args .t1 .now) (length (args .out .now)))
+    (args .out .now) (c .write-bound .last .1 .1 .1 .1 .1 .0) (n .n .given .0 .0)
+bound-wrote c =
+    let else4 = c .before .before in
     let answer-fits = else4 .before in
     let n = answer-fits .before .before in
     let bound-length = n .before .before in
@@ -212,13 +214,37 @@ returns-6 c =
     (else2 .if1 .left) in
     let by-type-there-2 = type-there (asLimits (args .limits)) (args .t1 .now) (whole-type2 .whole-type2 .result) (whole-type2 .whole-type2 .ensures)
     (else3 .if2 .left) in
-    writes (asLimits (args .limits)) (allowed-bytes (asLimits (args .limits)) (start .pre .0) .1) by-direct (args .out .now) _ (bound-direct (asLimits
-    (args .limits)) (start .pre .0) (args .mode) (args .schema .now) (args .t0 .now) (args .t1 .now) (length (args .out .now)) _ by-mode-known
-    _ by-checked-there by-type-there (λ i. shared-slice-known2 .shared-slice-known2 .given i .fits)
-    (λ i. shared-slice-known3 .shared-slice-known3 .given i .fits) by-type-there-2) (bound-length .bound-length .result)
-    (bound-length .bound-length .ensures) (n .n .given .0 .0) (n .n .given .1) (answer-fits .answer-fits .result)
-    (answer-fits .answer-fits .ensures) (else4 .if3 .left) (write-bound .write-bound .last .1 .1 .1 .1 .1 .0) (write-bound .write-bound .result)
-    (write-bound .write-bound .ensures)
+    let known-first : (i : ℕ) → getD (args .t0 .now) i 0 < 256 = λ i. shared-slice-known2 .shared-slice-known2 .given i .fits in
+    let known-second : (i : ℕ) → getD (args .t1 .now) i 0 < 256 = λ i. shared-slice-known3 .shared-slice-known3 .given i .fits in
+    let by-bound-direct = bound-direct (asLimits (args .limits)) (start .pre .0) (args .mode) (args .schema .now) (args .t0 .now) (args .t1 .now) (length
+    (args .out .now)) _ by-mode-known _ by-checked-there by-type-there known-first known-second by-type-there-2 in
+    let by-bound-within = bound-within (asLimits (args .limits)) (start .pre .0) (args .mode) (args .schema .now) (args .t0 .now) (args .t1 .now) (length
+    (args .out .now)) _ by-mode-known _ by-checked-there by-type-there known-first known-second by-type-there-2 in
+    wrote (asLimits (args .limits)) (allowed-bytes (asLimits (args .limits)) (start .pre .0) .1) by-direct (args .out .now) _ by-bound-direct
+    (bound-length .bound-length .result) (bound-length .bound-length .ensures) (n .n .given .0 .0) (n .n .given .1) (answer-fits .answer-fits .result)
+    (answer-fits .answer-fits .ensures) (else4 .if3 .left) (c .write-bound .last .1 .1 .1 .1 .1 .0) (c .write-bound .result) (c .write-bound .ensures)
+    by-bound-within
+
+sub-type-levels : tie.Need-sub-type-levels
+sub-type-levels c = search needs
+
+part-type-levels-start : tie.Need-part-type-levels-start
+part-type-levels-start c = search needs
+
+part-type-levels-end : tie.Need-part-type-levels-end
+part-type-levels-end c = omega (arith, wrote-small (bound-wrote (c .before .before .before)))
+
+type-levels-requires : tie.Need-type-levels-requires
+type-levels-requires c κs = wrote-whole (bound-wrote (c .before .before .before .before))
+
+enum-known-e : tie.Need-enum-known-e
+enum-known-e c = search needs
+
+same-length : tie.Need-same-length
+same-length c = search needs
+
+returns-6 : tie.Need-returns-6
+returns-6 c = wrote-levels (bound-wrote (c .before .before .before .before .before)) (c .type-levels .result) (c .type-levels .ensures)
 
 returns-7 : tie.Need-returns-7
 returns-7 c =
@@ -269,6 +295,10 @@ least-upper-bound-under-spec =
     answer-fits-requires
     returns-5
     write-bound-requires
+    sub-type-levels
+    part-type-levels-start
+    part-type-levels-end
+    type-levels-requires
     enum-known-e
     same-length
     returns-6

@@ -1,6 +1,7 @@
 -- `validator::lookup_attribute_type::looked_up` meets its contract. Assumes nothing.
 use Rattle.forms.specs.Limits.{asLimits}
-use Rattle.validator.specs.Laws.Lookup.{small, lookup-no-type, lookup-nothing, lookup-too-long, lookup-over, lookup-room, lookup-writes}
+use Rattle.cedar.specs.Laws.Limits.{allowed-levels}
+use Rattle.validator.specs.Laws.Lookup.{lookup-whole, small, lookup-no-type, lookup-nothing, lookup-too-long, lookup-over, lookup-room, lookup-writes}
 use native.Mathlib.Omega.{arith}
 use lib.ListN.{length}
 use Rattle.validator.specs.Laws.Questions.{type-missing, type-there, type-whole, type-few}
@@ -116,6 +117,51 @@ copy-requires c κs =
     (answer-fits .answer-fits .result)
     (answer-fits .answer-fits .ensures) (else2 .if2 .left)
 
+sub-type-levels : tie.Need-sub-type-levels
+sub-type-levels c = search needs
+
+part-type-levels-start : tie.Need-part-type-levels-start
+part-type-levels-start c = search needs
+
+part-type-levels-end : tie.Need-part-type-levels-end
+part-type-levels-end c =
+    let required = c .before .before .before .before .before .before .before .before .before .before in
+    let look-up = required .before .before .before .before .before .before in
+    let else1 = look-up .before .before .before in
+    let at-whole-type = else1 .before in
+    let start = at-whole-type .before .before .before .before .before .before .before in
+    let args = start .args in
+    let by-checked-there = sectioned-there (args .schema .now) (args .«at») (start .pre .0) in
+    let by-type-there = type-there (asLimits (args .«at» .limits)) (args .t .now) (at-whole-type .whole-type .result) (at-whole-type .whole-type .ensures)
+    (else1 .if1 .left) in
+    let by-small = small (asLimits (args .«at» .limits)) (start .pre .0 .fair) (args .schema .now) (args .attr) (args .t .now) (args .out .now) (length
+    (args .work .now)) _ by-checked-there _ by-type-there
+    (look-up .look-up .last .1 .1 .1 .1 .0) (look-up .look-up .result) (look-up .look-up .ensures) (required .required .given .0 .0)
+    (required .required .given .0 .1 .0) (required .required .given .1) (omega (arith, look-up .look-up .kept .1 .1 .1 .1 .0, start .pre .1)) in
+    omega (arith, by-small, look-up .look-up .kept .1 .1 .1 .1 .0, start .pre .1)
+
+sub-type-levels-2 : tie.Need-sub-type-levels-2
+sub-type-levels-2 c =
+    let start = c .before .before .before .before .before .before .before .before .before .before .before .before .before .before .before .before .before
+    .before .before .before .before .before .before .before .before .before .before .before .before in
+    omega (arith, allowed-levels (asLimits (start .args .«at» .limits)) (start .pre .0 .fair) .0)
+
+type-levels-requires : tie.Need-type-levels-requires
+type-levels-requires c κs =
+    let required = c .before .before .before .before .before .before .before .before .before .before .before .before in
+    let look-up = required .before .before .before .before .before .before in
+    let else1 = look-up .before .before .before in
+    let at-whole-type = else1 .before in
+    let start = at-whole-type .before .before .before .before .before .before .before in
+    let args = start .args in
+    let by-checked-there = sectioned-there (args .schema .now) (args .«at») (start .pre .0) in
+    let by-type-there = type-there (asLimits (args .«at» .limits)) (args .t .now) (at-whole-type .whole-type .result) (at-whole-type .whole-type .ensures)
+    (else1 .if1 .left) in
+    lookup-whole (asLimits (args .«at» .limits)) (start .pre .0 .fair) (args .schema .now) (args .attr) (args .t .now) (args .out .now) (length
+    (args .work .now)) _ by-checked-there _ by-type-there
+    (look-up .look-up .last .1 .1 .1 .1 .0) (look-up .look-up .result) (look-up .look-up .ensures) (required .required .given .0 .0)
+    (required .required .given .0 .1 .0) (required .required .given .1) (omega (arith, look-up .look-up .kept .1 .1 .1 .1 .0, start .pre .1))
+
 enum-told : tie.Need-enum-told
 enum-told c = search needs
 
@@ -133,7 +179,7 @@ same-length-5 c = search needs
 
 returns-3 : tie.Need-returns-3
 returns-3 c =
-    let copy = c .before .before in
+    let copy = c .before .before .before .before .before .before in
     let else2 = copy .before .before .before .before in
     let answer-fits = else2 .before in
     let required = answer-fits .before .before in
@@ -151,6 +197,7 @@ returns-3 c =
     (required .required .given .0 .1 .0) (required .required .given .1) (omega (arith, look-up .look-up .kept .1 .1 .1 .1 .0, start .pre .1))
     (answer-fits .answer-fits .result)
     (answer-fits .answer-fits .ensures) (else2 .if2 .left) (copy .copy .last .1 .0) (copy .copy .ensures)
+    (c .type-levels .result) (c .type-levels .ensures)
 
 same-length-6 : tie.Need-same-length-6
 same-length-6 c = search needs
@@ -208,6 +255,11 @@ looked-up-spec =
     part-copy-start
     part-copy-end
     copy-requires
+    sub-type-levels
+    part-type-levels-start
+    part-type-levels-end
+    sub-type-levels-2
+    type-levels-requires
     enum-told
     enum-told-2
     same-length-3

@@ -1,6 +1,6 @@
 use Rattle.forms.specs.Limits.{asLimits}
 use Rattle.forms.specs.Laws.Modes.{mode-known, mode-none}
-use Rattle.validator.specs.Laws.Fold.{list-there, list-opened, folds-not, folds-small, folds-exact, folds-length, folds-over, folds-room, folds-typed}
+use Rattle.validator.specs.Laws.Fold.{list-there, list-opened, folds-not, folds-small, folds-exact, folds-whole, folds-length, folds-over, folds-room, folds-typed}
 use Rattle.validator.specs.Laws.Fold.{fold-mode, fold-schema, fold-list, fold-refused, fold-writes}
 use Rattle.validator.specs.Laws.Questions.{missing}
 use Rattle.validator.specs.Laws.Schemas.{checked-missing, checked-there}
@@ -159,6 +159,41 @@ copy-requires c κs =
     (answer-fits .result) (answer-fits .ensures) (if2 .left) in
     omega (arith, by-folds-room)
 
+sub-type-levels : tie.Need-sub-type-levels
+sub-type-levels c = search needs
+
+part-type-levels-start : tie.Need-part-type-levels-start
+part-type-levels-start c = search needs
+
+part-type-levels-end : tie.Need-part-type-levels-end
+part-type-levels-end c =
+    let after-n = c .before .before .before .before .before .before .before .before .before .before in
+    let n = after-n .n in
+    let fold-types = after-n .before .before .before .before .before .before .fold-types in
+    let known = after-n .before .before .before .before .before .before .before .before .before .before .before .before .before .before in
+    let start = known .before .before .before .before .before .before .before .before in
+    let args = start .args in
+    let f = foldTypes (stepFits (asLimits (args .limits)) (length (args .work .now))) (asMode (known .m .given .0 .0)) (listOf (args .limits .levels)
+    (args .list .now)) in
+    omega (
+      arith,
+      folds-small (asLimits (args .limits)) f (args .out .now) (fold-types .last .1 .1 .1 .0) (fold-types .result) (fold-types .ensures)
+          (n .given .0 .0) (n .given .1),
+    )
+
+type-levels-requires : tie.Need-type-levels-requires
+type-levels-requires c κs =
+    let after-n = c .before .before .before .before .before .before .before .before .before .before .before in
+    let n = after-n .n in
+    let fold-types = after-n .before .before .before .before .before .before .fold-types in
+    let known = after-n .before .before .before .before .before .before .before .before .before .before .before .before .before .before in
+    let start = known .before .before .before .before .before .before .before .before in
+    let args = start .args in
+    let f = foldTypes (stepFits (asLimits (args .limits)) (length (args .work .now))) (asMode (known .m .given .0 .0)) (listOf (args .limits .levels)
+    (args .list .now)) in
+    folds-whole (asLimits (args .limits)) f (args .out .now) (fold-types .last .1 .1 .1 .0) (fold-types .result) (fold-types .ensures) (n .given .0 .0)
+    (n .given .1)
+
 enum-known-e : tie.Need-enum-known-e
 enum-known-e c = search needs
 
@@ -173,10 +208,11 @@ same-length-5 c = search needs
 
 returns-5 : tie.Need-returns-5
 returns-5 c =
-    let copy = c .before .before .copy in
-    let if2 = c .before .before .before .before .before .before .if2 in
-    let answer-fits = c .before .before .before .before .before .before .before .answer-fits in
-    let after-n = c .before .before .before .before .before .before .before .before .before in
+    let after-copy = c .before .before .before .before .before in
+    let copy = after-copy .copy in
+    let if2 = after-copy .before .before .before .before .if2 in
+    let answer-fits = after-copy .before .before .before .before .before .answer-fits in
+    let after-n = after-copy .before .before .before .before .before .before .before in
     let n = after-n .n in
     let fold-types = after-n .before .before .before .before .before .before .fold-types in
     let if1 = after-n .before .before .before .before .before .before .before .before .before .if1 in
@@ -203,6 +239,7 @@ returns-5 c =
     fold-writes (asLimits (args .limits)) (start .pre .0) (args .mode) (args .schema .now) (args .list .now) (args .out .now) (length
     (args .work .now)) _ by-mode-known _ by-checked-there by-list-there
     (n .given .0 .0) (fold-types .last .1 .1 .1 .0) by-folds-typed by-folds-exact by-folds-length (copy .last .1 .0) (copy .ensures)
+    (c .type-levels .result) (c .type-levels .ensures)
 
 same-length-6 : tie.Need-same-length-6
 same-length-6 c = search needs
@@ -256,6 +293,10 @@ reduced-spec =
     part-copy-start
     part-copy-end
     copy-requires
+    sub-type-levels
+    part-type-levels-start
+    part-type-levels-end
+    type-levels-requires
     enum-known-e
     same-length-3
     same-length-4
