@@ -5,7 +5,7 @@ use Prim.Native.Nat.{ℕ}
 abbrev pub kindStep : ℕ
 kindStep = 256
 
--- The second of two offsets, and the limits above both.
+-- The second of two offsets, the limits above both, and the levels above a length.
 abbrev pub packedStep : ℕ
 packedStep = 65536
 

@@ -1,4 +1,4 @@
-// The calls, each with its limits and the schema's bytes: both are checked in every call.
+// The calls, each with its limits and, if it takes a schema, the schema's bytes: both are checked in every call.
 use crate::numbers::answer_number;
 use crate::numbers::part_number;
 use forms::limits::Limits;
@@ -11,6 +11,8 @@ use validator::is_subtype::is_subtype;
 use validator::least_upper_bound::least_upper_bound;
 use validator::lookup_attribute_type::lookup_attribute_type;
 use validator::may_have_attr::may_have_attr;
+use validator::measure_type::measure_type;
+use validator::measure_value::measure_value;
 use validator::own_attribute_type::own_attribute_part;
 use validator::reduce_to_least_upper_bound::reduce_to_least_upper_bound;
 use validator::typecheck_restricted_expr::typecheck_restricted_expr;
@@ -18,11 +20,27 @@ use validator::typecheck_restricted_expr::typecheck_restricted_expr_exact;
 ghost use mathlib.Core.Path.{_≡_};
 ghost use lib.ListN.{length};
 ghost use Rattle.cedar.specs.BodyPlace.{bodyIn};
-ghost use Rattle.cedar.specs.Calls.{subtypeCall, boundCall, foldCall, lookupCall, ownAttributeCall, mayHaveCall, namesCall, literalCall, conformsCall, fullCall, disjointCall, consistentCall, convertCall};
+ghost use Rattle.cedar.specs.Calls.{subtypeCall, boundCall, foldCall, lookupCall, ownAttributeCall, mayHaveCall, namesCall, literalCall, conformsCall, fullCall, disjointCall, consistentCall, convertCall, measureTypeCall, measureValueCall};
 ghost use Rattle.validator.specs.Answers.{answerOf};
 ghost use Rattle.validator.specs.Handed.{partOf};
 ghost use Rattle.exports.specs.Checks.{within};
 ghost use Rattle.exports.specs.Numbers.{answerNumber, Numbered, NumberedIn, partNumber};
+
+// How long a type's form is, and how many levels it has.
+#[no_mangle]
+pub extern "C" fn tirncheav_measure_type(levels: usize, bytes: usize, t: &[u8]) -> u64
+    ensures { λ r. ⌜ r ≡ answerNumber (answerOf (measureTypeCall (within levels bytes) (now (t .entry)))) ⌝ }
+{
+    answer_number(measure_type(Limits { levels, bytes }, t))
+}
+
+// How long a value's form is, and how many levels it has.
+#[no_mangle]
+pub extern "C" fn tirncheav_measure_value(levels: usize, bytes: usize, v: &[u8]) -> u64
+    ensures { λ r. ⌜ r ≡ answerNumber (answerOf (measureValueCall (within levels bytes) (now (v .entry)))) ⌝ }
+{
+    answer_number(measure_value(Limits { levels, bytes }, v))
+}
 
 // Whether both types name entity types, and none in common.
 #[no_mangle]

@@ -3,7 +3,10 @@ use crate::checks::Packed;
 use validator::answers::Answer;
 use validator::own_attribute_type::OwnPart;
 ghost use mathlib.Core.Path.{_≡_};
-ghost use Rattle.exports.specs.Numbers.{answerNumber, Brief, partNumber, Narrow};
+ghost use Prim.Native.Nat.{_+_, _*_, _<_, _≤_};
+ghost use Rattle.cedar.specs.Limits.{mostBytes};
+ghost use Rattle.exports.specs.Steps.{kindStep};
+ghost use Rattle.exports.specs.Numbers.{sizes, answerNumber, Brief, partNumber, Narrow};
 
 // The kind of an answer, in the low byte of its number.
 pub struct Kind;
@@ -27,11 +30,22 @@ impl Kind {
 
     pub const REQUIRED_PART: u64 = 8;
 
+    pub const MEASURED: u64 = 9;
+
     // What the number above the kind is multiplied by.
     pub const STEP: u64 = 256;
 }
 
-// A kind, with a refusal's number or a length above it.
+// A kind, with a length above it, and levels above that.
+fn sized_number(kind: u64, length: usize, levels: usize) -> u64
+    requires { ⌜ (kind < 256) × (length ≤ mostBytes) × (levels ≤ mostBytes) ⌝ }
+    ensures { λ r. ⌜ r ≡ kind + kindStep * sizes length levels ⌝ }
+{
+    let above = length + Packed::STEP * levels;
+    kind + Kind::STEP * (above as u64)
+}
+
+// A kind, with a refusal's number or what is told of a form above it.
 pub fn answer_number(a: Answer) -> u64
     requires { ⌜ Brief a ⌝ }
     ensures { λ r. ⌜ r ≡ answerNumber a ⌝ }
@@ -41,13 +55,15 @@ pub fn answer_number(a: Answer) -> u64
         Answer::Yes => Kind::YES,
         Answer::No => Kind::NO,
         Answer::Nothing => Kind::NOTHING,
-        Answer::Wrote(n) => Kind::WROTE + Kind::STEP * (n as u64),
-        Answer::Attribute(required, n) => {
+        Answer::Measured(n, levels) => sized_number(Kind::MEASURED, n, levels),
+        Answer::Typed(n, levels) => sized_number(Kind::WROTE, n, levels),
+        Answer::Attribute(required, n, levels) => {
             if required {
-                return Kind::REQUIRED + Kind::STEP * (n as u64);
+                return sized_number(Kind::REQUIRED, n, levels);
             }
-            Kind::OPTIONAL + Kind::STEP * (n as u64)
+            sized_number(Kind::OPTIONAL, n, levels)
         }
+        Answer::Named(n) => sized_number(Kind::WROTE, n, 0),
     }
 }
 

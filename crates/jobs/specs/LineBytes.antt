@@ -5,7 +5,7 @@ use mathlib.Core.Bool.{Bool, true, false}
 use lib.ListN.{length, take}
 use Rattle.cedar.specs.Lines.{decimal, hex}
 use Rattle.validator.specs.declared.answers.Answer.{Answer}
-use Rattle.validator.specs.declared.answers.Answer.the-variants.{Refused, Yes, No, Nothing, Wrote, Attribute}
+use Rattle.validator.specs.declared.answers.Answer.the-variants.{Refused, Yes, No, Nothing, Measured, Typed, Attribute, Named}
 
 -- The refusal's number, or 0.
 abbrev pub numberIn : Answer → ℕ
@@ -13,8 +13,10 @@ numberIn (Refused n) = n
 numberIn Yes = 0
 numberIn No = 0
 numberIn Nothing = 0
-numberIn (Wrote n) = 0
-numberIn (Attribute r n) = 0
+numberIn (Measured n l) = 0
+numberIn (Typed n l) = 0
+numberIn (Attribute r n l) = 0
+numberIn (Named n) = 0
 
 -- How many bytes of the result buffer are the answer's.
 abbrev pub manyIn : Answer → ℕ
@@ -22,8 +24,10 @@ manyIn (Refused n) = 0
 manyIn Yes = 0
 manyIn No = 0
 manyIn Nothing = 0
-manyIn (Wrote n) = n
-manyIn (Attribute r n) = n
+manyIn (Measured n l) = 0
+manyIn (Typed n l) = n
+manyIn (Attribute r n l) = n
+manyIn (Named n) = n
 
 -- r: or o:.
 abbrev pub requiredWord : Bool → List ℕ
@@ -36,8 +40,10 @@ textIn (Refused n) result = 45 ∷ []
 textIn Yes result = 121 ∷ 101 ∷ 115 ∷ []
 textIn No result = 110 ∷ 111 ∷ []
 textIn Nothing result = 110 ∷ 111 ∷ 110 ∷ 101 ∷ []
-textIn (Wrote n) result = hex (take n result)
-textIn (Attribute r n) result = requiredWord r ++ hex (take n result)
+textIn (Measured n l) result = []
+textIn (Typed n l) result = hex (take n result)
+textIn (Attribute r n l) result = requiredWord r ++ hex (take n result)
+textIn (Named n) result = hex (take n result)
 
 -- A number and a space.
 unfoldable pub field : ℕ → List ℕ

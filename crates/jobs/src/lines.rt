@@ -24,8 +24,10 @@ fn number(answer: Answer) -> usize
         Answer::Yes => 0,
         Answer::No => 0,
         Answer::Nothing => 0,
-        Answer::Wrote(_) => 0,
-        Answer::Attribute(_, _) => 0,
+        Answer::Measured(_, _) => 0,
+        Answer::Typed(_, _) => 0,
+        Answer::Attribute(_, _, _) => 0,
+        Answer::Named(_) => 0,
     }
 }
 
@@ -59,7 +61,7 @@ fn put_attribute(required: bool, form: &[u8], out: &mut [u8]) -> usize
     at + put_hex(form, &mut out[at..])
 }
 
-// Writes an answer whose bytes begin the result buffer.
+// Writes an answer whose bytes begin the result buffer. No question of a job measures.
 fn put_answer(answer: Answer, result: &[u8], out: &mut [u8]) -> usize
     requires { ⌜ manyIn answer ≤ length (now result) ⌝ }
     requires { ⌜ length (textIn answer (now result)) ≤ length (now out) ⌝ }
@@ -70,8 +72,10 @@ fn put_answer(answer: Answer, result: &[u8], out: &mut [u8]) -> usize
         Answer::Yes => put_bytes(b"yes", out),
         Answer::No => put_bytes(b"no", out),
         Answer::Nothing => put_bytes(b"none", out),
-        Answer::Wrote(n) => put_hex(&result[..n], out),
-        Answer::Attribute(required, n) => put_attribute(required, &result[..n], out),
+        Answer::Measured(_, _) => 0,
+        Answer::Typed(n, _) => put_hex(&result[..n], out),
+        Answer::Attribute(required, n, _) => put_attribute(required, &result[..n], out),
+        Answer::Named(n) => put_hex(&result[..n], out),
     }
 }
 

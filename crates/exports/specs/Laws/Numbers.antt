@@ -1,5 +1,5 @@
 -- A number says one answer. Assumes nothing.
-use Prim.Native.Nat.{ℕ, _+_, _*_, _/_, _%_, _<_, _≤_}
+use Prim.Native.Nat.{ℕ, zero, suc, _+_, _*_, _/_, _%_, _<_, _≤_}
 use native.Mathlib.Omega.{arith}
 use mathlib.Core.List.{List}
 use mathlib.Core.Bool.{Bool, true, false}
@@ -11,14 +11,14 @@ use Rattle.cedar.specs.Limits.{Limits, mostBytes}
 use Rattle.cedar.specs.BodyPlace.{bodyIn}
 use Rattle.cedar.specs.Calls.{ownAttributeCall}
 use Rattle.validator.specs.declared.answers.Answer.{Answer}
-use Rattle.validator.specs.declared.answers.Answer.the-variants.{Refused, Yes, No, Nothing, Wrote, Attribute}
+use Rattle.validator.specs.declared.answers.Answer.the-variants.{Refused, Yes, No, Nothing, Measured, Typed, Attribute, Named}
 use Rattle.validator.specs.Answers.{Answered, AnsweredIn}
 use Rattle.validator.specs.Handed.{partOf}
 use Rattle.validator.specs.Laws.Handed.{here-found}
 use Rattle.validator.specs.declared.own_attribute_type.OwnPart.{OwnPart}
 use Rattle.validator.specs.declared.own_attribute_type.OwnPart.the-variants as places
 use Rattle.exports.specs.Steps.{kindStep, packedStep}
-use Rattle.exports.specs.Numbers.{answerNumber, answerWith, readAnswer, Brief, Numbered, NumberedIn, partNumber, partWith, readPart, Narrow}
+use Rattle.exports.specs.Numbers.{sizes, answerNumber, wroteWith, answerWith, readAnswer, Brief, Numbered, NumberedIn, partNumber, partWith, readPart, Narrow}
 
 -- A kind, and what stands above it.
 cut : (k n : ℕ) → k < kindStep → ((k + kindStep * n) % kindStep ≡ k) × ((k + kindStep * n) / kindStep ≡ n)
@@ -30,39 +30,53 @@ cut-refused n = (omega arith, omega arith)
 parts : (k n : ℕ) → k < kindStep → readAnswer (k + kindStep * n) ≡ answerWith k n
 parts k n l = rw (cut k n l .0, cut k n l .1) refl
 
+-- A length, and what stands above it.
+located : (s e : ℕ) → s ≤ mostBytes → ((s + packedStep * e) % packedStep ≡ s) × ((s + packedStep * e) / packedStep ≡ e)
+located s e l = (omega (arith, l), omega (arith, l))
+
+-- A type that was written has levels.
+wrote-type : (n l : ℕ) → 1 ≤ l → wroteWith n l ≡ Typed n l
+wrote-type n zero h = absurd (omega arith)
+wrote-type n (suc l) h = refl
+
 -- A number is read as the answer that it was made of.
-pub reads : (a : Answer) → readAnswer (answerNumber a) ≡ a
-reads (Refused n) = rw (cut-refused n .0, cut-refused n .1) refl
-reads Yes = refl
-reads No = refl
-reads Nothing = refl
-reads (Wrote n) = parts 4 n (omega arith)
-reads (Attribute false n) = parts 5 n (omega arith)
-reads (Attribute true n) = parts 6 n (omega arith)
+pub reads : (a : Answer) → Brief a → readAnswer (answerNumber a) ≡ a
+reads (Refused n) h = rw (cut-refused n .0, cut-refused n .1) refl
+reads Yes h = refl
+reads No h = refl
+reads Nothing h = refl
+reads (Measured n l) h = parts 9 (sizes n l) (omega arith) ∙ rw (located n l (h .0) .0, located n l (h .0) .1) refl
+reads (Typed n l) h = parts 4 (sizes n l) (omega arith) ∙ rw (located n l (h .0) .0, located n l (h .0) .1) (wrote-type n l (h .2))
+reads (Attribute false n l) h = parts 5 (sizes n l) (omega arith) ∙ rw (located n l (h .0) .0, located n l (h .0) .1) refl
+reads (Attribute true n l) h = parts 6 (sizes n l) (omega arith) ∙ rw (located n l (h .0) .0, located n l (h .0) .1) refl
+reads (Named n) h = parts 4 (sizes n 0) (omega arith) ∙ rw (located n 0 h .0, located n 0 h .1) refl
 
--- So no two answers have one number.
-pub one-answer : (a b : Answer) → answerNumber a ≡ answerNumber b → a ≡ b
-one-answer a b e = sym (reads a) ∙ ap readAnswer e ∙ reads b
+-- So no two brief answers have one number.
+pub one-answer : (a b : Answer) → Brief a → Brief b → answerNumber a ≡ answerNumber b → a ≡ b
+one-answer a b h k e = sym (reads a h) ∙ ap readAnswer e ∙ reads b k
 
--- The lengths that an answer tells.
-pub wrote-brief : (a : Answer) (n : ℕ) → Brief a → a ≡ Wrote n → n ≤ mostBytes
-wrote-brief a n h e = subst Brief e h
+-- What an answer tells.
+pub measured-brief : (a : Answer) (n l : ℕ) → Brief a → a ≡ Measured n l → (n ≤ mostBytes) × (l ≤ mostBytes)
+measured-brief a n l h e = let b : Brief (Measured n l) = subst Brief e h in (b .0, omega (arith, b .0, b .1))
 
-pub attribute-brief : (a : Answer) (q : Bool) (n : ℕ) → Brief a → a ≡ Attribute q n → n ≤ mostBytes
-attribute-brief a q n h e = subst Brief e h
+pub typed-brief : (a : Answer) (n l : ℕ) → Brief a → a ≡ Typed n l → (n ≤ mostBytes) × (l ≤ mostBytes)
+typed-brief a n l h e = let b : Brief (Typed n l) = subst Brief e h in (b .0, omega (arith, b .0, b .1))
+
+pub attribute-brief : (a : Answer) (q : Bool) (n l : ℕ) → Brief a → a ≡ Attribute q n l → (n ≤ mostBytes) × (l ≤ mostBytes)
+attribute-brief a q n l h e = let b : Brief (Attribute q n l) = subst Brief e h in (b .0, omega (arith, b .0, b .1))
+
+pub named-brief : (a : Answer) (n : ℕ) → Brief a → a ≡ Named n → n ≤ mostBytes
+named-brief a n h e = subst Brief e h
 
 -- The number of an answer, case by case.
 pub refused-number : (a : Answer) (n : ℕ) → a ≡ Refused n → 0 + kindStep * n ≡ answerNumber a
 refused-number a n e = omega arith ∙ sym (ap answerNumber e)
 
-pub wrote-number : (a : Answer) (n : ℕ) → a ≡ Wrote n → 4 + kindStep * n ≡ answerNumber a
-wrote-number a n e = sym (ap answerNumber e)
+pub required-number : (a : Answer) (q : Bool) (n l : ℕ) → a ≡ Attribute q n l → q ≡ true → 6 + kindStep * sizes n l ≡ answerNumber a
+required-number a q n l e h = sym (ap answerNumber (e ∙ ap (λ (z : Bool). Attribute z n l) h))
 
-pub required-number : (a : Answer) (q : Bool) (n : ℕ) → a ≡ Attribute q n → q ≡ true → 6 + kindStep * n ≡ answerNumber a
-required-number a q n e h = sym (ap answerNumber (e ∙ ap (λ (z : Bool). Attribute z n) h))
-
-pub optional-number : (a : Answer) (q : Bool) (n : ℕ) → a ≡ Attribute q n → q ≡ false → 5 + kindStep * n ≡ answerNumber a
-optional-number a q n e h = sym (ap answerNumber (e ∙ ap (λ (z : Bool). Attribute z n) h))
+pub optional-number : (a : Answer) (q : Bool) (n l : ℕ) → a ≡ Attribute q n l → q ≡ false → 5 + kindStep * sizes n l ≡ answerNumber a
+optional-number a q n l e h = sym (ap answerNumber (e ∙ ap (λ (z : Bool). Attribute z n l) h))
 
 -- The number of what an entry answered.
 module _ {o : Outcome} {a : Answer} {before after : List ℕ} (r : ℕ) (e : r ≡ answerNumber a) where
@@ -73,9 +87,6 @@ module _ {o : Outcome} {a : Answer} {before after : List ℕ} (r : ℕ) (e : r �
   numbered-in q = record { number = e ∙ ap answerNumber (q .answer); result = q .result; cleared = q .cleared }
 
 -- A part's number is read as the part that it was made of.
-located : (s e : ℕ) → s ≤ mostBytes → ((s + packedStep * e) % packedStep ≡ s) × ((s + packedStep * e) / packedStep ≡ e)
-located s e l = (omega (arith, l), omega (arith, l))
-
 part-kind : (k n : ℕ) → k < kindStep → readPart (k + kindStep * n) ≡ partWith k n
 part-kind k n l = rw (cut k n l .0, cut k n l .1) refl
 

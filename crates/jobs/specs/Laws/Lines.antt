@@ -10,10 +10,10 @@ use Rattle.cedar.specs.Bytes.{encNames}
 use Rattle.cedar.specs.TypeForm.{enc}
 use Rattle.cedar.specs.Result.{badJob}
 use Rattle.cedar.specs.Lines.{decimal, hex, line, badLine}
-use Rattle.cedar.specs.Outcome.{Outcome, refused, said, nothing, typed, attribute, named, over, bytesOf, resultAfter}
+use Rattle.cedar.specs.Outcome.{Outcome, refused, said, nothing, measured, typed, attribute, named, over, bytesOf, resultAfter}
 use Rattle.forms.specs.Parts.{rest}
 use Rattle.validator.specs.declared.answers.Answer.{Answer}
-use Rattle.validator.specs.declared.answers.Answer.the-variants.{Refused, Yes, No, Nothing, Wrote, Attribute}
+use Rattle.validator.specs.declared.answers.Answer.the-variants.{Refused, Yes, No, Nothing, Measured, Typed, Attribute, Named}
 use Rattle.validator.specs.Answers.{answerOf}
 use Rattle.writing.specs.Written.{Written}
 use Rattle.jobs.specs.LineBytes.{numberIn, manyIn, requiredWord, textIn, field, lineIn, LineRoom}
@@ -128,6 +128,7 @@ line-is i (refused n) before = line-text i n (45 ∷ [])
 line-is i (said true) before = line-text i 0 (121 ∷ 101 ∷ 115 ∷ [])
 line-is i (said false) before = line-text i 0 (110 ∷ 111 ∷ [])
 line-is i nothing before = line-text i 0 (110 ∷ 111 ∷ 110 ∷ 101 ∷ [])
+line-is i (measured n l) before = line-text i 0 []
 line-is i (typed t) before = rw (take-append-seam (enc t) (drop (length (enc t)) before)) (line-text i 0 (hex (enc t)))
 line-is i (attribute true t) before = rw (take-append-seam (enc t) (drop (length (enc t)) before)) (line-text i 0 (114 ∷ 58 ∷ hex (enc t)))
 line-is i (attribute false t) before = rw (take-append-seam (enc t) (drop (length (enc t)) before)) (line-text i 0 (111 ∷ 58 ∷ hex (enc t)))
@@ -139,6 +140,7 @@ many-is (refused n) = refl
 many-is (said true) = refl
 many-is (said false) = refl
 many-is nothing = refl
+many-is (measured n l) = refl
 many-is (typed t) = refl
 many-is (attribute r t) = refl
 many-is (named ns) = refl

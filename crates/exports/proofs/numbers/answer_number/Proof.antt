@@ -1,6 +1,8 @@
 -- `exports::numbers::answer_number` meets its contract. Assumes nothing.
+use mathlib.Core.Path.{ap, sym, _∙_}
 use native.Mathlib.Omega.{arith}
-use Rattle.exports.specs.Laws.Numbers.{wrote-brief, attribute-brief, refused-number, wrote-number, required-number, optional-number}
+use Rattle.exports.specs.Numbers.{answerNumber}
+use Rattle.exports.specs.Laws.Numbers.{measured-brief, typed-brief, attribute-brief, named-brief, refused-number, required-number, optional-number}
 use borrow.Author.Needs.{needs}
 use Rattle.exports.proofs.numbers.answer_number.Statement.{statement}
 use Rattle.exports.proofs.numbers.answer_number.Tie as tie
@@ -29,56 +31,60 @@ enum-told-3 c = search needs
 enum-known-a-2 : tie.Need-enum-known-a-2
 enum-known-a-2 c = search needs
 
-mul-result-2 : tie.Need-mul-result-2
-mul-result-2 c =
+sized-number-requires : tie.Need-sized-number-requires
+sized-number-requires c κs =
+    let told = c .before .a2 .given in
     let start = c .before .before .before in
-    let a2 = c .before in
-    omega (arith, wrote-brief (start .args .a) (a2 .a2 .given .0 .0) (start .pre) (a2 .a2 .given .1))
-
-add-result-2 : tie.Need-add-result-2
-add-result-2 c =
-    let start = c .before .before .before in
-    let a2 = c .before in
-    omega (arith, wrote-brief (start .args .a) (a2 .a2 .given .0 .0) (start .pre) (a2 .a2 .given .1))
+    let most = measured-brief (start .args .a) (told .0 .0) (told .0 .1 .0) (start .pre) (told .1) in
+    (omega arith, most .0, most .1)
 
 enum-known-a-3 : tie.Need-enum-known-a-3
 enum-known-a-3 c = search needs
 
-mul-result-3 : tie.Need-mul-result-3
-mul-result-3 c =
-    let start = c .before .before .before .before in
-    let a3 = c .before .before in
-    omega (arith, attribute-brief (start .args .a) (a3 .a3 .given .0 .0) (a3 .a3 .given .0 .1 .0) (start .pre) (a3 .a3 .given .1))
+sized-number-requires-2 : tie.Need-sized-number-requires-2
+sized-number-requires-2 c κs =
+    let told = c .before .a3 .given in
+    let start = c .before .before .before in
+    let most = typed-brief (start .args .a) (told .0 .0) (told .0 .1 .0) (start .pre) (told .1) in
+    (omega arith, most .0, most .1)
 
-add-result-3 : tie.Need-add-result-3
-add-result-3 c =
+enum-known-a-4 : tie.Need-enum-known-a-4
+enum-known-a-4 c = search needs
+
+sized-number-requires-3 : tie.Need-sized-number-requires-3
+sized-number-requires-3 c κs =
+    let told = c .before .before .a4 .given in
     let start = c .before .before .before .before in
-    let a3 = c .before .before in
-    omega (arith, attribute-brief (start .args .a) (a3 .a3 .given .0 .0) (a3 .a3 .given .0 .1 .0) (start .pre) (a3 .a3 .given .1))
+    let most = attribute-brief (start .args .a) (told .0 .0) (told .0 .1 .0) (told .0 .1 .1 .0) (start .pre) (told .1) in
+    (omega arith, most .0, most .1)
 
 returns : tie.Need-returns
 returns c =
-    let start = c .before .before .before .before in
-    let a3 = c .before .before in
-    required-number (start .args .a) (a3 .a3 .given .0 .0) (a3 .a3 .given .0 .1 .0) (a3 .a3 .given .1) (c .if1 .taken)
+    let told = c .before .before .before .a4 .given in
+    let start = c .before .before .before .before .before in
+    c .sized-number3 .ensures ∙ required-number (start .args .a) (told .0 .0) (told .0 .1 .0) (told .0 .1 .1 .0) (told .1) (c .before .if1 .taken)
 
-mul-result-4 : tie.Need-mul-result-4
-mul-result-4 c =
+sized-number-requires-4 : tie.Need-sized-number-requires-4
+sized-number-requires-4 c κs =
+    let told = c .before .before .a4 .given in
     let start = c .before .before .before .before in
-    let a3 = c .before .before in
-    omega (arith, attribute-brief (start .args .a) (a3 .a3 .given .0 .0) (a3 .a3 .given .0 .1 .0) (start .pre) (a3 .a3 .given .1))
+    let most = attribute-brief (start .args .a) (told .0 .0) (told .0 .1 .0) (told .0 .1 .1 .0) (start .pre) (told .1) in
+    (omega arith, most .0, most .1)
 
-add-result-4 : tie.Need-add-result-4
-add-result-4 c =
-    let start = c .before .before .before .before in
-    let a3 = c .before .before in
-    omega (arith, attribute-brief (start .args .a) (a3 .a3 .given .0 .0) (a3 .a3 .given .0 .1 .0) (start .pre) (a3 .a3 .given .1))
+enum-known-a-5 : tie.Need-enum-known-a-5
+enum-known-a-5 c = search needs
+
+sized-number-requires-5 : tie.Need-sized-number-requires-5
+sized-number-requires-5 c κs =
+    let told = c .before .a5 .given in
+    let start = c .before .before .before in
+    (omega arith, named-brief (start .args .a) (told .0 .0) (start .pre) (told .1), omega arith)
 
 returns-2 : tie.Need-returns-2
 returns-2 c =
+    let told = c .before .a .given in
     let start = c .before .before .before in
-    let at-a = c .before in
-    refused-number (start .args .a) (at-a .a .given .0 .0) (at-a .a .given .1)
+    refused-number (start .args .a) (told .0 .0) (told .1)
 
 returns-3 : tie.Need-returns-3
 returns-3 c = search needs
@@ -90,16 +96,19 @@ returns-5 : tie.Need-returns-5
 returns-5 c = search needs
 
 returns-6 : tie.Need-returns-6
-returns-6 c =
-    let start = c .before .before .before in
-    let a2 = c .before in
-    wrote-number (start .args .a) (a2 .a2 .given .0 .0) (a2 .a2 .given .1)
+returns-6 c = c .sized-number .ensures ∙ sym (ap answerNumber (c .before .before .a2 .given .1))
 
 returns-7 : tie.Need-returns-7
-returns-7 c =
-    let start = c .before .before .before .before in
-    let a3 = c .before .before in
-    optional-number (start .args .a) (a3 .a3 .given .0 .0) (a3 .a3 .given .0 .1 .0) (a3 .a3 .given .1) (c .if1 .left)
+returns-7 c = c .sized-number2 .ensures ∙ sym (ap answerNumber (c .before .before .a3 .given .1))
+
+returns-8 : tie.Need-returns-8
+returns-8 c =
+    let told = c .before .before .before .a4 .given in
+    let start = c .before .before .before .before .before in
+    c .sized-number4 .ensures ∙ optional-number (start .args .a) (told .0 .0) (told .0 .1 .0) (told .0 .1 .1 .0) (told .1) (c .before .if1 .left)
+
+returns-9 : tie.Need-returns-9
+returns-9 c = c .sized-number5 .ensures ∙ sym (ap answerNumber (c .before .before .a5 .given .1))
 
 pub answer-number-spec : {M : Type 1} → statement M
 answer-number-spec =
@@ -113,17 +122,20 @@ answer-number-spec =
     enum-told-2
     enum-told-3
     enum-known-a-2
-    mul-result-2
-    add-result-2
+    sized-number-requires
     enum-known-a-3
-    mul-result-3
-    add-result-3
+    sized-number-requires-2
+    enum-known-a-4
+    sized-number-requires-3
     returns
-    mul-result-4
-    add-result-4
+    sized-number-requires-4
+    enum-known-a-5
+    sized-number-requires-5
     returns-2
     returns-3
     returns-4
     returns-5
     returns-6
-    returns-7)
+    returns-7
+    returns-8
+    returns-9)
