@@ -30,7 +30,8 @@ fn convert_under(limits: Limits, t: &[u8], out: &mut [u8]) -> Answer
                 return Answer::Refused(Refusal::RESULT);
             }
             write_core(t, limits.levels, out);
-            Answer::Typed(n, type_levels(&out[0..n], limits.levels))
+            let form = &out[0..n];
+            Answer::Typed(n, type_levels(form, limits.levels))
         }
         FormLength::Not(e) => Answer::Refused(e),
     }

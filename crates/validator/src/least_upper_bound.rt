@@ -53,7 +53,8 @@ fn least_upper_bound_under(
                 return Answer::Refused(Refusal::RESULT);
             }
             write_bound(m, t0, t1, limits.levels, n, out);
-            Answer::Typed(n, type_levels(&out[0..n], limits.levels))
+            let form = &out[0..n];
+            Answer::Typed(n, type_levels(form, limits.levels))
         }
         FormLength::Not(e) => Answer::Refused(e),
     }

@@ -44,8 +44,9 @@ fn looked_up(
             if !answer_fits(limits, n, out.len()) {
                 return Answer::Refused(Refusal::RESULT);
             }
-            copy(&last[0..n], out);
-            Answer::Attribute(required, n, type_levels(&last[0..n], limits.levels - 1))
+            let form = &last[0..n];
+            copy(form, out);
+            Answer::Attribute(required, n, type_levels(form, limits.levels - 1))
         }
         Looked::Nothing => Answer::Nothing,
         Looked::TooLong => Answer::Refused(Refusal::WORKSPACE),

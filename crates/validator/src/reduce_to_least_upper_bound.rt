@@ -53,8 +53,9 @@ fn reduced(
             if !answer_fits(limits, n, out.len()) {
                 return Answer::Refused(Refusal::RESULT);
             }
-            copy(&last[0..n], out);
-            Answer::Typed(n, type_levels(&last[0..n], limits.levels))
+            let form = &last[0..n];
+            copy(form, out);
+            Answer::Typed(n, type_levels(form, limits.levels))
         }
         Folded::Not(e) => Answer::Refused(e),
     }

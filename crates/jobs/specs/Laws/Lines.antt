@@ -53,9 +53,11 @@ text-short (Refused n) res h = omega arith
 text-short Yes res h = omega arith
 text-short No res h = omega arith
 text-short Nothing res h = omega arith
-text-short (Wrote n) res h = omega (arith, length-hex (take n res), length-take-le n res h)
-text-short (Attribute r n) res h =
+text-short (Measured n l) res h = omega arith
+text-short (Typed n l) res h = omega (arith, length-hex (take n res), length-take-le n res h)
+text-short (Attribute r n l) res h =
     omega (arith, length-append (requiredWord r) (hex (take n res)), required-long r, length-hex (take n res), length-take-le n res h)
+text-short (Named n) res h = omega (arith, length-hex (take n res), length-take-le n res h)
 
 -- The parts of a line, which are written one after the other.
 module _ (i : ℕ) (a : Answer) (res o : List ℕ) (fits : LineRoom i a res o) (number : ℕ) (e : (number ≡ numberIn a) × (number < 256)) where

@@ -1,3 +1,4 @@
+-- `jobs::lines::put_answer` meets its contract. Assumes nothing.
 use lib.Seq.{length-take-le}
 use mathlib.Core.Path.{sym}
 use borrow.Author.Needs.{needs}
@@ -52,6 +53,9 @@ put-bytes-requires-4 c κs =
     let pre = c .before .before .before .before .before .before .pre in
     rw (enum-told4 .given .1) at (pre .1)
 
+enum-told-5 : tie.Need-enum-told-5
+enum-told-5 c = search needs
+
 enum-known-answer : tie.Need-enum-known-answer
 enum-known-answer c = search needs
 
@@ -81,6 +85,21 @@ put-attribute-requires c κs =
     let answer2 = c .before .before .before .answer2 in
     let pre = c .before .before .before .before .before .before .before .pre in
     rw (answer2 .given .1) at (pre .1)
+
+enum-known-answer-3 : tie.Need-enum-known-answer-3
+enum-known-answer-3 c = search needs
+
+slice-aggregate-put-hex-2 : tie.Need-slice-aggregate-put-hex-2
+slice-aggregate-put-hex-2 c =
+    let answer3 = c .before .before .answer3 in
+    let start = c .before .before .before .before .before .before in
+    sym (length-take-le _ (start .args .result .now) (rw (answer3 .given .1) at (start .pre .0)))
+
+put-hex-requires-2 : tie.Need-put-hex-requires-2
+put-hex-requires-2 c κs =
+    let answer3 = c .before .before .before .answer3 in
+    let pre = c .before .before .before .before .before .before .before .pre in
+    rw (answer3 .given .1) at (pre .1)
 
 same-length : tie.Need-same-length
 same-length c = search needs
@@ -118,11 +137,14 @@ returns-4 c =
     let enum-told4 = c .before .before .before .before .before .enum-told4 in
     rw (enum-told4 .given .1) (put-bytes4 .ensures)
 
+returns-5 : tie.Need-returns-5
+returns-5 c = search needs
+
 same-length-5 : tie.Need-same-length-5
 same-length-5 c = search needs
 
-returns-5 : tie.Need-returns-5
-returns-5 c =
+returns-6 : tie.Need-returns-6
+returns-6 c =
     let put-hex = c .before .before .put-hex in
     let answer = c .before .before .before .before .before .before .answer in
     rw (answer .given .1) (put-hex .ensures)
@@ -130,11 +152,20 @@ returns-5 c =
 same-length-6 : tie.Need-same-length-6
 same-length-6 c = search needs
 
-returns-6 : tie.Need-returns-6
-returns-6 c =
+returns-7 : tie.Need-returns-7
+returns-7 c =
     let put-attribute = c .before .before .put-attribute in
     let answer2 = c .before .before .before .before .before .before .answer2 in
     rw (answer2 .given .1) (put-attribute .ensures)
+
+same-length-7 : tie.Need-same-length-7
+same-length-7 c = search needs
+
+returns-8 : tie.Need-returns-8
+returns-8 c =
+    let put-hex2 = c .before .before .put-hex2 in
+    let answer3 = c .before .before .before .before .before .before .answer3 in
+    rw (answer3 .given .1) (put-hex2 .ensures)
 
 pub put-answer-spec : {M : Type 1} → statement M
 put-answer-spec =
@@ -152,12 +183,16 @@ put-answer-spec =
     enum-told-4
     slice-aggregate-put-bytes-4
     put-bytes-requires-4
+    enum-told-5
     enum-known-answer
     slice-aggregate-put-hex
     put-hex-requires
     enum-known-answer-2
     slice-aggregate-put-attribute
     put-attribute-requires
+    enum-known-answer-3
+    slice-aggregate-put-hex-2
+    put-hex-requires-2
     same-length
     returns
     same-length-2
@@ -166,7 +201,10 @@ put-answer-spec =
     returns-3
     same-length-4
     returns-4
-    same-length-5
     returns-5
+    same-length-5
+    returns-6
     same-length-6
-    returns-6)
+    returns-7
+    same-length-7
+    returns-8)

@@ -92,14 +92,14 @@ core-wrote c =
     (answer-fits .result) (answer-fits .ensures) (if2 .left) (c .write-core .last .1 .1 .0) (c .write-core .result) (c .write-core .ensures)
     (core-within (asLimits (args .limits)) (args .t .now) (λ i. known .given i .fits) (by-type-is .1))
 
-sub-type-levels : tie.Need-sub-type-levels
-sub-type-levels c = search needs
+sub-form : tie.Need-sub-form
+sub-form c = search needs
 
-part-type-levels-start : tie.Need-part-type-levels-start
-part-type-levels-start c = search needs
+part-form-start : tie.Need-part-form-start
+part-form-start c = search needs
 
-part-type-levels-end : tie.Need-part-type-levels-end
-part-type-levels-end c = omega (arith, wrote-small (core-wrote (c .before .before .before)))
+part-form-end : tie.Need-part-form-end
+part-form-end c = omega (arith, wrote-small (core-wrote (c .before .before .before)))
 
 type-levels-requires : tie.Need-type-levels-requires
 type-levels-requires c κs = wrote-whole (core-wrote (c .before .before .before .before))
@@ -137,9 +137,9 @@ convert-under-spec =
     answer-fits-requires
     returns-2
     write-core-requires
-    sub-type-levels
-    part-type-levels-start
-    part-type-levels-end
+    sub-form
+    part-form-start
+    part-form-end
     type-levels-requires
     enum-known-e
     same-length

@@ -225,14 +225,14 @@ bound-wrote c =
     (answer-fits .answer-fits .ensures) (else4 .if3 .left) (c .write-bound .last .1 .1 .1 .1 .1 .0) (c .write-bound .result) (c .write-bound .ensures)
     by-bound-within
 
-sub-type-levels : tie.Need-sub-type-levels
-sub-type-levels c = search needs
+sub-form : tie.Need-sub-form
+sub-form c = search needs
 
-part-type-levels-start : tie.Need-part-type-levels-start
-part-type-levels-start c = search needs
+part-form-start : tie.Need-part-form-start
+part-form-start c = search needs
 
-part-type-levels-end : tie.Need-part-type-levels-end
-part-type-levels-end c = omega (arith, wrote-small (bound-wrote (c .before .before .before)))
+part-form-end : tie.Need-part-form-end
+part-form-end c = omega (arith, wrote-small (bound-wrote (c .before .before .before)))
 
 type-levels-requires : tie.Need-type-levels-requires
 type-levels-requires c κs = wrote-whole (bound-wrote (c .before .before .before .before))
@@ -295,9 +295,9 @@ least-upper-bound-under-spec =
     answer-fits-requires
     returns-5
     write-bound-requires
-    sub-type-levels
-    part-type-levels-start
-    part-type-levels-end
+    sub-form
+    part-form-start
+    part-form-end
     type-levels-requires
     enum-known-e
     same-length

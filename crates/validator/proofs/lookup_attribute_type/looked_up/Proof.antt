@@ -71,14 +71,14 @@ returns-2 c =
     (answer-fits .answer-fits .result)
     (answer-fits .answer-fits .ensures) (c .if2 .taken)
 
-sub-copy : tie.Need-sub-copy
-sub-copy c = search needs
+sub-form : tie.Need-sub-form
+sub-form c = search needs
 
-part-copy-start : tie.Need-part-copy-start
-part-copy-start c = search needs
+part-form-start : tie.Need-part-form-start
+part-form-start c = search needs
 
-part-copy-end : tie.Need-part-copy-end
-part-copy-end c =
+part-form-end : tie.Need-part-form-end
+part-form-end c =
     let required = c .before .before .before .before in
     let look-up = required .before .before .before .before .before .before in
     let else1 = look-up .before .before .before in
@@ -118,37 +118,15 @@ copy-requires c κs =
     (answer-fits .answer-fits .ensures) (else2 .if2 .left)
 
 sub-type-levels : tie.Need-sub-type-levels
-sub-type-levels c = search needs
-
-part-type-levels-start : tie.Need-part-type-levels-start
-part-type-levels-start c = search needs
-
-part-type-levels-end : tie.Need-part-type-levels-end
-part-type-levels-end c =
+sub-type-levels c =
     let required = c .before .before .before .before .before .before .before .before .before .before in
-    let look-up = required .before .before .before .before .before .before in
-    let else1 = look-up .before .before .before in
-    let at-whole-type = else1 .before in
-    let start = at-whole-type .before .before .before .before .before .before .before in
-    let args = start .args in
-    let by-checked-there = sectioned-there (args .schema .now) (args .«at») (start .pre .0) in
-    let by-type-there = type-there (asLimits (args .«at» .limits)) (args .t .now) (at-whole-type .whole-type .result) (at-whole-type .whole-type .ensures)
-    (else1 .if1 .left) in
-    let by-small = small (asLimits (args .«at» .limits)) (start .pre .0 .fair) (args .schema .now) (args .attr) (args .t .now) (args .out .now) (length
-    (args .work .now)) _ by-checked-there _ by-type-there
-    (look-up .look-up .last .1 .1 .1 .1 .0) (look-up .look-up .result) (look-up .look-up .ensures) (required .required .given .0 .0)
-    (required .required .given .0 .1 .0) (required .required .given .1) (omega (arith, look-up .look-up .kept .1 .1 .1 .1 .0, start .pre .1)) in
-    omega (arith, by-small, look-up .look-up .kept .1 .1 .1 .1 .0, start .pre .1)
-
-sub-type-levels-2 : tie.Need-sub-type-levels-2
-sub-type-levels-2 c =
-    let start = c .before .before .before .before .before .before .before .before .before .before .before .before .before .before .before .before .before
-    .before .before .before .before .before .before .before .before .before .before .before .before in
+    let else1 = required .before .before .before .before .before .before .before .before .before in
+    let start = else1 .before .before .before .before .before .before .before .before in
     omega (arith, allowed-levels (asLimits (start .args .«at» .limits)) (start .pre .0 .fair) .0)
 
 type-levels-requires : tie.Need-type-levels-requires
 type-levels-requires c κs =
-    let required = c .before .before .before .before .before .before .before .before .before .before .before .before in
+    let required = c .before .before .before .before .before .before .before .before .before .before in
     let look-up = required .before .before .before .before .before .before in
     let else1 = look-up .before .before .before in
     let at-whole-type = else1 .before in
@@ -179,7 +157,7 @@ same-length-5 c = search needs
 
 returns-3 : tie.Need-returns-3
 returns-3 c =
-    let copy = c .before .before .before .before .before .before in
+    let copy = c .before .before .before .before in
     let else2 = copy .before .before .before .before in
     let answer-fits = else2 .before in
     let required = answer-fits .before .before in
@@ -251,14 +229,11 @@ looked-up-spec =
     same-length
     same-length-2
     returns-2
-    sub-copy
-    part-copy-start
-    part-copy-end
+    sub-form
+    part-form-start
+    part-form-end
     copy-requires
     sub-type-levels
-    part-type-levels-start
-    part-type-levels-end
-    sub-type-levels-2
     type-levels-requires
     enum-told
     enum-told-2

@@ -120,14 +120,14 @@ returns-4 c =
     (args .work .now)) _ by-mode-known _ by-checked-there by-list-there
     10 by-folds-over
 
-sub-copy : tie.Need-sub-copy
-sub-copy c = search needs
+sub-form : tie.Need-sub-form
+sub-form c = search needs
 
-part-copy-start : tie.Need-part-copy-start
-part-copy-start c = search needs
+part-form-start : tie.Need-part-form-start
+part-form-start c = search needs
 
-part-copy-end : tie.Need-part-copy-end
-part-copy-end c =
+part-form-end : tie.Need-part-form-end
+part-form-end c =
     let n = c .before .before .before .before .n in
     let after-fold-types = c .before .before .before .before .before .before .before .before .before .before in
     let fold-types = after-fold-types .fold-types in
@@ -159,31 +159,9 @@ copy-requires c κs =
     (answer-fits .result) (answer-fits .ensures) (if2 .left) in
     omega (arith, by-folds-room)
 
-sub-type-levels : tie.Need-sub-type-levels
-sub-type-levels c = search needs
-
-part-type-levels-start : tie.Need-part-type-levels-start
-part-type-levels-start c = search needs
-
-part-type-levels-end : tie.Need-part-type-levels-end
-part-type-levels-end c =
-    let after-n = c .before .before .before .before .before .before .before .before .before .before in
-    let n = after-n .n in
-    let fold-types = after-n .before .before .before .before .before .before .fold-types in
-    let known = after-n .before .before .before .before .before .before .before .before .before .before .before .before .before .before in
-    let start = known .before .before .before .before .before .before .before .before in
-    let args = start .args in
-    let f = foldTypes (stepFits (asLimits (args .limits)) (length (args .work .now))) (asMode (known .m .given .0 .0)) (listOf (args .limits .levels)
-    (args .list .now)) in
-    omega (
-      arith,
-      folds-small (asLimits (args .limits)) f (args .out .now) (fold-types .last .1 .1 .1 .0) (fold-types .result) (fold-types .ensures)
-          (n .given .0 .0) (n .given .1),
-    )
-
 type-levels-requires : tie.Need-type-levels-requires
 type-levels-requires c κs =
-    let after-n = c .before .before .before .before .before .before .before .before .before .before .before in
+    let after-n = c .before .before .before .before .before .before .before .before .before in
     let n = after-n .n in
     let fold-types = after-n .before .before .before .before .before .before .fold-types in
     let known = after-n .before .before .before .before .before .before .before .before .before .before .before .before .before .before in
@@ -208,7 +186,7 @@ same-length-5 c = search needs
 
 returns-5 : tie.Need-returns-5
 returns-5 c =
-    let after-copy = c .before .before .before .before .before in
+    let after-copy = c .before .before .before in
     let copy = after-copy .copy in
     let if2 = after-copy .before .before .before .before .if2 in
     let answer-fits = after-copy .before .before .before .before .before .answer-fits in
@@ -289,13 +267,10 @@ reduced-spec =
     same-length
     same-length-2
     returns-4
-    sub-copy
-    part-copy-start
-    part-copy-end
+    sub-form
+    part-form-start
+    part-form-end
     copy-requires
-    sub-type-levels
-    part-type-levels-start
-    part-type-levels-end
     type-levels-requires
     enum-known-e
     same-length-3
