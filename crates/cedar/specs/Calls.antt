@@ -84,9 +84,9 @@ measureTypeCall lim t =
 abbrev pub measureValueCall : Limits → List ℕ → Outcome
 measureValueCall lim v =
     ask badLimits (guard (allowed lim)) λ _.
-    ask badValue (wholeValue lim v) λ x.
-    ask badText (guard (textual x)) λ _.
-    measured (length (encValue x)) (depthValue x)
+    ask badValue (wholeValue lim v) λ u.
+    ask badText (guard (textual u)) λ _.
+    measured (length (encValue u)) (depthValue u)
 
 -- Part 2, `euid_literal`.
 abbrev pub literalCall : Limits → List ℕ → List ℕ → ℕ → Outcome

@@ -44,3 +44,4 @@ pub mod Loose
 pub mod Full
 pub mod FullExample
 pub mod TextExample
+pub mod LevelsExample

@@ -1,4 +1,5 @@
-// The calls that check the schema each time, under the standard limits. The answers change if two arguments of one type are exchanged.
+// The calls that check the schema each time, under the standard limits, and measuring under any. The answers change if two arguments of
+// one type are exchanged.
 use crate::print::print_both;
 use crate::print::print_number;
 use crate::print::print_result;
@@ -11,6 +12,8 @@ use exports::calls::tirncheav_is_subtype;
 use exports::calls::tirncheav_least_upper_bound;
 use exports::calls::tirncheav_lookup_attribute_type;
 use exports::calls::tirncheav_may_have_attr;
+use exports::calls::tirncheav_measure_type;
+use exports::calls::tirncheav_measure_value;
 use exports::calls::tirncheav_own_attribute_type;
 use exports::calls::tirncheav_reduce_to_least_upper_bound;
 use exports::calls::tirncheav_typecheck_restricted_expr;
@@ -130,6 +133,25 @@ fn ask_literal(schema: &[u8]) {
     print_result(b"euid_literal", n, &out);
 }
 
+fn ask_type(levels: usize, bytes: usize, t: &[u8]) {
+    let n = tirncheav_measure_type(levels, bytes, t);
+    print_number(b"measure_type", n);
+}
+
+fn ask_value(levels: usize, bytes: usize, v: &[u8]) {
+    let n = tirncheav_measure_value(levels, bytes, v);
+    print_number(b"measure_value", n);
+}
+
+// A type and a value of two levels, forms of a byte that is neither, and a value of two levels that is no text.
+pub(crate) fn ask_measured(levels: usize, bytes: usize) {
+    ask_type(levels, bytes, &Form::RECORD);
+    ask_type(levels, bytes, &Form::BROKEN);
+    ask_value(levels, bytes, &Form::CALL);
+    ask_value(levels, bytes, &Form::BROKEN);
+    ask_value(levels, bytes, &Form::NO_TEXT);
+}
+
 // Disjoint and bound are the same both ways round, so their second question has a second type that is not whole.
 pub(crate) fn ask_all(schema: &[u8]) {
     ask_disjoint(&Form::ENTITY_2, &Form::ENTITY_4);
@@ -147,6 +169,7 @@ pub(crate) fn ask_all(schema: &[u8]) {
     ask_conforms(schema, &Form::ENTITY_2, &Form::UID_2);
     ask_full(schema, &Form::ENTITY_2, &Form::UID_2);
     ask_literal(schema);
+    ask_measured(Limits::LEVELS, Limits::BYTES);
 }
 
 // The two conformances of a call with an argument too many.

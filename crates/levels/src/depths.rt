@@ -21,21 +21,20 @@ pub enum Form {
     Values,
 }
 
-// The larger of `most` and the levels of a body. A form has no more levels than bytes, so a short body is not looked at.
+// The larger of `most` and the levels of a body.
 fn deeper(form: Form, b: &[u8], levels: usize, most: usize) -> usize
     requires { ⌜ wholeForm form levels (now b) ≡ true ⌝ }
     ensures { λ r. ⌜ r ≡ max most (levelsIn form levels (now (b .entry))) ⌝ }
 {
-    if b.len() <= most {
-        return most;
-    }
     match form {
-        Form::Types => larger(most, type_levels(b, levels)),
-        Form::Values => larger(most, value_levels(b, levels)),
+        Form::Types => larger(most, type_levels(&b[0..], levels)),
+        Form::Values => larger(most, value_levels(&b[0..], levels)),
     }
 }
 
-// The levels of the deepest body in a table whose count stands at `at` and whose entries have this width; 0 if it has none.
+// The levels of the deepest body in a table whose count stands at `at` and whose entries have this width; 0 if it has none. A form has no
+// more levels than bytes: a body of no more bytes than `most` is passed over, and where those that are left have a byte each and no more
+// than `most` together beyond that, the walk ends.
 fn deepest_body(form: Form, t: &[u8], at: usize, width: usize, levels: usize) -> usize
     requires { ⌜ (at < 4) × (2 ≤ width) × (width ≤ 5) ⌝ }
     requires { ⌜ tableFits (bodyRow width) (λ _. wholeForm form levels) tt at (now t) ≡ true ⌝ }
@@ -44,13 +43,18 @@ fn deepest_body(form: Form, t: &[u8], at: usize, width: usize, levels: usize) ->
     let n = u16_at(t, at);
     let start = at + Width::COUNT;
     let end = start + width * n;
+    if n == 0 {
+        return 0;
+    }
     let mut e = &t[start..end];
     let mut b = &t[end..];
     let mut left = n;
-    let mut most = 0;
-    while 0 < left {
+    let mut most = 1;
+    while left + most <= b.len() {
         let len = u16_at(e, width - Width::LENGTH);
-        most = deeper(form, &b[0..len], levels, most);
+        if most < len {
+            most = deeper(form, &b[0..len], levels, most);
+        }
         e = &e[width..];
         b = &b[len..];
         left -= 1;

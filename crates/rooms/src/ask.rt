@@ -15,6 +15,8 @@ use validator::is_subtype::is_subtype;
 use validator::least_upper_bound::least_upper_bound;
 use validator::lookup_attribute_type::lookup_attribute_type;
 use validator::may_have_attr::may_have_attr;
+use validator::measure_type::measure_type;
+use validator::measure_value::measure_value;
 use validator::own_attribute_type::own_attribute_part;
 use validator::own_attribute_type::own_attribute_type;
 use validator::reduce_to_least_upper_bound::reduce_to_least_upper_bound;
@@ -24,11 +26,15 @@ ghost use mathlib.Core.Path.{_≡_};
 ghost use Prim.Native.Nat.{_<_};
 ghost use lib.ListN.{length};
 
-// The second entry of lookup, which no operation of a job has; and what stands in the buffers before a call.
+// What no operation of a job asks: the second entry of lookup, and measuring; and what stands in the buffers before a call.
 struct Calls;
 
 impl Calls {
     const OWN: u8 = 255;
+
+    const MEASURE_TYPE: u8 = 254;
+
+    const MEASURE_VALUE: u8 = 253;
 
     const UNTOUCHED: u8 = 165;
 }
@@ -61,6 +67,8 @@ fn ask(
         Operation::CONFORMS => typecheck_restricted_expr(limits, schema, first, second),
         Operation::FOLD => reduce_to_least_upper_bound(limits, mode, schema, first, out, work),
         Operation::LITERAL => euid_literal(limits, schema, first, out),
+        Calls::MEASURE_TYPE => measure_type(limits, first),
+        Calls::MEASURE_VALUE => measure_value(limits, first),
         _ => typecheck_restricted_expr_exact(limits, schema, first, second),
     }
 }

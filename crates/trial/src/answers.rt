@@ -1,4 +1,5 @@
-// An answer: refusal or 0; yes, no, none, or the answer's length, behind r: or o: for an attribute, or -.
+// An answer: refusal or 0; yes, no, none, or the answer's length, or -. A type's length stands with its levels, as in 10/2; behind r: or
+// o: for an attribute, behind m: where a form is measured.
 use crate::bytes::print_decimal;
 use streams::write_output;
 use validator::answers::Answer;
@@ -15,12 +16,18 @@ pub fn print_refusal(n: u8) {
     write_output(b" -");
 }
 
-// Prints whether an attribute is required, and how many bytes its type has.
-fn print_attribute(required: bool, n: usize) {
+// Prints a word, how many bytes a form has, and how many levels.
+fn print_measured(word: &[u8], n: usize, levels: usize) {
+    print_counted(word, n);
+    print_counted(b"/", levels);
+}
+
+// Prints whether an attribute is required, and how many bytes and levels its type has.
+fn print_attribute(required: bool, n: usize, levels: usize) {
     if required {
-        print_counted(b"0 r:", n);
+        print_measured(b"0 r:", n, levels);
     } else {
-        print_counted(b"0 o:", n);
+        print_measured(b"0 o:", n, levels);
     }
 }
 
@@ -37,7 +44,9 @@ pub fn print_answer(answer: Answer) {
         Answer::Nothing => {
             write_output(b"0 none");
         }
-        Answer::Wrote(n) => print_counted(b"0 ", n),
-        Answer::Attribute(required, n) => print_attribute(required, n),
+        Answer::Measured(n, levels) => print_measured(b"0 m:", n, levels),
+        Answer::Typed(n, levels) => print_measured(b"0 ", n, levels),
+        Answer::Attribute(required, n, levels) => print_attribute(required, n, levels),
+        Answer::Named(n) => print_counted(b"0 ", n),
     }
 }

@@ -98,6 +98,9 @@ impl Form {
     pub const EXTENSION: [u8; 3] = [12, 7, 0];
 
     pub const CALL: [u8; 8] = [7, 2, 0, 1, 0, 1, 0, 1];
+
+    // A set of a string with a byte that no text has.
+    pub const NO_TEXT: [u8; 9] = [5, 1, 0, 4, 0, 3, 1, 0, 255];
 }
 
 // A result buffer before a call.

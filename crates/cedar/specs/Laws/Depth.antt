@@ -74,6 +74,17 @@ mutual
   depthPairs-length empty = omega arith
   depthPairs-length (pair n v ps) = either (encValue v) (valuesOf ps) (depthValue v) (depthPairs ps) (depthValue-length v) (depthPairs-length ps)
 
+-- A value has a level.
+pub depthValue-pos : (v : Value) → 1 ≤ depthValue v
+unfolding depthValue
+depthValue-pos (boolean b) = omega arith
+depthValue-pos (number l) = omega arith
+depthValue-pos (text l) = omega arith
+depthValue-pos (uid k i) = omega arith
+depthValue-pos (setOf vs) = omega arith
+depthValue-pos (recordOf ps) = omega arith
+depthValue-pos (call f vs) = omega arith
+
 -- A fold has no more levels than the deepest of what it starts from and of its list.
 pub fold-depth : (fits : Ty → Bool) (m : Mode) (ts : List Ty) (a c : Ty) → foldFrom fits m a ts ≡ ok c → depth c ≤ max (depth a) (deepest ts)
 fold-depth fits m [] a c e = rw (sym (ok-inj e)) (omega arith)

@@ -6,20 +6,22 @@ use Prim.Native.Nat.{ℕ, zero, suc, _+_, _*_, _-_, _≤_, _<_, max}
 use native.Mathlib.Omega.{arith}
 use lib.Dec.{leb}
 use lib.ListN.{length, getD}
+use borrow.Author.Tests.{leb-true, eqb-true}
 use Rattle.cedar.specs.Types.{Ty, Value}
 use Rattle.cedar.specs.Levels.{depth, depths, depthValue, depthValues, depthPairs}
 use Rattle.cedar.specs.Bytes.{Bytes}
 use Rattle.cedar.specs.TypeForm.{enc, attrsOf}
 use Rattle.cedar.specs.ValueForm.{encValue, valueKind, valuesFrom, pairsFrom}
-use Rattle.cedar.specs.Laws.Depth.{depth-length, depthValue-length}
+use Rattle.cedar.specs.Laws.TypeForm.{depth-pos}
+use Rattle.cedar.specs.Laws.Depth.{depth-length, depthValue-length, depthValue-pos}
 use Rattle.forms.specs.Parts.{part, rest, rd, kind}
-use Rattle.forms.specs.Rows.{bodyRow, rowsOf, tableFits}
+use Rattle.forms.specs.Rows.{bodyRow, rowsTo, rowsOf, noneLeft, tableFits}
 use Rattle.forms.specs.TypeBytes.{attrRow, whole, dec}
 use Rattle.forms.specs.ValueBytes.{memberRow, pairRow, wholeV, decV, decVAs}
-use Rattle.forms.specs.Laws.Parts.{and-r, rest-0}
-use Rattle.forms.specs.Laws.Bytes.{dec-reads, decV-reads}
+use Rattle.forms.specs.Laws.Parts.{and-l, and-r, rest-0, pos, length-part, length-rest}
+use Rattle.forms.specs.Laws.Bytes.{Bytes-part, dec-reads, decV-reads}
 use Rattle.forms.specs.Laws.Bodies.{table-bodies}
-use Rattle.forms.specs.Laws.Ahead.{Ahead, ahead-again, decoded, decoded-none, table-ahead, table-decoded}
+use Rattle.forms.specs.Laws.Ahead.{Ahead, ahead-inside, ahead-body, ahead-again, decoded, decoded-none, table-ahead, table-decoded}
 use Rattle.forms.specs.Laws.Types.{whole-by}
 use Rattle.forms.specs.Laws.Views.{not-empty, is-set, is-record, is-action, Seen, see, seen-set, seen-record, seen-entity, seen-action, seen-extension, seen-atom}
 use Rattle.forms.specs.Laws.Values.{value-level, value-as, dec-value}
@@ -36,30 +38,101 @@ levels-bounds values l b h w =
     let r = decV-reads l b h w in
     (r .1 .0, omega (arith, depthValue-length (decV l b), ap length (r .0)))
 
+-- A form has a level.
+levels-some : (f : Form) (l : ℕ) (b : List ℕ) → 1 ≤ levelsIn f l b
+levels-some types l b = depth-pos (dec l b)
+levels-some values l b = depthValue-pos (decV l b)
+
+-- Bodies that are left: each has a byte, and the deepest has no more levels than the bytes that the others leave it.
+rows-few : (f : Form) (l width left : ℕ) (e b : List ℕ) → Bytes b → rowsTo (bodyRow width) (λ _. wholeForm f l) noneLeft left tt e b ≡ true →
+    (left ≤ length b) × (mostOf (rowsOf (bodyRow width) (λ _. levelsIn f l) left e b) + left ≤ length b + 1)
+unfolding rowsTo rowsOf
+rows-few f l width zero e b h g = (omega arith, omega arith)
+rows-few f l width (suc n) e b h g =
+    let len = rd e (width - 2) in
+    let room = leb len (length b) in
+    let good = wholeForm f l (part 0 len b) in
+    let inside = leb-true len (length b) (and-l room _ g) in
+    let g₁ = and-r room _ g in
+    let few = levels-bounds f l (part 0 len b) (Bytes-part 0 len b h) (and-l good _ g₁) .1 in
+    let more = rows-few f l width n (rest width e) (rest len b) (Bytes-part len (length b) b h) (and-r good _ g₁) in
+    let some = levels-some f l (part 0 len b) in
+    let long = length-part 0 len b inside in
+    let left = length-rest len b in
+    let bytes = more .0 in
+    let deep = more .1 in
+    (omega arith, omega arith)
+
 -- The loop over bodies: `most` so far and the bodies that are left answer for all.
 pub record BodiesAhead (f : Form) (l width all left : ℕ) (e b : List ℕ) (most : ℕ) : Type 0 where
   pub rows : Ahead (bodyRow width) (λ _. wholeForm f l) left tt e b
+  pub bytes : Bytes b
+  pub some : 1 ≤ most
+  pub small : (left < 65536) × (most < 65536)
   pub same : all ≡ max most (mostOf (rowsOf (bodyRow width) (λ _. levelsIn f l) left e b))
 
-pub bodies-start : (f : Form) (l width c : ℕ) (b : List ℕ) → tableFits (bodyRow width) (λ _. wholeForm f l) tt c b ≡ true → (n : ℕ) → n ≡ rd b c →
-    BodiesAhead f l width (deepestAt f l width c b) n (part (c + 2) (c + 2 + width * n) b) (rest (c + 2 + width * n) b) 0
-bodies-start f l width c b h n q =
-    record {
-      rows = table-ahead (bodyRow width) (λ _. wholeForm f l) tt c b h n q;
-      same = ap mostOf (table-decoded (bodyRow width) (λ _. wholeForm f l) tt c b h n q (λ _. levelsIn f l)) ∙ omega arith;
-    }
+module _ (f : Form) (l width c : ℕ) (b : List ℕ) (h : tableFits (bodyRow width) (λ _. wholeForm f l) tt c b ≡ true) (n : ℕ) (q : n ≡ rd b c) where
+  abbrev es : List ℕ
+  es = part (c + 2) (c + 2 + width * n) b
+
+  abbrev bs : List ℕ
+  bs = rest (c + 2 + width * n) b
+
+  decodes : deepestAt f l width c b ≡ mostOf (rowsOf (bodyRow width) (λ _. levelsIn f l) n es bs)
+  decodes = ap mostOf (table-decoded (bodyRow width) (λ _. wholeForm f l) tt c b h n q (λ _. levelsIn f l))
+
+  pub bodies-none : n ≡ 0 → 0 ≡ deepestAt f l width c b
+  bodies-none z = sym (decodes ∙ ap mostOf (decoded-none (bodyRow width) (λ _. levelsIn f l) n es bs (omega arith)))
+
+  pub bodies-start : Bytes b → n < 65536 → (n ≡ 0 → ⊥) → BodiesAhead f l width (deepestAt f l width c b) n es bs 1
+  bodies-start bytes few z =
+      let k = rd es (width - 2) in
+      let p = pos n z in
+      let first = ap mostOf (decoded (bodyRow width) (λ _. levelsIn f l) n es bs p k refl) in
+      record {
+        rows = table-ahead (bodyRow width) (λ _. wholeForm f l) tt c b h n q;
+        bytes = Bytes-part (c + 2 + width * n) (length b) b bytes;
+        some = omega arith;
+        small = (few, omega arith);
+        same = omega (arith, decodes, first, levels-some f l (part 0 k bs));
+      }
+
+-- No body left, no byte left.
+none-left : (f : Form) (l width left : ℕ) (e b : List ℕ) → rowsTo (bodyRow width) (λ _. wholeForm f l) noneLeft left tt e b ≡ true → left ≡ 0 →
+    length b ≡ 0
+unfolding rowsTo
+none-left f l width zero e b h z = eqb-true (length b) 0 h
+none-left f l width (suc n) e b h z = absurd (omega arith)
 
 module _ {f : Form} {l width all left : ℕ} {e b : List ℕ} {most : ℕ} (i : BodiesAhead f l width all left e b most) where
-  pub bodies-end : left ≤ 0 → most ≡ all
-  bodies-end h = omega (arith, i .same, ap mostOf (decoded-none (bodyRow width) (λ _. levelsIn f l) left e b h))
+  pub bodies-left : left + most ≤ length b → 0 < left
+  bodies-left h = pos left λ z. absurd (omega (arith, i .some, h, none-left f l width left e b (i .rows .good) z))
 
-  pub bodies-again : 0 < left → (n : ℕ) → n ≡ rd e (width - 2) → (x : ℕ) → x ≡ max most (levelsIn f l (part 0 n b)) →
-      BodiesAhead f l width all (left - 1) (rest width e) (rest n b) x
-  bodies-again p n q x y =
-      record {
-        rows = ahead-again (i .rows) p n q;
-        same = omega (arith, i .same, y, ap mostOf (decoded (bodyRow width) (λ _. levelsIn f l) left e b p n q));
-      }
+  pub bodies-end : length b < left + most → most ≡ all
+  bodies-end h = omega (arith, i .same, rows-few f l width left e b (i .bytes) (i .rows .good) .1)
+
+  module _ (p : 0 < left) (n : ℕ) (q : n ≡ rd e (width - 2)) where
+    -- A body of no more bytes than the most levels so far is not deeper.
+    short : levelsIn f l (part 0 n b) ≤ n
+    short =
+        omega (
+          arith,
+          levels-bounds f l (part 0 n b) (Bytes-part 0 n b (i .bytes)) (ahead-body (i .rows) p n q) .1,
+          length-part 0 n b (ahead-inside (i .rows) p n q),
+        )
+
+    pub bodies-passed : n ≤ most → most ≡ max most (levelsIn f l (part 0 n b))
+    bodies-passed h = omega (arith, short)
+
+    pub bodies-again : n < 65536 → (x : ℕ) → x ≡ max most (levelsIn f l (part 0 n b)) → BodiesAhead f l width all (left - 1) (rest width e) (rest n b) x
+    bodies-again few x y =
+        record {
+          rows = ahead-again (i .rows) p n q;
+          bytes = Bytes-part n (length b) b (i .bytes);
+          some = omega (arith, i .some, y);
+          small = (omega (arith, i .small .0), omega (arith, i .small .1, y, short));
+          same = omega (arith, i .same, y, ap mostOf (decoded (bodyRow width) (λ _. levelsIn f l) left e b p n q));
+        }
 
 -- The deepest of attributes, members and pairs is that of their bodies.
 depths-rows : (d : List ℕ → Ty) (n : ℕ) (es bs : List ℕ) →

@@ -1,11 +1,14 @@
 -- The walk over the levels of types and values meets its contracts. Assumes nothing.
 use mathlib.Core.Path.{ap, sym, _∙_}
+use mathlib.Core.List.{List}
+use mathlib.Core.Logic.{inl, inr}
+use Rattle.cedar.specs.Levels.{depth, depthValue}
 use Prim.Native.Nat.{suc, _+_, _*_, _-_, max}
 use native.Mathlib.Omega.{arith}
 use borrow.Author.Needs.{needs}
 use Rattle.forms.specs.Rows.{bodyRow}
-use Rattle.forms.specs.TypeBytes.{whole}
-use Rattle.forms.specs.ValueBytes.{memberRow, pairRow, wholeV}
+use Rattle.forms.specs.TypeBytes.{whole, dec}
+use Rattle.forms.specs.ValueBytes.{memberRow, pairRow, wholeV, decV}
 use Rattle.forms.specs.Laws.Parts.{rest-0}
 use Rattle.forms.specs.Laws.Bytes.{Bytes-index}
 use Rattle.forms.specs.Laws.Bodies.{table-bodies}
@@ -15,7 +18,8 @@ use Rattle.forms.specs.Laws.Values.{value-level, value-first, value-as}
 use Rattle.levels.specs.declared.depths.Form.{Form}
 use Rattle.levels.specs.declared.depths.Form.the-variants.{Types as types, Values as values}
 use Rattle.levels.specs.Deepest.{wholeForm, levelsIn, deepestAt}
-use Rattle.levels.specs.Laws.Deepest.{levels-bounds, BodiesAhead, bodies-start, bodies-end, bodies-again, SetsAbove, sets-start, sets-again, sets-end}
+use Rattle.levels.specs.Laws.Deepest.{levels-bounds, BodiesAhead, bodies-none, bodies-start, bodies-left, bodies-end, bodies-passed, bodies-again}
+use Rattle.levels.specs.Laws.Deepest.{SetsAbove, sets-start, sets-again, sets-end}
 use Rattle.levels.specs.Laws.Deepest.{record-levels, action-levels, lone-levels, record-bodies, action-bodies}
 use Rattle.levels.specs.Laws.Deepest.{set-value-levels, record-value-levels, call-levels, lone-value-levels}
 use Prim.Native.Nat.{ℕ, _<_}
@@ -107,23 +111,24 @@ type-levels-callees t = (deepest-body-below t, deepest-body.Post)
 abbrev value-levels-callees : ℕ → value-levels-lts.Claims
 value-levels-callees t = (deepest-body-below t, deepest-body.Post)
 
-deeper-returns : (t : ℕ) → deeper-lts.Need-returns (deeper-callees t) (deeper-at t) deeper.Post
-deeper-returns t c =
-    let known = c .before .shared-slice-known in
-    let start = c .before .before in
-    let args = start .args in
-    let short = levels-bounds (args .form) (args .levels) (args .b .now) (Bytes-index (args .b .now) (λ i. known .given i .fits)) (start .pre .1) in
-    omega (arith, short .1)
-
 deeper-enum-told : (t : ℕ) → deeper-lts.Need-enum-told (deeper-callees t) (deeper-at t) deeper.Post
 deeper-enum-told t c = search needs
 
+deeper-sub-type-levels : (t : ℕ) → deeper-lts.Need-sub-type-levels (deeper-callees t) (deeper-at t) deeper.Post
+deeper-sub-type-levels t c = omega arith
+
+deeper-part-type-levels-start : (t : ℕ) → deeper-lts.Need-part-type-levels-start (deeper-callees t) (deeper-at t) deeper.Post
+deeper-part-type-levels-start t c = omega arith
+
+deeper-part-type-levels-end : (t : ℕ) → deeper-lts.Need-part-type-levels-end (deeper-callees t) (deeper-at t) deeper.Post
+deeper-part-type-levels-end t c = omega arith
+
 deeper-type-levels-requires : (t : ℕ) → deeper-lts.Need-type-levels-requires (deeper-callees t) (deeper-at t) deeper.Post
 deeper-type-levels-requires t c κs =
-    let form = c .enum-told in
+    let form = c .before .enum-told in
     let start = c .before .before .before .before in
     let args = start .args in
-    (omega arith, sym (ap (λ (f : Form). wholeForm f (args .levels) (args .b .now)) (form .given .1)) ∙ start .pre .1)
+    (omega arith, rw (rest-0 (args .b .now)) (sym (ap (λ (f : Form). wholeForm f (args .levels) (args .b .now)) (form .given .1)) ∙ start .pre .1))
 
 deeper-larger-requires : (t : ℕ) → deeper-lts.Need-larger-requires (deeper-callees t) (deeper-at t) deeper.Post
 deeper-larger-requires t c κs = search needs
@@ -131,29 +136,40 @@ deeper-larger-requires t c κs = search needs
 deeper-enum-told-2 : (t : ℕ) → deeper-lts.Need-enum-told-2 (deeper-callees t) (deeper-at t) deeper.Post
 deeper-enum-told-2 t c = search needs
 
+deeper-sub-value-levels : (t : ℕ) → deeper-lts.Need-sub-value-levels (deeper-callees t) (deeper-at t) deeper.Post
+deeper-sub-value-levels t c = omega arith
+
+deeper-part-value-levels-start : (t : ℕ) → deeper-lts.Need-part-value-levels-start (deeper-callees t) (deeper-at t) deeper.Post
+deeper-part-value-levels-start t c = omega arith
+
+deeper-part-value-levels-end : (t : ℕ) → deeper-lts.Need-part-value-levels-end (deeper-callees t) (deeper-at t) deeper.Post
+deeper-part-value-levels-end t c = omega arith
+
 deeper-value-levels-requires : (t : ℕ) → deeper-lts.Need-value-levels-requires (deeper-callees t) (deeper-at t) deeper.Post
 deeper-value-levels-requires t c κs =
-    let form = c .enum-told2 in
+    let form = c .before .enum-told2 in
     let start = c .before .before .before .before in
     let args = start .args in
-    (omega arith, sym (ap (λ (f : Form). wholeForm f (args .levels) (args .b .now)) (form .given .1)) ∙ start .pre .1)
+    (omega arith, rw (rest-0 (args .b .now)) (sym (ap (λ (f : Form). wholeForm f (args .levels) (args .b .now)) (form .given .1)) ∙ start .pre .1))
 
 deeper-larger-requires-2 : (t : ℕ) → deeper-lts.Need-larger-requires-2 (deeper-callees t) (deeper-at t) deeper.Post
 deeper-larger-requires-2 t c κs = search needs
 
+deeper-returns : (t : ℕ) → deeper-lts.Need-returns (deeper-callees t) (deeper-at t) deeper.Post
+deeper-returns t c =
+    let form = c .before .before .before .enum-told in
+    let start = c .before .before .before .before .before .before in
+    let args = start .args in
+    let levels = c .before .type-levels .ensures ∙ ap (λ (x : List ℕ). depth (dec (args .levels) x)) (rest-0 (args .b .now)) in
+    c .larger .ensures ∙ ap (max (args .most)) (levels ∙ sym (ap (λ (f : Form). levelsIn f (args .levels) (args .b .now)) (form .given .1)))
+
 deeper-returns-2 : (t : ℕ) → deeper-lts.Need-returns-2 (deeper-callees t) (deeper-at t) deeper.Post
 deeper-returns-2 t c =
-    let form = c .before .before .enum-told in
+    let form = c .before .before .before .enum-told2 in
     let start = c .before .before .before .before .before .before in
     let args = start .args in
-    c .larger .ensures ∙ ap (max (args .most)) (c .before .type-levels .ensures ∙ sym (ap (λ (f : Form). levelsIn f (args .levels) (args .b .now)) (form .given .1)))
-
-deeper-returns-3 : (t : ℕ) → deeper-lts.Need-returns-3 (deeper-callees t) (deeper-at t) deeper.Post
-deeper-returns-3 t c =
-    let form = c .before .before .enum-told2 in
-    let start = c .before .before .before .before .before .before in
-    let args = start .args in
-    c .larger2 .ensures ∙ ap (max (args .most)) (c .before .value-levels .ensures ∙ sym (ap (λ (f : Form). levelsIn f (args .levels) (args .b .now)) (form .given .1)))
+    let levels = c .before .value-levels .ensures ∙ ap (λ (x : List ℕ). depthValue (decV (args .levels) x)) (rest-0 (args .b .now)) in
+    c .larger2 .ensures ∙ ap (max (args .most)) (levels ∙ sym (ap (λ (f : Form). levelsIn f (args .levels) (args .b .now)) (form .given .1)))
 
 abbrev deepest-body-Inv-loop : deepest-body-lts.InvT-loop
 deepest-body-Inv-loop form t at width levels n start end e₀ b₀ left₀ most₀ e b left most = BodiesAhead form levels width (deepestAt form levels width at t) left e b most
@@ -184,38 +200,45 @@ deepest-body-add-end t c =
     let args = start .args in
     omega (arith, table-entries (bodyRow (args .width)) (λ _. wholeForm (args .form) (args .levels)) tt (args .at) (args .t .now) (start .pre .1 .1) (count .result) (count .ensures .0))
 
+deepest-body-returns : (t : ℕ) → deepest-body-lts.Need-returns (deepest-body-callees t) (deepest-body-at t) deepest-body.Post deepest-body-Inv-loop deepest-body-μ-loop
+deepest-body-returns t c =
+    let count = c .before .u16-at in
+    let start = c .before .before .before in
+    let args = start .args in
+    bodies-none (args .form) (args .levels) (args .width) (args .at) (args .t .now) (start .pre .1 .1) (count .result) (count .ensures .0) (c .if1 .taken)
+
 deepest-body-sub-e : (t : ℕ) → deepest-body-lts.Need-sub-e (deepest-body-callees t) (deepest-body-at t) deepest-body.Post deepest-body-Inv-loop deepest-body-μ-loop
 deepest-body-sub-e t c =
-    let count = c .u16-at in
-    let start = c .before .before in
+    let count = c .before .u16-at in
+    let start = c .before .before .before in
     let args = start .args in
     omega (arith, table-entries (bodyRow (args .width)) (λ _. wholeForm (args .form) (args .levels)) tt (args .at) (args .t .now) (start .pre .1 .1) (count .result) (count .ensures .0))
 
 deepest-body-part-e-start : (t : ℕ) → deepest-body-lts.Need-part-e-start (deepest-body-callees t) (deepest-body-at t) deepest-body.Post deepest-body-Inv-loop deepest-body-μ-loop
 deepest-body-part-e-start t c =
-    let count = c .u16-at in
-    let start = c .before .before in
+    let count = c .before .u16-at in
+    let start = c .before .before .before in
     let args = start .args in
     omega (arith, table-entries (bodyRow (args .width)) (λ _. wholeForm (args .form) (args .levels)) tt (args .at) (args .t .now) (start .pre .1 .1) (count .result) (count .ensures .0))
 
 deepest-body-part-e-end : (t : ℕ) → deepest-body-lts.Need-part-e-end (deepest-body-callees t) (deepest-body-at t) deepest-body.Post deepest-body-Inv-loop deepest-body-μ-loop
 deepest-body-part-e-end t c =
-    let count = c .u16-at in
-    let start = c .before .before in
+    let count = c .before .u16-at in
+    let start = c .before .before .before in
     let args = start .args in
     omega (arith, table-entries (bodyRow (args .width)) (λ _. wholeForm (args .form) (args .levels)) tt (args .at) (args .t .now) (start .pre .1 .1) (count .result) (count .ensures .0))
 
 deepest-body-sub-b : (t : ℕ) → deepest-body-lts.Need-sub-b (deepest-body-callees t) (deepest-body-at t) deepest-body.Post deepest-body-Inv-loop deepest-body-μ-loop
 deepest-body-sub-b t c =
-    let count = c .before .u16-at in
-    let start = c .before .before .before in
+    let count = c .before .before .u16-at in
+    let start = c .before .before .before .before in
     let args = start .args in
     omega (arith, table-entries (bodyRow (args .width)) (λ _. wholeForm (args .form) (args .levels)) tt (args .at) (args .t .now) (start .pre .1 .1) (count .result) (count .ensures .0))
 
 deepest-body-part-b-start : (t : ℕ) → deepest-body-lts.Need-part-b-start (deepest-body-callees t) (deepest-body-at t) deepest-body.Post deepest-body-Inv-loop deepest-body-μ-loop
 deepest-body-part-b-start t c =
-    let count = c .before .u16-at in
-    let start = c .before .before .before in
+    let count = c .before .before .u16-at in
+    let start = c .before .before .before .before in
     let args = start .args in
     omega (arith, table-entries (bodyRow (args .width)) (λ _. wholeForm (args .form) (args .levels)) tt (args .at) (args .t .now) (start .pre .1 .1) (count .result) (count .ensures .0))
 
@@ -224,16 +247,23 @@ deepest-body-part-b-end t c = omega arith
 
 deepest-body-loop-holds : (t : ℕ) → deepest-body-lts.Need-loop-holds (deepest-body-callees t) (deepest-body-at t) deepest-body.Post deepest-body-Inv-loop deepest-body-μ-loop
 deepest-body-loop-holds t c =
-    let count = c .before .before .u16-at in
-    let start = c .before .before .before .before in
+    let if1 = c .before .before .if1 in
+    let count = c .before .before .before .u16-at in
+    let known = c .before .before .before .before .shared-slice-known in
+    let start = c .before .before .before .before .before in
     let args = start .args in
-    bodies-start (args .form) (args .levels) (args .width) (args .at) (args .t .now) (start .pre .1 .1) (count .result) (count .ensures .0)
+    bodies-start (args .form) (args .levels) (args .width) (args .at) (args .t .now) (start .pre .1 .1) (count .result) (count .ensures .0) (Bytes-index (args .t .now) (λ i. known .given i .fits)) (count .ensures .1) (if1 .left)
+
+deepest-body-add-loop : (t : ℕ) → deepest-body-lts.Need-add-loop (deepest-body-callees t) (deepest-body-at t) deepest-body.Post deepest-body-Inv-loop deepest-body-μ-loop
+deepest-body-add-loop t c = omega (arith, c .loop .inv .small .0, c .loop .inv .small .1)
 
 deepest-body-sub-u16-at : (t : ℕ) → deepest-body-lts.Need-sub-u16-at (deepest-body-callees t) (deepest-body-at t) deepest-body.Post deepest-body-Inv-loop deepest-body-μ-loop
 deepest-body-sub-u16-at t c = omega arith
 
 deepest-body-u16-at-requires-2 : (t : ℕ) → deepest-body-lts.Need-u16-at-requires-2 (deepest-body-callees t) (deepest-body-at t) deepest-body.Post deepest-body-Inv-loop deepest-body-μ-loop
-deepest-body-u16-at-requires-2 t c κs = omega (arith, ahead-room (c .before .loop .inv .rows) (c .loop-test .taken))
+deepest-body-u16-at-requires-2 t c κs =
+    let loop = c .before .loop in
+    omega (arith, ahead-room (loop .inv .rows) (bodies-left (loop .inv) (c .loop-test .taken)))
 
 deepest-body-sub-deeper : (t : ℕ) → deepest-body-lts.Need-sub-deeper (deepest-body-callees t) (deepest-body-at t) deepest-body.Post deepest-body-Inv-loop deepest-body-μ-loop
 deepest-body-sub-deeper t c = omega arith
@@ -243,64 +273,67 @@ deepest-body-part-deeper-start t c = omega arith
 
 deepest-body-part-deeper-end : (t : ℕ) → deepest-body-lts.Need-part-deeper-end (deepest-body-callees t) (deepest-body-at t) deepest-body.Post deepest-body-Inv-loop deepest-body-μ-loop
 deepest-body-part-deeper-end t c =
-    let loop = c .before .before .loop in
-    omega (arith, ahead-inside (loop .inv .rows) (c .before .loop-test .taken) (c .u16-at2 .result) (c .u16-at2 .ensures .0))
+    let size = c .before .u16-at2 in
+    let loop = c .before .before .before .loop in
+    omega (arith, ahead-inside (loop .inv .rows) (bodies-left (loop .inv) (c .before .before .loop-test .taken)) (size .result) (size .ensures .0))
 
 deepest-body-deeper-requires : (t : ℕ) → deepest-body-lts.Need-deeper-requires (deepest-body-callees t) (deepest-body-at t) deepest-body.Post deepest-body-Inv-loop deepest-body-μ-loop
 deepest-body-deeper-requires t c κs =
-    let size = c .before .u16-at2 in
-    let test = c .before .before .loop-test in
-    let loop = c .before .before .before .loop in
-    (omega arith, ahead-body (loop .inv .rows) (test .taken) (size .result) (size .ensures .0))
+    let size = c .before .before .u16-at2 in
+    let loop = c .before .before .before .before .loop in
+    (omega arith, ahead-body (loop .inv .rows) (bodies-left (loop .inv) (c .before .before .before .loop-test .taken)) (size .result) (size .ensures .0))
 
 deepest-body-sub-e-2 : (t : ℕ) → deepest-body-lts.Need-sub-e-2 (deepest-body-callees t) (deepest-body-at t) deepest-body.Post deepest-body-Inv-loop deepest-body-μ-loop
 deepest-body-sub-e-2 t c =
-    let test = c .before .before .before .loop-test in
-    let loop = c .before .before .before .before .loop in
-    omega (arith, ahead-room (loop .inv .rows) (test .taken))
+    let loop = c .before .before .before .loop in
+    omega (arith, ahead-room (loop .inv .rows) (bodies-left (loop .inv) (c .before .before .loop-test .taken)))
 
 deepest-body-part-e-start-2 : (t : ℕ) → deepest-body-lts.Need-part-e-start-2 (deepest-body-callees t) (deepest-body-at t) deepest-body.Post deepest-body-Inv-loop deepest-body-μ-loop
 deepest-body-part-e-start-2 t c =
-    let test = c .before .before .before .loop-test in
-    let loop = c .before .before .before .before .loop in
-    omega (arith, ahead-room (loop .inv .rows) (test .taken))
+    let loop = c .before .before .before .loop in
+    omega (arith, ahead-room (loop .inv .rows) (bodies-left (loop .inv) (c .before .before .loop-test .taken)))
 
 deepest-body-part-e-end-2 : (t : ℕ) → deepest-body-lts.Need-part-e-end-2 (deepest-body-callees t) (deepest-body-at t) deepest-body.Post deepest-body-Inv-loop deepest-body-μ-loop
 deepest-body-part-e-end-2 t c = omega arith
 
 deepest-body-sub-b-2 : (t : ℕ) → deepest-body-lts.Need-sub-b-2 (deepest-body-callees t) (deepest-body-at t) deepest-body.Post deepest-body-Inv-loop deepest-body-μ-loop
 deepest-body-sub-b-2 t c =
-    let size = c .before .before .before .u16-at2 in
-    let test = c .before .before .before .before .loop-test in
-    let loop = c .before .before .before .before .before .loop in
-    omega (arith, ahead-inside (loop .inv .rows) (test .taken) (size .result) (size .ensures .0))
+    let size = c .before .before .u16-at2 in
+    let loop = c .before .before .before .before .loop in
+    omega (arith, ahead-inside (loop .inv .rows) (bodies-left (loop .inv) (c .before .before .before .loop-test .taken)) (size .result) (size .ensures .0))
 
 deepest-body-part-b-start-2 : (t : ℕ) → deepest-body-lts.Need-part-b-start-2 (deepest-body-callees t) (deepest-body-at t) deepest-body.Post deepest-body-Inv-loop deepest-body-μ-loop
 deepest-body-part-b-start-2 t c =
-    let size = c .before .before .before .u16-at2 in
-    let test = c .before .before .before .before .loop-test in
-    let loop = c .before .before .before .before .before .loop in
-    omega (arith, ahead-inside (loop .inv .rows) (test .taken) (size .result) (size .ensures .0))
+    let size = c .before .before .u16-at2 in
+    let loop = c .before .before .before .before .loop in
+    omega (arith, ahead-inside (loop .inv .rows) (bodies-left (loop .inv) (c .before .before .before .loop-test .taken)) (size .result) (size .ensures .0))
 
 deepest-body-part-b-end-2 : (t : ℕ) → deepest-body-lts.Need-part-b-end-2 (deepest-body-callees t) (deepest-body-at t) deepest-body.Post deepest-body-Inv-loop deepest-body-μ-loop
 deepest-body-part-b-end-2 t c = omega arith
 
 deepest-body-sub-left : (t : ℕ) → deepest-body-lts.Need-sub-left (deepest-body-callees t) (deepest-body-at t) deepest-body.Post deepest-body-Inv-loop deepest-body-μ-loop
-deepest-body-sub-left t c = omega arith
+deepest-body-sub-left t c =
+    let loop = c .before .before .before .before .before .loop in
+    omega (arith, bodies-left (loop .inv) (c .before .before .before .before .loop-test .taken))
 
 deepest-body-loop-less : (t : ℕ) → deepest-body-lts.Need-loop-less (deepest-body-callees t) (deepest-body-at t) deepest-body.Post deepest-body-Inv-loop deepest-body-μ-loop
-deepest-body-loop-less t c = omega arith
+deepest-body-loop-less t c =
+    let loop = c .before .before .before .before .before .loop in
+    omega (arith, bodies-left (loop .inv) (c .before .before .before .before .loop-test .taken))
 
 deepest-body-loop-again : (t : ℕ) → deepest-body-lts.Need-loop-again (deepest-body-callees t) (deepest-body-at t) deepest-body.Post deepest-body-Inv-loop deepest-body-μ-loop
 deepest-body-loop-again t c =
-    let found = c .before .before .deeper in
-    let size = c .before .before .before .before .u16-at2 in
-    let test = c .before .before .before .before .before .loop-test in
-    let loop = c .before .before .before .before .before .before .loop in
-    bodies-again (loop .inv) (test .taken) (size .result) (size .ensures .0) (found .result) (found .ensures)
+    let if2 = c .before .before .if2 in
+    let size = c .before .before .before .u16-at2 in
+    let loop = c .before .before .before .before .before .loop in
+    let some = bodies-left (loop .inv) (c .before .before .before .before .loop-test .taken) in
+    bodies-again (loop .inv) some (size .result) (size .ensures .0) (size .ensures .1) (if2 .most) (elim (if2 .came) [
+      | inl found ↦ found .3 ∙ found .2 .ensures
+      | inr passed ↦ passed .1 ∙ bodies-passed (loop .inv) some (size .result) (size .ensures .0) (omega (arith, passed .0 .left))
+    ])
 
-deepest-body-returns : (t : ℕ) → deepest-body-lts.Need-returns (deepest-body-callees t) (deepest-body-at t) deepest-body.Post deepest-body-Inv-loop deepest-body-μ-loop
-deepest-body-returns t c = bodies-end (c .before .loop .inv) (omega arith)
+deepest-body-returns-2 : (t : ℕ) → deepest-body-lts.Need-returns-2 (deepest-body-callees t) (deepest-body-at t) deepest-body.Post deepest-body-Inv-loop deepest-body-μ-loop
+deepest-body-returns-2 t c = bodies-end (c .before .loop .inv) (omega arith)
 
 abbrev type-levels-Inv-loop : type-levels-lts.InvT-loop
 type-levels-Inv-loop t levels b₀ left₀ b left = SetsAbove levels t left b
@@ -566,15 +599,20 @@ pub +deeper+deepest-body+type-levels+value-levels-spec : {M : Type 1} → statem
     close μ-deeper μ-deepest-body μ-type-levels μ-value-levels (λ t. deeper-lts.spec (deeper-callees t)
     (deeper-at t)
     deeper.Post
-    (deeper-returns t)
     (deeper-enum-told t)
+    (deeper-sub-type-levels t)
+    (deeper-part-type-levels-start t)
+    (deeper-part-type-levels-end t)
     (deeper-type-levels-requires t)
     (deeper-larger-requires t)
     (deeper-enum-told-2 t)
+    (deeper-sub-value-levels t)
+    (deeper-part-value-levels-start t)
+    (deeper-part-value-levels-end t)
     (deeper-value-levels-requires t)
     (deeper-larger-requires-2 t)
-    (deeper-returns-2 t)
-    (deeper-returns-3 t))
+    (deeper-returns t)
+    (deeper-returns-2 t))
     (λ t. deepest-body-lts.spec (deepest-body-callees t)
     (deepest-body-at t)
     deepest-body.Post
@@ -584,6 +622,7 @@ pub +deeper+deepest-body+type-levels+value-levels-spec : {M : Type 1} → statem
     (deepest-body-add-start t)
     (deepest-body-mul-end t)
     (deepest-body-add-end t)
+    (deepest-body-returns t)
     (deepest-body-sub-e t)
     (deepest-body-part-e-start t)
     (deepest-body-part-e-end t)
@@ -591,6 +630,7 @@ pub +deeper+deepest-body+type-levels+value-levels-spec : {M : Type 1} → statem
     (deepest-body-part-b-start t)
     (deepest-body-part-b-end t)
     (deepest-body-loop-holds t)
+    (deepest-body-add-loop t)
     (deepest-body-sub-u16-at t)
     (deepest-body-u16-at-requires-2 t)
     (deepest-body-sub-deeper t)
@@ -606,7 +646,7 @@ pub +deeper+deepest-body+type-levels+value-levels-spec : {M : Type 1} → statem
     (deepest-body-sub-left t)
     (deepest-body-loop-less t)
     (deepest-body-loop-again t)
-    (deepest-body-returns t))
+    (deepest-body-returns-2 t))
     (λ t. type-levels-lts.spec
     (type-levels-callees t)
     (type-levels-at t)
