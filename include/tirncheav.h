@@ -14,9 +14,16 @@
  *
  * Every string of a value must be UTF-8 as in RFC 3629, at every level. A call on conformance is refused with 17 where a
  * whole value has one that is not, whether or not the type looks at it: after 5, and before the walk that may end in 7.
+ * Measuring a value asks it too, right after 5.
  *
- * Every call answers one number. Its low byte is the kind; TIRNCHEAV_VALUE is the rest: the number of the question that
- * refused, or how many bytes were written. For a part of the caller's own form the rest is where it starts and ends.
+ * Every call answers one number. Its low byte is the kind. TIRNCHEAV_VALUE is the number of the question that refused, or
+ * how many bytes were written or measured; TIRNCHEAV_LEVELS is how many levels they have. For a part of the caller's own
+ * form the rest is where it starts and ends: its levels are not told.
+ *
+ * A lone form is level 1, and each set element, attribute, set member, pair's value or call argument is one level below
+ * its holder: Long, an empty record, an entity and a string have 1 level, a set of Long has 2. Every call that writes a
+ * type tells exactly the length and the levels of what it wrote; a name list has no levels and tells 0. A bound never has
+ * more levels than the deeper of its two types, and may have fewer: what it drops counts for nothing.
  *
  * A mode is 0, strict; 1, permissive; or 2, loose: as permissive, but sets whose elements have no bound are joined to the
  * untyped set. Actions of one name are joined strictly in each. From 3 up the number of the refusal is 1.
@@ -39,15 +46,17 @@ enum tirncheav_kind {
     TIRNCHEAV_YES = 1,
     TIRNCHEAV_NO = 2,
     TIRNCHEAV_NONE = 3,
-    TIRNCHEAV_WROTE = 4,    /* the value is how many bytes of `out` were written */
-    TIRNCHEAV_OPTIONAL = 5, /* an optional attribute: its type's length, written to `out` */
-    TIRNCHEAV_REQUIRED = 6, /* a required attribute: its type's length, written to `out` */
+    TIRNCHEAV_WROTE = 4,    /* a type, its length and levels, or a name list, its length: written to `out` */
+    TIRNCHEAV_OPTIONAL = 5, /* an optional attribute: its type's length and levels, written to `out` */
+    TIRNCHEAV_REQUIRED = 6, /* a required attribute: its type's length and levels, written to `out` */
     TIRNCHEAV_OPTIONAL_PART = 7, /* an optional attribute: its type is a part of the form passed */
-    TIRNCHEAV_REQUIRED_PART = 8  /* a required attribute: its type is a part of the form passed */
+    TIRNCHEAV_REQUIRED_PART = 8, /* a required attribute: its type is a part of the form passed */
+    TIRNCHEAV_MEASURED = 9  /* the length and levels of the form passed: nothing is written */
 };
 
 #define TIRNCHEAV_KIND(answer) ((int)((answer) & 0xff))
-#define TIRNCHEAV_VALUE(answer) ((size_t)((answer) >> 8))
+#define TIRNCHEAV_VALUE(answer) ((size_t)((answer) >> 8 & 0xffff))
+#define TIRNCHEAV_LEVELS(answer) ((size_t)((answer) >> 24)) /* of kinds 4, 5, 6 and 9; 0 for a name list */
 #define TIRNCHEAV_PART_START(answer) ((size_t)((answer) >> 8 & 0xffff))
 #define TIRNCHEAV_PART_END(answer) ((size_t)((answer) >> 24))
 
@@ -57,6 +66,15 @@ enum tirncheav_kind {
 #define TIRNCHEAV_STANDARD_BYTES 4096
 #define TIRNCHEAV_MOST_LEVELS 32
 #define TIRNCHEAV_MOST_BYTES 8192
+
+/* ---- Measuring: how long and how deep a form is, told before a stack is lent to go down it. */
+
+/* Tells the length and the levels of the type t. Refused with 20, then with 3 where t is not whole under the limits. */
+uint64_t tirncheav_measure_type(size_t levels, size_t bytes, const uint8_t *t, size_t t_len);
+
+/* Tells the length and the levels of the value v. Refused with 20, then with 5 where v is not whole under the limits, then
+ * with 17 where a string anywhere in it is not UTF-8. */
+uint64_t tirncheav_measure_value(size_t levels, size_t bytes, const uint8_t *v, size_t v_len);
 
 /* ---- Calls that check the schema each time. They ask nothing of their bytes. */
 

@@ -13,11 +13,13 @@ A text, line by line; '#' starts a comment.
 
     name = BYTES                bytes that '$name' stands for below
     == TITLE                    a new job, with the empty schema
-    == N = 1 2 16: TITLE        a job for each of the words: up to the next title '{N}' is the word, '{2N-1}' reckoned from a number
+    == N = 1 2 16: TITLE        a job for each of the words: up to the next title '{N}' is the word, '{2N-1}' reckoned from a number.
+                                Of a word '65/3' '{N}' is 65 and '{L}' is 3
     schema BYTES                its schema
     OPERATION WORD.. : BYTES    a question and its body, or its two bodies behind a colon each. The words: 'strict',
                                 'permissive', 'loose' or mode=N; attribute=N; in rooms.txt also room=N, workspace=N,
-                                levels=N and bytes=N. The operation 'own' is no job's: rooms.txt alone has it
+                                levels=N and bytes=N. The operations 'own', 'measure-type' and 'measure-value' are no
+                                job's: rooms.txt alone has them
     job BYTES                   the whole job as it is, good or bad
     > LINE                      what must be printed, in turn; '> N..M LINE' for each index from N to M, '> N* LINE' so many times.
                                 '<BYTES>' stands for the bytes in lower-case hexadecimal, '<>' for none
@@ -38,7 +40,7 @@ MODES = {"strict": "mode=0", "permissive": "mode=1", "loose": "mode=2"}
 STANDARD = {"levels": 16, "bytes": 4096}
 OF_JOBS = ["subtype", "bound", "disjoint", "lookup", "may-have", "names", "consistent", "convert", "conforms", "fold", "literal",
            "full"]
-OPERATIONS = {**{name: number for number, name in enumerate(OF_JOBS)}, "own": 255}
+OPERATIONS = {**{name: number for number, name in enumerate(OF_JOBS)}, "own": 255, "measure-type": 254, "measure-value": 253}
 TOKEN = re.compile(r"\s*(?:%(?P<first>\d+)(?:\.\.(?P<last>\d+)(?P<each>\()?)?|(?P<times>\d+)\*\(|(?P<wraps>\d+)?@(?P<length>\()"
                    r"|(?P<close>\))|\$(?P<name>[\w-]+)|(?P<pair>[0-9a-f]{2}))")
 
@@ -128,9 +130,11 @@ def expected(line, names):
 
 def worded(line, word):
     """A line with the word of its job."""
+    first, _, second = word.partition("/")
+
     def reckoned(m):
-        return str(int(m[1] or 1) * int(word) + int(m[2] or 0))
-    return re.sub(r"\{(\d*)N([+-]\d+)?\}", reckoned, line.replace("{N}", word))
+        return str(int(m[1] or 1) * int(first) + int(m[2] or 0))
+    return re.sub(r"\{(\d*)N([+-]\d+)?\}", reckoned, line.replace("{N}", first).replace("{L}", second))
 
 
 def lines_of(text):

@@ -2,7 +2,8 @@
  * Calls each entry of include/tirncheav.h by position, and prints each answer's number and the bytes that it left: the
  * lines of crates/entries/stdout, with the questions of the program `entries`. Then, the lines of tests/entries.stdout:
  * asks about a string that is no text; asks in loose mode with buffers of a few bytes, and prints what is lent with what
- * stands behind it; and asks under other limits, given with the call or kept with the schema's check.
+ * stands behind it; and asks under other limits, given with the call or kept with the schema's check, and about forms as
+ * deep as they allow.
  */
 #include <inttypes.h>
 #include <stdio.h>
@@ -77,6 +78,15 @@ static void print_line(const char *entry, uint64_t answer, int buffers) {
     fill();
 }
 
+/* A type and a value of two levels, forms of a byte that is neither, and a value of two levels that is no text. */
+static void ask_measured(size_t levels, size_t bytes) {
+    print_line("measure_type", tirncheav_measure_type(levels, bytes, FORM(record)), 0);
+    print_line("measure_type", tirncheav_measure_type(levels, bytes, FORM(broken)), 0);
+    print_line("measure_value", tirncheav_measure_value(levels, bytes, FORM(call)), 0);
+    print_line("measure_value", tirncheav_measure_value(levels, bytes, FORM(broken)), 0);
+    print_line("measure_value", tirncheav_measure_value(levels, bytes, FORM(no_text)), 0);
+}
+
 static void ask(size_t levels, size_t bytes) {
     print_line("are_types_disjoint", tirncheav_are_types_disjoint(levels, bytes, FORM(entity_2), FORM(entity_4)), 0);
     print_line("are_types_disjoint", tirncheav_are_types_disjoint(levels, bytes, FORM(long_type), FORM(broken)), 0);
@@ -103,6 +113,7 @@ static void ask(size_t levels, size_t bytes) {
     print_line("typecheck_restricted_expr_exact",
                tirncheav_typecheck_restricted_expr_exact(levels, bytes, FORM(schema), FORM(entity_2), FORM(uid_2)), 0);
     print_line("euid_literal", tirncheav_euid_literal(levels, bytes, FORM(schema), FORM(uid_3), FORM(out)), 1);
+    ask_measured(levels, bytes);
 }
 
 static void ask_checked(const uint8_t *block, size_t n, uint64_t check) {
@@ -196,6 +207,8 @@ static void ask_refused(void) {
     for (size_t i = 0; i < sizeof bad / sizeof *bad; i++) {
         print_line("are_types_disjoint", tirncheav_are_types_disjoint(bad[i][0], bad[i][1], FORM(broken), FORM(broken)),
                    0);
+        print_line("measure_type", tirncheav_measure_type(bad[i][0], bad[i][1], FORM(broken)), 0);
+        print_line("measure_value", tirncheav_measure_value(bad[i][0], bad[i][1], FORM(broken)), 0);
         print_line("check_schema", tirncheav_check_schema(bad[i][0], bad[i][1], FORM(schema)), 0);
     }
     ask(0, 4096);
@@ -237,10 +250,29 @@ static void ask_wide(size_t bytes) {
     uint64_t check = tirncheav_check_schema(16, bytes, FORM(schema));
     make_wide();
     print_line("are_types_disjoint", tirncheav_are_types_disjoint(16, bytes, FORM(wide), FORM(wide)), 0);
+    print_line("measure_type", tirncheav_measure_type(16, bytes, FORM(wide)), 0);
     print_wide("least_upper_bound",
                tirncheav_least_upper_bound(16, bytes, 0, FORM(schema), FORM(wide), FORM(wide), FORM(large)));
     print_wide("least_upper_bound_checked",
                tirncheav_least_upper_bound_checked(FORM(schema), check, 0, FORM(wide), FORM(wide), FORM(large)));
+}
+
+/* 31 sets over Long, and 31 sets around true, each the one member of the one above. */
+static void ask_deepest(size_t levels, size_t bytes) {
+    enum { SETS = TIRNCHEAV_MOST_LEVELS - 1, HEAD = 5 };
+    static uint8_t type[SETS + 1], value[HEAD * SETS + 1];
+    memset(type, 7, SETS);
+    type[SETS] = 4;
+    for (size_t i = 0; i < SETS; i++) {
+        const uint8_t head[HEAD] = {5, 1, 0, (uint8_t)(sizeof value - HEAD * (i + 1)), 0};
+        memcpy(value + HEAD * i, FORM(head));
+    }
+    value[HEAD * SETS] = 1;
+    print_line("measure_type", tirncheav_measure_type(levels, bytes, FORM(type)), 0);
+    print_line("measure_value", tirncheav_measure_value(levels, bytes, FORM(value)), 0);
+    print_line("convert", tirncheav_convert(levels, bytes, FORM(type), FORM(large)), 0);
+    print_line("least_upper_bound",
+               tirncheav_least_upper_bound(levels, bytes, 0, FORM(function), FORM(type), FORM(type), FORM(large)), 0);
 }
 
 /* A set of Long has two levels; the empty schema is whole at one. */
@@ -295,6 +327,8 @@ static void ask_limits(void) {
     ask_text(TIRNCHEAV_MOST_LEVELS, TIRNCHEAV_MOST_BYTES);
     ask_wide(4097);
     ask_wide(4096);
+    ask_deepest(TIRNCHEAV_MOST_LEVELS, TIRNCHEAV_STANDARD_BYTES);
+    ask_deepest(TIRNCHEAV_MOST_LEVELS - 1, TIRNCHEAV_STANDARD_BYTES);
 }
 
 int main(void) {
@@ -308,6 +342,9 @@ int main(void) {
     ask_broken(none);
     ask_counted(STANDARD);
     ask_counted_checked(tirncheav_check_schema(STANDARD, FORM(function)));
+    ask_measured(0, TIRNCHEAV_STANDARD_BYTES);
+    ask_measured(TIRNCHEAV_STANDARD_LEVELS, TIRNCHEAV_MOST_BYTES + 1);
+    ask_measured(1, 64);
     ask_text(STANDARD);
     ask_loose();
     ask_loose_checked(check);

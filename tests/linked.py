@@ -7,8 +7,8 @@ Then shows that entries.c would tell: the linker puts a function before each ent
 would see them whose source has two parameters exchanged. For each entry and each two of its parameters the lines must differ.
 
 And holds the stack that tests/stack.c sees the test of a form take to what is promised, under the standard limits and under the
-largest: nothing for a set, one step for each record, none below the level that is one too many. What other calls take grows no faster
-than the levels, and for a string not at all with its length.
+largest: nothing for a set, one step for each record, none below the level that is one too many. What measuring and other calls take
+grows no faster than the levels, and for a chain of sets or a string not at all with its length.
 """
 import itertools
 import os
@@ -17,6 +17,7 @@ import resource
 import subprocess
 import sys
 import tempfile
+from collections import namedtuple
 from pathlib import Path
 
 ROOT = Path(__file__).resolve().parent.parent
@@ -25,8 +26,14 @@ ENTRY = re.compile(r'pub extern "C" fn (\w+)\((.*?)\) -> u64', re.S)
 CTYPES = {"u8": ["uint8_t"], "u16": ["uint16_t"], "u64": ["uint64_t"], "usize": ["size_t"], "&[u8]": ["const uint8_t *", "size_t"],
           "&mut [u8]": ["uint8_t *", "size_t"]}
 
-REFUSED, YES, NO, WROTE, REQUIRED = 0, 1, 2, 4, 6  # kinds of an answer
-SCHEMA, TYPE = 2, 3  # refusals
+REFUSED, YES, NO, WROTE, REQUIRED, MEASURED = 0, 1, 2, 4, 6, 9  # kinds of an answer
+SCHEMA, TYPE, VALUE = 2, 3, 5  # refusals
+
+Told = namedtuple("Told", "kind value levels stack")  # of a call: what its answer tells, and the stack that it took
+Form = namedtuple("Form", "kind refusal above")  # of whole forms the answer's kind, of others the refusal, and the levels above a chain
+FORMS = {"sets": Form(NO, TYPE, 0), "sets-measured": Form(MEASURED, TYPE, 0), "sets-in-list": Form(WROTE, TYPE, 0),
+         "sets-in-schema": Form(NO, SCHEMA, 1), "records": Form(NO, TYPE, 0), "records-measured": Form(MEASURED, TYPE, 0),
+         "values-measured": Form(MEASURED, VALUE, 0)}
 
 
 def entries():
@@ -96,58 +103,66 @@ def exchange_tests(folder, expected):
 
 
 def stack_lines(folder):
-    """What stack.c tells of each form, by the levels allowed, then by kind, count and what stands below: the answer's kind and value,
-    and the stack."""
+    """What stack.c tells of each form, by the levels allowed, then by kind, count and what stands below."""
     text, _ = printed(compiled(folder / "stack", ROOT / "tests/stack.c"))
     told = {}
     for levels, what, count, below, *words in map(str.split, text.splitlines()):
-        told.setdefault(int(levels), {})[what, int(count), below] = tuple(map(int, words))
+        told.setdefault(int(levels), {})[what, int(count), below] = Told(*map(int, words))
     return told
 
 
 def call_tests(told):
-    """From 16 to 32 levels a call takes at most twice as much more as from 8 to 16."""
+    """From 16 to 32 levels a call takes at most twice as much more as from 8 to 16. What is written or measured has as many levels as
+    the forms, but what a lookup finds in them one fewer."""
     kinds = {"subtype": YES, "bound": WROTE, "consistent": YES, "convert": WROTE, "conforms": YES, "full": YES, "fold": WROTE,
-             "lookup": REQUIRED}
+             "lookup": REQUIRED, "measured-type": MEASURED, "measured-record": MEASURED, "measured-call": MEASURED}
+    levels = {WROTE: (8, 16, 32), MEASURED: (8, 16, 32), REQUIRED: (7, 15, 31), YES: (0, 0, 0)}
     tests = {}
     for what, kind in kinds.items():
         lines = [told[what, count, "true"] for count in (7, 15, 31)]
-        few, some, most = (stack for _, _, stack in lines)
-        held = {line[0] for line in lines} == {kind} and most - some <= 2 * (some - few)
-        tests[f"the stack of a {what} on 8, 16 and 32 levels"] = held
+        few, some, most = (line.stack for line in lines)
+        said = {line.kind for line in lines} == {kind} and tuple(line.levels for line in lines) == levels[kind]
+        tests[f"the stack of a {what} on 8, 16 and 32 levels"] = said and most - some <= 2 * (some - few)
     return tests
 
 
 def text_tests(told):
-    """Conformance takes as much for a long string as for a short one."""
-    strings = {count: line for (what, count, _), line in told.items() if what == "string"}
-    short = strings[min(strings)][2]
-    return {f"the stack of a string of {count} characters": line == (YES, 0, short) for count, line in strings.items()}
+    """Conformance and measuring take as much for a long string as for a short one."""
+    tests = {}
+    for (what, count, _), line in told.items():
+        if what in ("string", "string-measured"):
+            short = min(other.stack for (name, _, _), other in told.items() if name == what)
+            answer = (YES, 0, 0) if what == "string" else (MEASURED, 3 + 2 * count, 1)
+            tests[f"the stack of a {what} of {count} characters"] = line == (*answer, short)
+    return tests
+
+
+def answered(what, count, whole, line):
+    """Is a whole form answered as it must be, and another refused?"""
+    kind, refusal, _ = FORMS[what]
+    levels = count + 1 if kind in (WROTE, MEASURED) else 0
+    return (line.kind, line.levels) == (kind, levels) if whole else line[:2] == (REFUSED, refusal)
 
 
 def stack_tests(levels, told):
-    """A chain of sets takes the stack of one set if it is whole, and no more if it is refused: as a type, in a list, in a schema's
-    body. Each record takes as much as any other, up to the level that is one too many."""
-    places = {"sets": (levels - 1, NO, TYPE), "sets-in-list": (levels - 1, WROTE, TYPE), "sets-in-schema": (levels - 2, NO, SCHEMA)}
-    one, two = (told["records", count, "long"][2] for count in (1, 2))
-    tests = {f"{levels} levels: each record takes some stack": one < two}
-    for (what, count, below), (kind, value, stack) in told.items():
-        if below == "true":
+    """A chain of sets takes the stack of one set if it is whole, and no more if it is refused: as a type, measured, in a list, in a
+    schema's body. Each record takes as much as any other, tested or measured, up to the level that is one too many."""
+    tests = {}
+    for (what, count, below), line in told.items():
+        if what not in FORMS:
             continue
-        if what == "records":
-            said = kind == NO if count < levels else (kind, value) == (REFUSED, TYPE)
-            held = said and stack == one + (two - one) * (min(count, levels) - 1)
-        elif below == "long" and count <= places[what][0]:
-            held = kind == places[what][1] and stack == told[what, 1, "long"][2]
-        else:
-            held = (kind, value) == (REFUSED, places[what][2]) and stack <= told[what, 1, "long"][2]
-        tests[f"{levels} levels: the stack of {count} {what} over {below}"] = held
+        whole = below == "long" and count + FORMS[what].above < levels
+        one, two = (told[what, n, "long"].stack for n in (1, 2))
+        most = one + (two - one) * (min(count, levels) - 1)
+        held = line.stack == most if whole or what == "records" else line.stack <= most
+        tests[f"{levels} levels: the stack of {count} {what} over {below}"] = held and answered(what, count, whole, line)
+        tests[f"{levels} levels: the step of {what}"] = (one == two) == what.startswith("sets")
     return tests
 
 
 def all_stack_tests(told):
     """The same under each of the limits; a record takes as much under all of them."""
-    steps = {of["records", 2, "long"][2] - of["records", 1, "long"][2] for of in told.values()}
+    steps = {of["records", 2, "long"].stack - of["records", 1, "long"].stack for of in told.values()}
     tests = {"a record's stack under the standard limits and the largest": len(told) == 2 and len(steps) == 1}
     for levels, of in told.items():
         tests.update(stack_tests(levels, of))

@@ -1,7 +1,8 @@
 /*
- * Tells how much of a stack the test of a form takes, and each call that goes down forms: each runs on a stack of its own,
- * filled with one byte before, and what is no longer that byte after it was used. A line for each form under the standard
- * limits and under the largest: the levels allowed, its name, the answer's kind and value, the bytes.
+ * Tells how much of a stack the test of a form takes, measuring it, and each call that goes down forms: each runs on a
+ * stack of its own, filled with one byte before, and what is no longer that byte after it was used. A line for each form
+ * under the standard limits and under the largest: the levels allowed, its name, the answer's kind, value and levels, the
+ * bytes.
  */
 #define _XOPEN_SOURCE 700
 #include <stdio.h>
@@ -24,6 +25,14 @@ static uint64_t answer;
 /* Whether two types are disjoint looks at their first bytes once both are whole. */
 static void test_type(void) {
     answer = tirncheav_are_types_disjoint(levels, bytes, form, form_length, long_type, sizeof long_type);
+}
+
+static void measure_type(void) {
+    answer = tirncheav_measure_type(levels, bytes, form, form_length);
+}
+
+static void measure_value(void) {
+    answer = tirncheav_measure_value(levels, bytes, value, value_length);
 }
 
 static void test_list(void) {
@@ -93,8 +102,8 @@ static size_t taken(void (*call)(void)) {
 /* Calls twice, since the first call of a function may also take what finding it takes. */
 static void tell(const char *what, size_t count, const char *below, void (*call)(void)) {
     taken(call);
-    printf("%zu %s %zu %s %d %zu", levels, what, count, below, TIRNCHEAV_KIND(answer), TIRNCHEAV_VALUE(answer));
-    printf(" %zu\n", taken(call));
+    printf("%zu %s %zu %s %d", levels, what, count, below, TIRNCHEAV_KIND(answer));
+    printf(" %zu %zu %zu\n", TIRNCHEAV_VALUE(answer), TIRNCHEAV_LEVELS(answer), taken(call));
 }
 
 static void put16(uint8_t *at, size_t n) {
@@ -181,13 +190,14 @@ static void make_schema(void) {
     block_length = sizeof head + 2 + form_length;
 }
 
-/* Chains of sets of so many lengths, as a type, in a list, in a schema's body. */
+/* Chains of sets of so many lengths, as a type, measured, in a list, in a schema's body. */
 static void tell_sets(const size_t *counts, size_t n) {
     for (size_t i = 0; i < n; i++) {
         for (size_t below = 0; below < 2; below++) {
             const char *name = below ? "long" : "nothing";
             make_sets(counts[i], below);
             tell("sets", counts[i], name, test_type);
+            tell("sets-measured", counts[i], name, measure_type);
             make_list();
             tell("sets-in-list", counts[i], name, test_list);
             make_schema();
@@ -196,11 +206,14 @@ static void tell_sets(const size_t *counts, size_t n) {
     }
 }
 
-/* Records in records, so many. */
+/* Records in records, so many, as types and measured, and measured values of them. */
 static void tell_records(const size_t *counts, size_t n) {
     for (size_t i = 0; i < n; i++) {
         make_records(form, counts[i], LONG);
+        make_value(counts[i]);
         tell("records", counts[i], "long", test_type);
+        tell("records-measured", counts[i], "long", measure_type);
+        tell("values-measured", counts[i], "long", measure_value);
     }
 }
 
@@ -216,19 +229,23 @@ static void tell_calls(size_t count) {
     tell("consistent", count, "true", call_consistent);
     tell("convert", count, "true", call_convert);
     tell("conforms", count, "true", call_conforms);
+    tell("measured-type", count, "true", measure_type);
+    tell("measured-record", count, "true", measure_value);
     make_calls(count);
     tell("full", count, "true", call_full);
+    tell("measured-call", count, "true", measure_value);
     make_two(list, sizeof list, 2, 4);
     tell("fold", count, "true", test_list);
     make_two(schema, sizeof schema, 9, 14);
     tell("lookup", count, "true", call_lookup);
 }
 
-/* Conformance of strings of so many characters. */
+/* Strings of so many characters, their conformance and measured. */
 static void tell_strings(const size_t *counts, size_t n) {
     for (size_t i = 0; i < n; i++) {
         make_string(counts[i]);
         tell("string", counts[i], "true", call_text);
+        tell("string-measured", counts[i], "true", measure_value);
     }
 }
 

@@ -41,17 +41,30 @@ pub fn atom(name: u16, side: u8) -> Ty {
     }
 }
 
+pub fn set(element: Ty) -> Ty {
+    Ty::Set(Box::new(element))
+}
+
+/// So many sets over a type.
+pub fn chain(sets: usize, below: Ty) -> Ty {
+    (0..sets).fold(below, |ty, _| set(ty))
+}
+
+/// Required attributes of these types.
+pub fn attributes(types: impl IntoIterator<Item = Ty>) -> Vec<Attr> {
+    let named = (0..).zip(types).map(|(name, ty)| Attr {
+        name,
+        required: true,
+        ty,
+    });
+    named.collect()
+}
+
 /// A closed record of so many required attributes and so many levels; the last
 /// attribute holds the level below. On side 0 a Boolean is True, on side 1
 /// False, on side 2 Bool.
 pub fn record(width: u16, levels: usize, side: u8) -> Ty {
-    let mut attrs: Vec<Attr> = (0..width)
-        .map(|name| Attr {
-            name,
-            required: true,
-            ty: atom(name, side),
-        })
-        .collect();
+    let mut attrs = attributes((0..width).map(|name| atom(name, side)));
     if levels > 2 {
         attrs[width as usize - 1].ty = record(width, levels - 1, side);
     }

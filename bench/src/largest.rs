@@ -36,7 +36,7 @@ impl Under {
     }
 }
 
-fn attributes(ty: Ty) -> Vec<Attr> {
+fn attributes_of(ty: Ty) -> Vec<Attr> {
     match ty {
         Ty::Rec(_, attrs) => attrs,
         _ => unreachable!("a record"),
@@ -82,7 +82,7 @@ fn of_entities(limits: Limits) -> Vec<Case> {
         name: 2 * (i + 1),
         enumerated: false,
         open: false,
-        attrs: attributes(body(width, (i % 2) as u8)),
+        attrs: attributes_of(body(width, (i % 2) as u8)),
     };
     let schema = Sch {
         entities: (0..TYPES).map(entry).collect(),
@@ -113,7 +113,7 @@ fn of_action(limits: Limits) -> Case {
         actions: vec![ActionEntry {
             ty: 3,
             id: 0,
-            attrs: attributes(body(width)),
+            attrs: attributes_of(body(width)),
         }],
         ..Sch::default()
     };

@@ -4,7 +4,7 @@ use oracle::candidates::{Candidate, Reply};
 use oracle::library::linked::{CHECKED, ENTRIES};
 use oracle::library::{CheckedLibrary, Library};
 use oracle::limits::Limits;
-use oracle::questions::{Call, Outcome, Part};
+use oracle::questions::{operation::MEASURE_TYPE, Call, Outcome, Part, Written};
 
 /// The second entry of lookup, beside the operations of a job.
 pub const OWN: u8 = u8::MAX;
@@ -43,7 +43,7 @@ impl Checked {
     }
 }
 
-/// What a call answers: a length in the buffer, or a part of the type.
+/// What a call answers: lengths and levels, or a part of the type.
 pub enum Answer {
     Reply(Reply),
     Part(Part),
@@ -69,15 +69,39 @@ pub fn through(check: Checked, call: &Call<'_>, out: &mut [u8], work: &mut [u8])
     }
 }
 
+/// A part tells no levels: it is measured.
+fn levels_of(part: &[u8]) -> usize {
+    let call = Call {
+        op: MEASURE_TYPE,
+        t0: part,
+        ..call_under(Limits::LARGEST)
+    };
+    match Library(ENTRIES).call(&call, &mut [], &mut []) {
+        Reply::Measured(_, levels) => levels,
+        other => panic!("a part is a whole type: {other:?}"),
+    }
+}
+
 /// An answer as the oracle says it.
 pub fn outcome(answer: Answer, t: &[u8], out: &[u8]) -> Outcome {
+    let written = |form: &[u8], levels| Written {
+        form: form.to_vec(),
+        levels,
+    };
     match answer {
         Answer::Reply(Reply::Refused(n)) | Answer::Part(Part::Refused(n)) => Outcome::Refused(n),
         Answer::Reply(Reply::Yes) => Outcome::Yes,
         Answer::Reply(Reply::No) => Outcome::No,
         Answer::Reply(Reply::Nothing) | Answer::Part(Part::Nothing) => Outcome::Nothing,
-        Answer::Reply(Reply::Wrote(n)) => Outcome::Wrote(out[..n].to_vec()),
-        Answer::Reply(Reply::Attribute(r, n)) => Outcome::Attribute(r, out[..n].to_vec()),
-        Answer::Part(Part::Attribute(r, at)) => Outcome::Attribute(r, t[at].to_vec()),
+        Answer::Reply(Reply::Typed(n, levels)) => Outcome::Typed(written(&out[..n], levels)),
+        Answer::Reply(Reply::Attribute(r, n, levels)) => {
+            Outcome::Attribute(r, written(&out[..n], levels))
+        }
+        Answer::Reply(Reply::Named(n)) => Outcome::Named(out[..n].to_vec()),
+        Answer::Reply(Reply::Measured(n, levels)) => Outcome::Measured(n, levels),
+        Answer::Part(Part::Attribute(r, at)) => {
+            let part = &t[at];
+            Outcome::Attribute(r, written(part, levels_of(part)))
+        }
     }
 }

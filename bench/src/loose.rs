@@ -3,12 +3,12 @@
 //! such mode.
 
 use crate::figure;
-use crate::inputs::{atom, record};
+use crate::inputs::{atom, attributes, chain, record, set};
 use crate::library::{self, Checked};
 use crate::timing::{best, repeated, Timed};
 use oracle::limits::Limits;
 use oracle::questions::{answer, operation::*, Call, Outcome};
-use oracle::trees::{list_form, Attr, Ty};
+use oracle::trees::{list_form, Ty};
 
 const SCHEMA: [u8; 6] = [0; 6];
 const PERMISSIVE: u8 = 1;
@@ -83,24 +83,6 @@ impl Question {
         let (mut out, mut work) = library::buffers(self.limits);
         repeated(move || library::through(check, &self.call(mode), &mut out, &mut work))
     }
-}
-
-fn set(element: Ty) -> Ty {
-    Ty::Set(Box::new(element))
-}
-
-fn chain(sets: usize, below: Ty) -> Ty {
-    (0..sets).fold(below, |ty, _| set(ty))
-}
-
-/// Required attributes of these types.
-fn attributes(types: impl IntoIterator<Item = Ty>) -> Vec<Attr> {
-    let named = (0..).zip(types).map(|(name, ty)| Attr {
-        name,
-        required: true,
-        ty,
-    });
-    named.collect()
 }
 
 /// A set of a closed record of so many sets, the last of which is the same

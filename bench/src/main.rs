@@ -9,6 +9,7 @@ mod jobs;
 mod largest;
 mod library;
 mod loose;
+mod measures;
 mod texts;
 mod timing;
 
@@ -52,6 +53,8 @@ fn main() {
     largest::print();
     println!();
     jobs::print();
+    println!();
+    measures::print();
     println!();
     texts::print();
 }

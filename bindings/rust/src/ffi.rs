@@ -5,6 +5,8 @@ type P = *const u8;
 type M = *mut u8;
 
 extern "C" {
+    pub fn tirncheav_measure_type(levels: usize, bytes: usize, t: P, n: usize) -> u64;
+    pub fn tirncheav_measure_value(levels: usize, bytes: usize, v: P, n: usize) -> u64;
     pub fn tirncheav_are_types_disjoint(
         levels: usize, bytes: usize, t0: P, n0: usize, t1: P, n1: usize,
     ) -> u64;

@@ -1,8 +1,8 @@
 //! A schema that is checked once and kept with its block.
 
-use crate::answers::{attribute, part, written, written_or_none, yes_or_no, Attribute};
+use crate::answers::{attribute, names, part, written, written_or_none, yes_or_no};
 use crate::ffi;
-use crate::{Limits, Mode, Refusal};
+use crate::{Attribute, Limits, Mode, Part, Refusal, Written};
 
 /// A whole schema and the limits of every call on it. The block stays lent, so
 /// it cannot change after the check.
@@ -46,7 +46,7 @@ impl<'a> Schema<'a> {
     /// Checks a schema under limits, and keeps them.
     ///
     /// ```
-    /// use tirncheav::{Limits, Mode, Refusal, Schema, FORM_BYTES};
+    /// use tirncheav::{Limits, Mode, Refusal, Schema, Written, FORM_BYTES};
     /// // An entity of 2,047 types has 4,097 bytes.
     /// let mut entity = vec![10, 0xff, 0x07];
     /// entity.extend((1..=2047).flat_map(|n: u16| (2 * n).to_le_bytes()));
@@ -61,7 +61,7 @@ impl<'a> Schema<'a> {
     /// let larger = Schema::check_under(limits, &[0; 6]).unwrap();
     /// assert_eq!(larger.limits(), limits);
     /// let bound = larger.least_upper_bound(Mode::Strict, &entity, &entity, &mut out);
-    /// assert_eq!(bound, Ok(&entity[..]));
+    /// assert_eq!(bound, Ok(Written { form: &entity, levels: 1 }));
     /// ```
     ///
     /// The bodies of a schema are forms too:
@@ -107,14 +107,36 @@ impl<'a> Schema<'a> {
         ))
     }
 
-    /// The least upper bound of two types, written to the front of `out`.
+    /// The least upper bound of two types, written to the front of `out`. It has
+    /// no more levels than the deeper of the two.
+    ///
+    /// ```
+    /// use tirncheav::{Mode, Schema, Written};
+    /// let schema = Schema::check(&[0; 6]).unwrap();
+    /// let mut out = [0; 12];
+    ///
+    /// // {1: a set of sets of Long}, four levels, and {1: Long}, two. Permissive,
+    /// // the attribute is lost, and its levels with it.
+    /// let deep = [8, 0, 1, 0, 1, 0, 1, 3, 0, 7, 7, 4];
+    /// let flat = [8, 0, 1, 0, 1, 0, 1, 1, 0, 4];
+    /// let bound = schema.least_upper_bound(Mode::Permissive, &deep, &flat, &mut out);
+    /// assert_eq!(bound, Ok(Written { form: &[8, 1, 0, 0], levels: 1 }));
+    ///
+    /// // With itself it keeps them.
+    /// let bound = schema.least_upper_bound(Mode::Strict, &deep, &deep, &mut out);
+    /// assert_eq!(bound, Ok(Written { form: &deep, levels: 4 }));
+    ///
+    /// // Sets of sets of Long and of String, loose: a set of untyped sets.
+    /// let bound = schema.least_upper_bound(Mode::Loose, &[7, 7, 4], &[7, 7, 5], &mut out);
+    /// assert_eq!(bound, Ok(Written { form: &[7, 6], levels: 2 }));
+    /// ```
     pub fn least_upper_bound<'b>(
         &self,
         mode: Mode,
         t0: &[u8],
         t1: &[u8],
         out: &'b mut [u8],
-    ) -> Result<&'b [u8], Refusal> {
+    ) -> Result<Written<'b>, Refusal> {
         let number = asked!(
             self,
             tirncheav_least_upper_bound_checked,
@@ -129,13 +151,18 @@ impl<'a> Schema<'a> {
     /// front of `out`; `work` is all zero after.
     ///
     /// ```
-    /// use tirncheav::{Mode, Schema, FORM_BYTES, WORK_BYTES};
+    /// use tirncheav::{Mode, Schema, Written, FORM_BYTES, WORK_BYTES};
     /// let schema = Schema::check(&[0; 6]).unwrap();
-    /// // True and False.
-    /// let list = [2, 0, 1, 0, 1, 0, 1, 2];
     /// let (mut out, mut work) = ([0; FORM_BYTES], [0; WORK_BYTES]);
+    ///
+    /// // Sets of True and of False.
+    /// let list = [2, 0, 2, 0, 2, 0, 7, 1, 7, 2];
     /// let bound = schema.reduce_to_least_upper_bound(Mode::Strict, &list, &mut out, &mut work);
-    /// assert_eq!(bound, Ok(&[3][..]));
+    /// assert_eq!(bound, Ok(Written { form: &[7, 3], levels: 2 }));
+    ///
+    /// // Nothing: Never, which has one level.
+    /// let bound = schema.reduce_to_least_upper_bound(Mode::Strict, &[0, 0], &mut out, &mut work);
+    /// assert_eq!(bound, Ok(Written { form: &[0], levels: 1 }));
     /// ```
     pub fn reduce_to_least_upper_bound<'b>(
         &self,
@@ -143,7 +170,7 @@ impl<'a> Schema<'a> {
         list: &[u8],
         out: &'b mut [u8],
         work: &mut [u8],
-    ) -> Result<&'b [u8], Refusal> {
+    ) -> Result<Written<'b>, Refusal> {
         let number = asked!(
             self,
             tirncheav_reduce_to_least_upper_bound_checked,
@@ -158,13 +185,14 @@ impl<'a> Schema<'a> {
     /// `work` is all zero after.
     ///
     /// ```
-    /// use tirncheav::{Schema, FORM_BYTES, WORK_BYTES};
+    /// use tirncheav::{Attribute, Schema, FORM_BYTES, WORK_BYTES};
     /// let schema = Schema::check(&[0; 6]).unwrap();
     /// // {1: Long}, optional.
     /// let t = [8, 0, 1, 0, 1, 0, 0, 1, 0, 4];
     /// let (mut out, mut work) = ([0; FORM_BYTES], [0; WORK_BYTES]);
-    /// let found = schema.lookup_attribute_type(1, &t, &mut out, &mut work).unwrap().unwrap();
-    /// assert_eq!((found.required, found.form), (false, &[4][..]));
+    /// let found = schema.lookup_attribute_type(1, &t, &mut out, &mut work);
+    /// let long = Attribute { required: false, form: &[4], levels: 1 };
+    /// assert_eq!(found, Ok(Some(long)));
     /// assert_eq!(schema.lookup_attribute_type(2, &t, &mut out, &mut work), Ok(None));
     /// ```
     pub fn lookup_attribute_type<'b>(
@@ -199,7 +227,7 @@ impl<'a> Schema<'a> {
         &self,
         attr: u16,
         t: &'t [u8],
-    ) -> Result<Option<Attribute<'t>>, Refusal> {
+    ) -> Result<Option<Part<'t>>, Refusal> {
         let number = asked!(self, tirncheav_own_attribute_type_checked, [attr], [t], []);
         part(number, t)
     }
@@ -217,6 +245,14 @@ impl<'a> Schema<'a> {
 
     /// The names of a type's attributes, two bytes each, low byte first,
     /// written to the front of `out`; `work` is all zero after.
+    ///
+    /// ```
+    /// use tirncheav::Schema;
+    /// let schema = Schema::check(&[0; 6]).unwrap();
+    /// // {1: Long}.
+    /// let t = [8, 0, 1, 0, 1, 0, 1, 1, 0, 4];
+    /// assert_eq!(schema.all_attributes(&t, &mut [0; 2], &mut []), Ok(&[1, 0][..]));
+    /// ```
     pub fn all_attributes<'b>(
         &self,
         t: &[u8],
@@ -224,7 +260,7 @@ impl<'a> Schema<'a> {
         work: &mut [u8],
     ) -> Result<&'b [u8], Refusal> {
         let number = asked!(self, tirncheav_all_attributes_checked, [], [t], [out, work]);
-        written(number, out)
+        names(number, out)
     }
 
     /// Whether a value has a type. A call's arguments are compared with those
@@ -300,16 +336,25 @@ impl<'a> Schema<'a> {
     /// lacks it.
     ///
     /// ```
-    /// use tirncheav::Schema;
+    /// use tirncheav::{Schema, Written};
     /// let schema = Schema::check(&[0; 6]).unwrap();
     /// // The entity 3 of type 2, which an empty schema does not have.
     /// assert_eq!(schema.euid_literal(&[4, 2, 0, 3, 0], &mut []), Ok(None));
+    ///
+    /// // The action 0 of type 3 with {1: Long}: its type has the levels of its body.
+    /// let block = [
+    ///     0, 0, 1, 0, 0, 0, 3, 0, 0, 0, 10, 0, 8, 0, 1, 0, 1, 0, 1, 1, 0, 4,
+    /// ];
+    /// let schema = Schema::check(&block).unwrap();
+    /// let mut out = [0; 11];
+    /// let action = Written { form: &[11, 3, 0, 1, 0, 1, 0, 1, 1, 0, 4], levels: 2 };
+    /// assert_eq!(schema.euid_literal(&[4, 3, 0, 0, 0], &mut out), Ok(Some(action)));
     /// ```
     pub fn euid_literal<'b>(
         &self,
         uid: &[u8],
         out: &'b mut [u8],
-    ) -> Result<Option<&'b [u8]>, Refusal> {
+    ) -> Result<Option<Written<'b>>, Refusal> {
         let number = asked!(self, tirncheav_euid_literal_checked, [], [uid], [out]);
         written_or_none(number, out)
     }

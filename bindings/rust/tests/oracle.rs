@@ -1,60 +1,79 @@
 //! The binding against the published Rust, question by question of generated
-//! jobs.
+//! jobs, and of their forms measured.
 
 use oracle::generate::Gen;
 use oracle::jobs::read_job;
-use oracle::questions::{answer, operation::*, Call, Outcome};
-use tirncheav::{Limits, Mode, Refusal, Schema, FORM_BYTES, WORK_BYTES};
+use oracle::questions::{answer, operation::*, Call, Outcome, Written as Told};
+use tirncheav::{Limits, Measured, Mode, Refusal, Schema, Written, FORM_BYTES, WORK_BYTES};
 
-fn yes(answer: Result<bool, Refusal>) -> Outcome {
+/// What an answer is, or its refusal.
+fn told<T>(answer: Result<T, Refusal>, outcome: impl FnOnce(T) -> Outcome) -> Outcome {
     match answer {
-        Ok(true) => Outcome::Yes,
-        Ok(false) => Outcome::No,
+        Ok(answer) => outcome(answer),
         Err(refusal) => Outcome::Refused(refusal.number()),
     }
 }
 
-fn wrote(answer: Result<&[u8], Refusal>) -> Outcome {
+fn owned(form: &[u8], levels: usize) -> Told {
+    let form = form.to_vec();
+    Told { form, levels }
+}
+
+fn yes(answer: bool) -> Outcome {
     match answer {
-        Ok(form) => Outcome::Wrote(form.to_vec()),
-        Err(refusal) => Outcome::Refused(refusal.number()),
+        true => Outcome::Yes,
+        false => Outcome::No,
     }
 }
 
-fn found(answer: Result<Option<Outcome>, Refusal>) -> Outcome {
-    match answer {
-        Ok(outcome) => outcome.unwrap_or(Outcome::Nothing),
-        Err(refusal) => Outcome::Refused(refusal.number()),
-    }
+fn wrote(written: Written<'_>) -> Outcome {
+    Outcome::Typed(owned(written.form, written.levels))
+}
+
+fn measured(measured: Measured) -> Outcome {
+    Outcome::Measured(measured.length, measured.levels)
 }
 
 /// The calls that take no schema.
 fn alone(limits: Limits, call: &Call<'_>, out: &mut [u8]) -> Option<Outcome> {
     Some(match call.op {
-        DISJOINT => yes(tirncheav::are_types_disjoint(limits, call.t0, call.t1)),
-        CONSISTENT => yes(tirncheav::is_consistent_with(limits, call.t0, call.t1)),
-        CONVERT => wrote(tirncheav::convert(limits, call.t0, out)),
+        DISJOINT => told(tirncheav::are_types_disjoint(limits, call.t0, call.t1), yes),
+        CONSISTENT => told(tirncheav::is_consistent_with(limits, call.t0, call.t1), yes),
+        CONVERT => told(tirncheav::convert(limits, call.t0, out), wrote),
+        MEASURE_TYPE => told(tirncheav::measure_type(limits, call.t0), measured),
+        MEASURE_VALUE => told(tirncheav::measure_value(limits, call.t0), measured),
         _ => return None,
     })
 }
 
 fn under(schema: Schema<'_>, mode: Mode, call: &Call<'_>, out: &mut [u8]) -> Outcome {
     let mut work = [1; WORK_BYTES];
+    let (t0, t1) = (call.t0, call.t1);
     let outcome = match call.op {
-        SUBTYPE => return yes(schema.is_subtype(mode, call.t0, call.t1)),
-        BOUND => return wrote(schema.least_upper_bound(mode, call.t0, call.t1, out)),
-        MAY_HAVE => return yes(schema.may_have_attr(call.attr, call.t0)),
-        CONFORMS => return yes(schema.typecheck_restricted_expr(call.t0, call.t1)),
-        FULL => return yes(schema.typecheck_restricted_expr_exact(call.t0, call.t1)),
+        SUBTYPE => return told(schema.is_subtype(mode, t0, t1), yes),
+        BOUND => return told(schema.least_upper_bound(mode, t0, t1, out), wrote),
+        MAY_HAVE => return told(schema.may_have_attr(call.attr, t0), yes),
+        CONFORMS => return told(schema.typecheck_restricted_expr(t0, t1), yes),
+        FULL => return told(schema.typecheck_restricted_expr_exact(t0, t1), yes),
         LITERAL => {
-            let form = schema.euid_literal(call.t0, out);
-            return found(form.map(|f| f.map(|f| Outcome::Wrote(f.to_vec()))));
+            let found = schema.euid_literal(t0, out);
+            return told(found, |found| found.map_or(Outcome::Nothing, wrote));
         }
-        NAMES => wrote(schema.all_attributes(call.t0, out, &mut work)),
-        FOLD => wrote(schema.reduce_to_least_upper_bound(mode, call.t0, out, &mut work)),
+        NAMES => {
+            let names = schema.all_attributes(t0, out, &mut work);
+            told(names, |names| Outcome::Named(names.to_vec()))
+        }
+        FOLD => {
+            let bound = schema.reduce_to_least_upper_bound(mode, t0, out, &mut work);
+            told(bound, wrote)
+        }
         _ => {
-            let at = schema.lookup_attribute_type(call.attr, call.t0, out, &mut work);
-            found(at.map(|a| a.map(|a| Outcome::Attribute(a.required, a.form.to_vec()))))
+            let found = schema.lookup_attribute_type(call.attr, t0, out, &mut work);
+            told(found, |found| {
+                found.map_or(Outcome::Nothing, |a| {
+                    Outcome::Attribute(a.required, owned(a.form, a.levels))
+                })
+            })
         }
     };
     assert!(
@@ -65,7 +84,7 @@ fn under(schema: Schema<'_>, mode: Mode, call: &Call<'_>, out: &mut [u8]) -> Out
 }
 
 /// A mode that is no mode cannot be said in Rust: such questions are passed.
-fn told(call: &Call<'_>, out: &mut [u8]) -> Option<Outcome> {
+fn asked(call: &Call<'_>, out: &mut [u8]) -> Option<Outcome> {
     let mode = match (call.op, call.mode) {
         (SUBTYPE | BOUND | FOLD, 0) => Mode::Strict,
         (SUBTYPE | BOUND | FOLD, 1) => Mode::Permissive,
@@ -88,12 +107,13 @@ fn told(call: &Call<'_>, out: &mut [u8]) -> Option<Outcome> {
 /// Puts a call to the binding; false where it cannot be said in Rust.
 fn compared(call: &Call<'_>) -> bool {
     let mut out = [7; FORM_BYTES];
-    let Some(outcome) = told(call, &mut out) else {
+    let Some(outcome) = asked(call, &mut out) else {
         return false;
     };
     assert_eq!(outcome, answer(call), "{call:?}");
     let filled = match &outcome {
-        Outcome::Wrote(form) | Outcome::Attribute(_, form) => form.len(),
+        Outcome::Typed(told) | Outcome::Attribute(_, told) => told.form.len(),
+        Outcome::Named(names) => names.len(),
         _ => 0,
     };
     assert!(out[filled..].iter().all(|byte| *byte == 7), "{call:?}");
@@ -110,6 +130,18 @@ const OTHERS: [(usize, usize); 7] = [
     (0, 4096),
     (16, 8193),
 ];
+
+/// A call, and its two forms measured as types and as values.
+fn with_measures<'a>(call: Call<'a>) -> [Call<'a>; 5] {
+    let measure = |op, t0| Call { op, t0, ..call };
+    [
+        call,
+        measure(MEASURE_TYPE, call.t0),
+        measure(MEASURE_TYPE, call.t1),
+        measure(MEASURE_VALUE, call.t0),
+        measure(MEASURE_VALUE, call.t1),
+    ]
+}
 
 #[test]
 fn answers_are_the_published_ones() {
@@ -129,13 +161,12 @@ fn answers_are_the_published_ones() {
             };
             let (levels, bytes) = others.next().expect("a cycle");
             let limits = oracle::limits::Limits { levels, bytes };
-            count += [call, Call { limits, ..call }]
-                .iter()
-                .filter(|call| compared(call))
-                .count();
+            let calls = [call, Call { limits, ..call }].map(with_measures);
+            let calls = calls.iter().flatten();
+            count += calls.filter(|call| compared(call)).count();
         }
     }
-    assert!(count > 50_000, "only {count} questions were compared");
+    assert!(count > 250_000, "only {count} questions were compared");
 }
 
 #[test]
