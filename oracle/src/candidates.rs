@@ -5,15 +5,18 @@ use crate::jobs::lines;
 use crate::model::{self, Rules};
 use crate::questions::{answer, lookup_part, operation::*, Call, Outcome, Part};
 
-/// What a candidate's entry returns: lengths, while the bytes are in `out`.
+/// What a candidate's entry returns: lengths and levels, while the bytes are in
+/// `out`.
 #[derive(Clone, Copy, Debug, PartialEq, Eq)]
 pub enum Reply {
     Refused(u8),
     Yes,
     No,
     Nothing,
-    Wrote(usize),
-    Attribute(bool, usize),
+    Typed(usize, usize),
+    Attribute(bool, usize, usize),
+    Named(usize),
+    Measured(usize, usize),
 }
 
 /// A program or a library that answers as 01 says.
@@ -51,8 +54,10 @@ pub fn leave(call: &Call<'_>, outcome: &Outcome, out: &mut [u8], work: &mut [u8]
         Outcome::Yes => Reply::Yes,
         Outcome::No => Reply::No,
         Outcome::Nothing => Reply::Nothing,
-        Outcome::Wrote(form) => Reply::Wrote(put(out, form)),
-        Outcome::Attribute(required, form) => Reply::Attribute(*required, put(out, form)),
+        Outcome::Typed(w) => Reply::Typed(put(out, &w.form), w.levels),
+        Outcome::Attribute(required, w) => Reply::Attribute(*required, put(out, &w.form), w.levels),
+        Outcome::Named(form) => Reply::Named(put(out, form)),
+        Outcome::Measured(length, levels) => Reply::Measured(*length, *levels),
     }
 }
 
@@ -89,6 +94,9 @@ fn leave_by(
 ) -> Reply {
     if !rules.spares_result(outcome) {
         out.fill(0);
+    }
+    if rules.clears_measuring(outcome) {
+        work.fill(0);
     }
     let work = match rules.clears_work(outcome) {
         true => work,

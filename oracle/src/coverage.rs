@@ -1,6 +1,7 @@
 //! How often each operation gave each outcome.
 
 mod edges;
+mod levels;
 mod limits;
 mod texts;
 
@@ -17,19 +18,19 @@ use texts::Texts;
 
 const COLUMNS: [&str; WIDTH] = [
     "yes", "no", "none", "bytes", "r:", "o:", "1", "2", "3", "4", "5", "6", "7", "8", "9", "10",
-    "11", "12", "13", "14", "15", "17", UNALLOWED,
+    "11", "12", "13", "14", "15", "17", "measured", UNALLOWED,
 ];
-const WIDTH: usize = 23;
+const WIDTH: usize = 24;
 
 /// Limits outside their ranges, which no job and no program has.
 const UNALLOWED: &str = "20";
 
-/// The operations, and then what is counted beside them. Of operation 11: those
-/// with another outcome by operation 8, by that outcome; of these, those where
-/// a count inside an argument makes it another. Of mode 2: the operations that
-/// take a mode; those with another outcome in mode 1, by that outcome, or by 9
-/// and 10 where these are mode 2's; bounds and folds of sets alone that come to
-/// their rule.
+/// The operations, measuring, and then what is counted beside them. Of operation
+/// 11: those with another outcome by operation 8, by that outcome; of these,
+/// those where a count inside an argument makes it another. Of mode 2: the
+/// operations that take a mode; those with another outcome in mode 1, by that
+/// outcome, or by 9 and 10 where these are mode 2's; bounds and folds of sets
+/// alone that come to their rule.
 const ROWS: [&str; OTHERWISE + 5] = [
     "subtype",
     "bound",
@@ -43,6 +44,8 @@ const ROWS: [&str; OTHERWISE + 5] = [
     "fold",
     "literal",
     "full",
+    "measure type",
+    "measure value",
     "conforms, not 11",
     ".. by arguments",
     "subtype 2",
@@ -55,8 +58,10 @@ const ROWS: [&str; OTHERWISE + 5] = [
     "fold 2, sets",
 ];
 
-/// Where the rows beside the operations start: of operation 11, and of mode 2.
-const NOT_FULL: usize = operation::COUNT;
+/// Where the rows beside the operations start: of measuring, which no job does,
+/// of operation 11, and of mode 2.
+const MEASURES: usize = operation::COUNT;
+const NOT_FULL: usize = MEASURES + 2;
 const IN_LOOSE: usize = NOT_FULL + 2;
 const OTHERWISE: usize = IN_LOOSE + 3;
 const OF_SETS: usize = OTHERWISE + 3;
@@ -77,6 +82,8 @@ const POSSIBLE: [&[&str]; ROWS.len()] = [
     &["bytes", "1", "2", "3", "9", "11", "12", "13", "14", "15"],
     &["none", "bytes", "2", "5", "10"],
     &["yes", "no", "2", "3", "5", "7", "17"],
+    &["measured", "3"],
+    &["measured", "5", "17"],
     &["yes", "7"],
     &["yes", "7"],
     &["yes", "no", "2", "3", "4"],
@@ -125,12 +132,22 @@ fn column(outcome: &Outcome) -> usize {
         Outcome::Yes => 0,
         Outcome::No => 1,
         Outcome::Nothing => 2,
-        Outcome::Wrote(_) => 3,
+        Outcome::Typed(_) | Outcome::Named(_) => 3,
         Outcome::Attribute(true, _) => 4,
         Outcome::Attribute(false, _) => 5,
         Outcome::Refused(20) => WIDTH - 1,
-        Outcome::Refused(17) => WIDTH - 2,
+        Outcome::Measured(..) => WIDTH - 2,
+        Outcome::Refused(17) => WIDTH - 3,
         Outcome::Refused(n) => 5 + *n as usize,
+    }
+}
+
+/// The row of an operation, or of measuring.
+fn row(op: u8) -> usize {
+    match op {
+        operation::MEASURE_TYPE => MEASURES,
+        operation::MEASURE_VALUE => MEASURES + 1,
+        op => op as usize,
     }
 }
 
@@ -174,18 +191,31 @@ impl Coverage {
     }
 
     /// The rows that are counted.
-    fn rows(&self) -> std::ops::Range<usize> {
-        match self.asked {
-            Asked::UnderLimits => 0..OTHERWISE,
-            _ => 0..ROWS.len(),
-        }
+    fn rows(&self) -> impl Iterator<Item = usize> {
+        let asked = self.asked;
+        (0..ROWS.len()).filter(move |row| match asked {
+            Asked::InJobs => !(MEASURES..NOT_FULL).contains(row),
+            Asked::WithRooms => true,
+            Asked::UnderLimits => *row < OTHERWISE,
+        })
     }
 
     /// The columns that are shown.
     fn columns(&self) -> std::ops::Range<usize> {
         match self.asked {
+            Asked::InJobs => 0..WIDTH - 2,
+            Asked::WithRooms => 0..WIDTH - 1,
             Asked::UnderLimits => 0..WIDTH,
-            _ => 0..WIDTH - 1,
+        }
+    }
+
+    /// How many columns of strings are counted: by operations 8 and 11, and by
+    /// measuring.
+    fn text_columns(&self) -> usize {
+        match self.asked {
+            Asked::InJobs => 2,
+            Asked::WithRooms => 0,
+            Asked::UnderLimits => 3,
         }
     }
 
@@ -215,17 +245,19 @@ impl Coverage {
     }
 
     fn count_with(&mut self, call: &Call<'_>, schema: &SchemaCache<'_>, outcome: &Outcome) {
-        self.cells[call.op as usize][column(outcome)] += 1;
-        if matches!(outcome, Outcome::Wrote(form) if form.is_empty()) {
-            self.empty_name_lists += 1;
+        self.cells[row(call.op)][column(outcome)] += 1;
+        if let Some(bytes) = outcome.bytes() {
+            self.empty_name_lists += bytes.is_empty() as u64;
+            assert!(bytes.len() <= call.limits.bytes, "an answer over its limit");
         }
-        if let Outcome::Wrote(form) | Outcome::Attribute(_, form) = outcome {
-            assert!(form.len() <= call.limits.bytes, "an answer over its limit");
+        if let Some(written) = outcome.written() {
+            let within = (1..=call.limits.levels).contains(&written.levels);
+            assert!(within, "levels over their limit");
         }
         if call.op == operation::FULL {
             self.count_full(call, schema, outcome);
         }
-        if self.asked != Asked::WithRooms {
+        if self.text_columns() > 0 {
             self.texts.count(call, schema, outcome);
         }
         let modes = [operation::SUBTYPE, operation::BOUND, operation::FOLD];
@@ -276,7 +308,12 @@ impl Coverage {
     }
 
     pub fn questions(&self) -> u64 {
-        self.cells[..operation::COUNT].iter().flatten().sum()
+        self.cells[..NOT_FULL].iter().flatten().sum()
+    }
+
+    /// How many of the questions measure.
+    pub fn measures(&self) -> u64 {
+        self.cells[MEASURES..NOT_FULL].iter().flatten().sum()
     }
 
     /// How many of the questions are of operation 11.
@@ -291,8 +328,13 @@ impl Coverage {
 
     /// How many of the questions are refused with 17.
     pub fn broken(&self) -> u64 {
-        let at = column(&Outcome::Refused(17));
-        let rows = self.cells[..operation::COUNT].iter();
+        self.refused(17)
+    }
+
+    /// How many are refused with a number.
+    fn refused(&self, number: u8) -> u64 {
+        let at = column(&Outcome::Refused(number));
+        let rows = self.cells[..NOT_FULL].iter();
         rows.map(|row| row[at]).sum()
     }
 
@@ -328,9 +370,7 @@ impl Coverage {
         if self.bad_jobs == 0 && self.asked == Asked::InJobs {
             missing.push("job 16".into());
         }
-        if self.asked != Asked::WithRooms {
-            missing.extend(self.texts.missing());
-        }
+        missing.extend(self.texts.missing(self.text_columns()));
         missing
     }
 
@@ -357,9 +397,10 @@ impl Coverage {
             }
             out.push('\n');
         }
-        if self.asked != Asked::WithRooms {
+        let strings = self.text_columns();
+        if strings > 0 {
             out += "strings\n";
-            out += &self.texts.table();
+            out += &self.texts.table(strings);
         }
         out
     }

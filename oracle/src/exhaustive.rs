@@ -3,15 +3,18 @@
 mod chains;
 mod counts;
 mod lengths;
+mod tables;
 mod texts;
 
 pub use texts::each_string;
 
+use crate::jobs::read_job;
 use crate::limits::Limits;
 use crate::questions::operation::*;
 use crate::trees::{
     job_form, list_form, ActionEntry, Ask, Attr, EntityEntry, FunctionEntry, Sch, Ty, Val,
 };
+use std::collections::BTreeSet;
 
 fn attr(name: u16, required: bool, ty: &Ty) -> Attr {
     Attr {
@@ -55,6 +58,22 @@ fn types() -> Vec<Ty> {
         }
     }
     types
+}
+
+/// Every list of up to so many.
+fn lists<T: Clone>(of: &[T], most: usize) -> Vec<Vec<T>> {
+    let mut lists: Vec<Vec<T>> = vec![Vec::new()];
+    let mut start = 0;
+    for _ in 0..most {
+        let end = lists.len();
+        for at in start..end {
+            for one in of {
+                lists.push([lists[at].as_slice(), std::slice::from_ref(one)].concat());
+            }
+        }
+        start = end;
+    }
+    lists
 }
 
 fn set(element: Ty) -> Ty {
@@ -291,6 +310,15 @@ pub fn jobs_under(limits: Limits) -> Vec<Vec<u8>> {
     jobs.ask_all();
     lengths::ask_all(&mut jobs, limits.bytes);
     [jobs.closed(), counts::jobs(), texts::jobs()].concat()
+}
+
+/// What is measured: every body that these jobs ask with, and tables of bodies.
+pub fn measured(jobs: &[Vec<u8>]) -> BTreeSet<Vec<u8>> {
+    let jobs = jobs.iter().filter_map(|job| read_job(job));
+    let questions = jobs.flat_map(|job| job.questions);
+    let bodies = questions.flat_map(|q| [q.t0, q.t1]);
+    let bodies = bodies.map(<[u8]>::to_vec);
+    bodies.chain(tables::forms()).collect()
 }
 
 /// Every pair of types by every operation that takes two.

@@ -6,6 +6,7 @@ mod asks;
 mod calls;
 mod damage;
 mod drawn;
+mod measures;
 mod schemas;
 mod sizes;
 mod texts;
@@ -93,6 +94,15 @@ impl Gen {
         Gen {
             rng: Rng::new(seed),
             limits: Limits::STANDARD,
+        }
+    }
+
+    /// A generator of its own, around these limits: what it draws leaves the
+    /// next draws of this one as they are.
+    pub fn beside(&self, limits: Limits) -> Gen {
+        Gen {
+            rng: Rng::new(self.rng.0),
+            limits: limits.nearest(),
         }
     }
 

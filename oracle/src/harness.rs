@@ -125,10 +125,12 @@ impl Judged {
     }
 }
 
-/// The next job with the oracle's answers.
+/// The next job with the oracle's answers, and forms that are measured.
 pub fn judged(gen: &mut Gen) -> Judged {
     let job = gen.job();
-    let rounds = gen.roomed_calls(&job);
+    let mut rounds = gen.roomed_calls(&job);
+    let cache = SchemaCache::of(Limits::STANDARD, &[]);
+    rounds.push(Round::of(&cache, gen.measuring(cache.limits)));
     Judged {
         rounds,
         ..Judged::of(job)

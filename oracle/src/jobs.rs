@@ -132,10 +132,15 @@ pub fn put_line(out: &mut Vec<u8>, index: usize, outcome: &Outcome) {
         Outcome::Yes => out.extend_from_slice(b"yes"),
         Outcome::No => out.extend_from_slice(b"no"),
         Outcome::Nothing => out.extend_from_slice(b"none"),
-        Outcome::Wrote(form) => put_hex(out, form),
-        Outcome::Attribute(required, form) => {
+        Outcome::Typed(written) => put_hex(out, &written.form),
+        Outcome::Attribute(required, written) => {
             out.extend_from_slice(if *required { b"r:" } else { b"o:" });
-            put_hex(out, form);
+            put_hex(out, &written.form);
+        }
+        Outcome::Named(form) => put_hex(out, form),
+        // No question of a job comes to this.
+        Outcome::Measured(length, levels) => {
+            out.extend_from_slice(format!("m:{length}/{levels}").as_bytes());
         }
     }
     out.push(b'\n');

@@ -61,6 +61,7 @@ pub mod full;
 pub mod generate;
 pub mod harness;
 pub mod jobs;
+pub mod levels;
 pub mod library;
 pub mod limits;
 pub mod loose;

@@ -1,11 +1,11 @@
 //! A candidate behind the C interface of include/tirncheav.h: a slice is a
-//! pointer and a length, the answer one number, whose low byte is the kind and
-//! whose rest is the refusal, how many bytes were written, or where a part
-//! starts and ends.
+//! pointer and a length, the answer one number, whose low byte is the kind,
+//! whose next 16 bits are the refusal or a length, and whose rest the levels; of
+//! a part, where it starts and ends.
 
 use crate::candidates::{Candidate, Reply};
 use crate::limits::Limits;
-use crate::questions::{operation::*, Call, Part};
+use crate::questions::{operation::*, takes_schema, Call, Part};
 
 pub type P = *const u8;
 pub type M = *mut u8;
@@ -28,6 +28,8 @@ pub struct Entries {
     pub typecheck_restricted_expr_exact: unsafe extern "C" fn(usize, usize, P, usize, P, usize, P, usize) -> u64,
     pub reduce_to_least_upper_bound: unsafe extern "C" fn(usize, usize, u8, P, usize, P, usize, M, usize, M, usize) -> u64,
     pub euid_literal: unsafe extern "C" fn(usize, usize, P, usize, P, usize, M, usize) -> u64,
+    pub measure_type: unsafe extern "C" fn(usize, usize, P, usize) -> u64,
+    pub measure_value: unsafe extern "C" fn(usize, usize, P, usize) -> u64,
 }
 
 /// The check of a schema under limits, and the entries that take its number.
@@ -66,17 +68,20 @@ fn lent(bytes: &mut [u8]) -> (M, usize) {
     (bytes.as_mut_ptr(), bytes.len())
 }
 
+/// A number has nothing where its kind tells nothing; a name list has no levels.
 fn reply(number: u64) -> Reply {
-    let value = (number >> 8) as usize;
-    match number & 255 {
-        0 => Reply::Refused(u8::try_from(value).expect("a refusal's number")),
-        1 => Reply::Yes,
-        2 => Reply::No,
-        3 => Reply::Nothing,
-        4 => Reply::Wrote(value),
-        5 => Reply::Attribute(false, value),
-        6 => Reply::Attribute(true, value),
-        other => panic!("no answer has the kind {other}"),
+    let (length, levels) = ((number >> 8 & 0xffff) as usize, (number >> 24) as usize);
+    match (number & 255, length, levels) {
+        (0, n @ 1..=255, 0) => Reply::Refused(n as u8),
+        (1, 0, 0) => Reply::Yes,
+        (2, 0, 0) => Reply::No,
+        (3, 0, 0) => Reply::Nothing,
+        (4, _, 0) => Reply::Named(length),
+        (4, ..) => Reply::Typed(length, levels),
+        (5, ..) => Reply::Attribute(false, length, levels),
+        (6, ..) => Reply::Attribute(true, length, levels),
+        (9, ..) => Reply::Measured(length, levels),
+        _ => panic!("no answer has the number {number:#x}"),
     }
 }
 
@@ -112,6 +117,8 @@ impl Candidate for Library {
                 CONFORMS => (e.typecheck_restricted_expr)(l, n, s, sn, a, an, b, bn),
                 FULL => (e.typecheck_restricted_expr_exact)(l, n, s, sn, a, an, b, bn),
                 FOLD => (e.reduce_to_least_upper_bound)(l, n, mode, s, sn, a, an, o, on, w, wn),
+                MEASURE_TYPE => (e.measure_type)(l, n, a, an),
+                MEASURE_VALUE => (e.measure_value)(l, n, a, an),
                 _ => (e.euid_literal)(l, n, s, sn, a, an, o, on),
             }
         })
@@ -138,7 +145,7 @@ impl CheckedLibrary {
 
     /// One entry, with the number of the call's schema.
     pub fn call_with(&self, c: u64, call: &Call<'_>, out: &mut [u8], work: &mut [u8]) -> Reply {
-        if matches!(call.op, DISJOINT | CONSISTENT | CONVERT) {
+        if !takes_schema(call.op) {
             return Library(self.0).call(call, out, work);
         }
         let e = &self.1;
@@ -201,6 +208,8 @@ pub mod linked {
         fn tirncheav_typecheck_restricted_expr_exact(l: usize, n: usize, s: P, sn: usize, a: P, an: usize, b: P, bn: usize) -> u64;
         fn tirncheav_reduce_to_least_upper_bound(l: usize, n: usize, m: u8, s: P, sn: usize, a: P, an: usize, o: M, on: usize, w: M, wn: usize) -> u64;
         fn tirncheav_euid_literal(l: usize, n: usize, s: P, sn: usize, a: P, an: usize, o: M, on: usize) -> u64;
+        fn tirncheav_measure_type(l: usize, n: usize, a: P, an: usize) -> u64;
+        fn tirncheav_measure_value(l: usize, n: usize, a: P, an: usize) -> u64;
         fn tirncheav_check_schema(l: usize, n: usize, s: P, sn: usize) -> u64;
         fn tirncheav_is_subtype_checked(s: P, sn: usize, c: u64, m: u8, a: P, an: usize, b: P, bn: usize) -> u64;
         fn tirncheav_least_upper_bound_checked(s: P, sn: usize, c: u64, m: u8, a: P, an: usize, b: P, bn: usize, o: M, on: usize) -> u64;
@@ -228,6 +237,8 @@ pub mod linked {
         typecheck_restricted_expr_exact: tirncheav_typecheck_restricted_expr_exact,
         reduce_to_least_upper_bound: tirncheav_reduce_to_least_upper_bound,
         euid_literal: tirncheav_euid_literal,
+        measure_type: tirncheav_measure_type,
+        measure_value: tirncheav_measure_value,
     };
 
     pub const CHECKED: Checked = Checked {

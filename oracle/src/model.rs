@@ -10,12 +10,15 @@ mod counts;
 pub mod faults;
 mod jobs;
 mod kept;
+mod levels;
 mod limits;
+mod measures;
 mod modes;
 pub mod places;
 mod read;
 mod relations;
 mod text;
+mod told;
 
 pub use conformance::Walk;
 pub use counts::Counts;

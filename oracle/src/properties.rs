@@ -1,12 +1,15 @@
 //! Claims about the published functions, about mode 2, operation 11 and text
-//! beside them, and about limits, tried on generated types and values.
+//! beside them, about limits and about levels, tried on generated types and
+//! values.
 
 mod full;
+mod levels;
 mod limits;
 mod loose;
 mod text;
 
 pub use full::try_full;
+pub use levels::try_levels;
 pub use limits::try_limits;
 pub use text::try_text;
 
@@ -114,7 +117,7 @@ fn actions_alike(types: &[&Given]) -> bool {
     types.iter().all(|t| one_list_a_name(&t.tree, &mut lists))
 }
 
-/// Try all claims once but those about limits, operation 11 and text.
+/// Try all claims once but those about limits, levels, operation 11 and text.
 pub fn try_claims(gen: &mut Gen, tallies: &mut Tallies) {
     let tree = gen.schema();
     let form = tree.form();

@@ -9,10 +9,12 @@ use crate::forms::{
     plain, read_list, read_schema, read_type, read_value, write_core, write_type, Schema,
 };
 use crate::full;
+use crate::levels;
 use crate::limits::Limits;
 use crate::loose;
 use crate::model::Rules;
 use crate::published::typecheck_restricted_expr;
+use crate::schema::ValidatorSchema;
 use crate::smol_str::SmolStr;
 use crate::trees::Sch;
 use crate::types::{AttributeType, EntityLUB, EntityRecordKind, Type};
@@ -36,6 +38,9 @@ pub mod operation {
     /// Full conformance.
     pub const FULL: u8 = 11;
     pub const COUNT: usize = 12;
+    /// Measuring, which is no operation of a job: a type, and a value.
+    pub const MEASURE_TYPE: u8 = 254;
+    pub const MEASURE_VALUE: u8 = 253;
 }
 use operation::*;
 
@@ -47,7 +52,7 @@ pub struct Call<'a> {
     pub mode: u8,
     pub attr: u16,
     pub schema: &'a [u8],
-    /// The first type, the list, or a literal's uid.
+    /// The first type, the list, a literal's uid, or what is measured.
     pub t0: &'a [u8],
     /// The second type, or conformance's value.
     pub t1: &'a [u8],
@@ -74,6 +79,14 @@ impl<'a> Call<'a> {
     }
 }
 
+/// Does the operation take a schema?
+pub fn takes_schema(op: u8) -> bool {
+    !matches!(
+        op,
+        DISJOINT | CONSISTENT | CONVERT | MEASURE_TYPE | MEASURE_VALUE
+    )
+}
+
 /// What a call gives.
 #[derive(Clone, Debug, PartialEq, Eq)]
 pub enum Outcome {
@@ -81,9 +94,67 @@ pub enum Outcome {
     Yes,
     No,
     Nothing,
-    Wrote(Vec<u8>),
-    /// A lookup's answer: required, and the type's form.
-    Attribute(bool, Vec<u8>),
+    Typed(Written),
+    /// A lookup's answer: required, and the type.
+    Attribute(bool, Written),
+    /// A name list, which tells no levels.
+    Named(Vec<u8>),
+    /// What was measured: its length and its levels.
+    Measured(usize, usize),
+}
+
+/// A type that is written, and its levels.
+#[derive(Clone, Debug, PartialEq, Eq)]
+pub struct Written {
+    pub form: Vec<u8>,
+    pub levels: usize,
+}
+
+/// A form that is written is read under these: it may yet be too long.
+const WRITTEN: Limits = Limits {
+    bytes: usize::MAX,
+    ..Limits::LARGEST
+};
+
+impl Written {
+    fn of(ty: &Type) -> Written {
+        Written {
+            form: write_type(ty),
+            levels: levels::of_type(ty),
+        }
+    }
+
+    /// Of a form that the model wrote.
+    fn of_form(form: Vec<u8>) -> Written {
+        let ty = read_type(WRITTEN, &form).expect("a whole type");
+        let levels = levels::of_type(&ty);
+        Written { form, levels }
+    }
+
+    fn of_core(ty: &SchemaType) -> Written {
+        Written {
+            form: write_core(ty),
+            levels: levels::of_core(ty),
+        }
+    }
+}
+
+impl Outcome {
+    /// The bytes that are written, if any are.
+    pub fn bytes(&self) -> Option<&[u8]> {
+        match self {
+            Outcome::Named(form) => Some(form),
+            _ => self.written().map(|written| written.form.as_slice()),
+        }
+    }
+
+    /// The type that is written, if one is.
+    pub fn written(&self) -> Option<&Written> {
+        match self {
+            Outcome::Typed(written) | Outcome::Attribute(_, written) => Some(written),
+            _ => None,
+        }
+    }
 }
 
 /// What the second entry of lookup gives: where in the caller's form the
@@ -123,7 +194,7 @@ impl<'a> SchemaCache<'a> {
         }
     }
 
-    fn whole(&self) -> Refusable<&Schema> {
+    pub fn whole(&self) -> Refusable<&Schema> {
         let read = || read_schema(self.limits, self.form);
         self.read.get_or_init(read).as_ref().ok_or(2)
     }
@@ -137,7 +208,12 @@ impl<'a> SchemaCache<'a> {
     /// The model's answer to a call that is too deep.
     fn left_out(&self, call: &Call<'_>) -> Outcome {
         self.left_out.set(self.left_out.get() + 1);
-        Rules::SOUND.answer(call)
+        let outcome = Rules::SOUND.answer(call);
+        if let Some(written) = outcome.written() {
+            let read = Written::of_form(written.form.clone());
+            assert_eq!(*written, read, "the levels that the model tells");
+        }
+        outcome
     }
 }
 
@@ -159,6 +235,8 @@ pub fn answer_with(call: &Call<'_>, schema: &SchemaCache<'_>) -> Outcome {
         FOLD => fold(call, schema),
         LITERAL => literal(call, schema),
         FULL => conforms_fully(call, schema),
+        MEASURE_TYPE => measure_type(call),
+        MEASURE_VALUE => measure_value(call),
         _ => panic!("no operation {}", call.op),
     };
     outcome.unwrap_or_else(Outcome::Refused)
@@ -212,17 +290,27 @@ pub fn reason(help: LubHelp) -> u8 {
     }
 }
 
-/// A bound's form, of any length.
-fn written(bound: Result<Type, LubHelp>) -> Refusable<Vec<u8>> {
-    bound.map(|ty| write_type(&ty)).map_err(reason)
+/// A bound, of any length.
+fn written(bound: Result<Type, LubHelp>) -> Refusable<Written> {
+    bound.map(|ty| Written::of(&ty)).map_err(reason)
 }
 
 /// The last question of every call that writes.
-fn fits(call: &Call<'_>, form: Vec<u8>) -> Refusable<Vec<u8>> {
+fn fits(call: &Call<'_>, form: &[u8]) -> Refusable<()> {
     if form.len() > call.room.min(call.limits.bytes) {
         return Err(10);
     }
-    Ok(form)
+    Ok(())
+}
+
+/// A type that fits.
+fn fitting(call: &Call<'_>, written: Written) -> Refusable<Written> {
+    fits(call, &written.form)?;
+    Ok(written)
+}
+
+fn typed(call: &Call<'_>, written: Written) -> Refusable<Outcome> {
+    Ok(Outcome::Typed(fitting(call, written)?))
 }
 
 /// The question about the size of one step.
@@ -259,11 +347,11 @@ fn bound(call: &Call<'_>, cache: &SchemaCache<'_>) -> Refusable<Outcome> {
     if judge.permits() && deep::bound(&t0, &t1) {
         return Ok(cache.left_out(call));
     }
-    let form = match judge {
+    let bound = match judge {
         Judge::Published(mode) => written(Type::least_upper_bound(&schema.types, &t0, &t1, mode))?,
-        Judge::Model => bound_loosely(schema, call.t0, call.t1)?,
+        Judge::Model => Written::of_form(bound_loosely(schema, call.t0, call.t1)?),
     };
-    Ok(Outcome::Wrote(fits(call, form)?))
+    typed(call, bound)
 }
 
 /// The model's bound in mode 2, which the published functions give too.
@@ -286,11 +374,11 @@ fn fold(call: &Call<'_>, cache: &SchemaCache<'_>) -> Refusable<Outcome> {
     if judge.permits() && deep::fold(types.iter()) {
         return Ok(cache.left_out(call));
     }
-    let form = match judge {
+    let bound = match judge {
         Judge::Published(mode) => folded(call, schema, mode, &types)?,
-        Judge::Model => folded_loosely(call, schema, &types)?,
+        Judge::Model => Written::of_form(folded_loosely(call, schema, &types)?),
     };
-    Ok(Outcome::Wrote(fits(call, form)?))
+    typed(call, bound)
 }
 
 /// The steps of the fold one by one, then the published fold over all.
@@ -299,7 +387,7 @@ fn folded(
     schema: &Schema,
     mode: ValidationMode,
     types: &[Type],
-) -> Refusable<Vec<u8>> {
+) -> Refusable<Written> {
     let schema = &schema.types;
     let mut last = Type::Never;
     for ty in types {
@@ -308,7 +396,7 @@ fn folded(
     }
     let all = Type::reduce_to_least_upper_bound(schema, types, mode).map_err(reason)?;
     assert_eq!(all, last, "the fold differs from its steps");
-    Ok(write_type(&all))
+    Ok(Written::of(&all))
 }
 
 /// The steps of the fold in mode 2, then the model's fold over all.
@@ -381,7 +469,7 @@ fn lookup(call: &Call<'_>, cache: &SchemaCache<'_>) -> Refusable<Outcome> {
             is_required,
         }) => Ok(Outcome::Attribute(
             is_required,
-            fits(call, write_type(&attr_type))?,
+            fitting(call, Written::of(&attr_type))?,
         )),
     }
 }
@@ -408,9 +496,17 @@ fn names(call: &Call<'_>, cache: &SchemaCache<'_>) -> Refusable<Outcome> {
             attribute_steps(call, schema, lub, attr)?;
         }
     }
-    let names = ty.all_attributes(&schema.types);
-    let form = names.iter().flat_map(|n| n.number().to_le_bytes());
-    Ok(Outcome::Wrote(fits(call, form.collect())?))
+    let form = name_list(&ty, &schema.types);
+    fits(call, &form)?;
+    Ok(Outcome::Named(form))
+}
+
+fn name_list(ty: &Type, schema: &ValidatorSchema) -> Vec<u8> {
+    let names = ty.all_attributes(schema);
+    names
+        .iter()
+        .flat_map(|n| n.number().to_le_bytes())
+        .collect()
 }
 
 fn consistent(call: &Call<'_>, cache: &SchemaCache<'_>) -> Refusable<Outcome> {
@@ -424,7 +520,7 @@ fn consistent(call: &Call<'_>, cache: &SchemaCache<'_>) -> Refusable<Outcome> {
 
 fn convert(call: &Call<'_>) -> Refusable<Outcome> {
     let core = SchemaType::try_from(first(call)?).map_err(|_| 8)?;
-    Ok(Outcome::Wrote(fits(call, write_core(&core))?))
+    typed(call, Written::of_core(&core))
 }
 
 fn conforms(call: &Call<'_>, cache: &SchemaCache<'_>) -> Refusable<Outcome> {
@@ -458,8 +554,18 @@ fn literal(call: &Call<'_>, cache: &SchemaCache<'_>) -> Refusable<Outcome> {
     let uid = uid(call.limits, call.t0)?;
     match Type::euid_literal(&uid, &schema.types) {
         None => Ok(Outcome::Nothing),
-        Some(ty) => Ok(Outcome::Wrote(fits(call, write_type(&ty))?)),
+        Some(ty) => typed(call, Written::of(&ty)),
     }
+}
+
+fn measure_type(call: &Call<'_>) -> Refusable<Outcome> {
+    let levels = levels::of_type(&first(call)?);
+    Ok(Outcome::Measured(call.t0.len(), levels))
+}
+
+fn measure_value(call: &Call<'_>) -> Refusable<Outcome> {
+    let value = read_value(call.limits, call.t0)?;
+    Ok(Outcome::Measured(call.t0.len(), levels::of_value(&value)))
 }
 
 /// The second entry of lookup.
@@ -506,37 +612,29 @@ pub fn unmeasured(call: &Call<'_>) -> Option<Outcome> {
     Some(match call.op {
         BOUND => {
             let (t0, t1) = (first(call).ok()?, second(call).ok()?);
-            unmeasured_form(match judge(call).ok()? {
+            unmeasured_bound(match judge(call).ok()? {
                 Judge::Published(mode) => written(Type::least_upper_bound(schema, &t0, &t1, mode)),
-                Judge::Model => loose::bound(call.t0, call.t1),
+                Judge::Model => loose::bound(call.t0, call.t1).map(Written::of_form),
             })
         }
         FOLD => {
             let types = read_list(call.limits, call.t0)?;
-            unmeasured_form(match judge(call).ok()? {
+            unmeasured_bound(match judge(call).ok()? {
                 Judge::Published(mode) => {
                     written(Type::reduce_to_least_upper_bound(schema, &types, mode))
                 }
-                Judge::Model => loose::fold(call.t0),
+                Judge::Model => loose::fold(call.t0).map(Written::of_form),
             })
         }
         LOOKUP => match Type::lookup_attribute_type(schema, &first(call).ok()?, &attr) {
             None => Outcome::Nothing,
-            Some(found) => Outcome::Attribute(found.is_required, write_type(&found.attr_type)),
+            Some(found) => Outcome::Attribute(found.is_required, Written::of(&found.attr_type)),
         },
-        NAMES => {
-            let names = first(call).ok()?.all_attributes(schema);
-            Outcome::Wrote(
-                names
-                    .iter()
-                    .flat_map(|n| n.number().to_le_bytes())
-                    .collect(),
-            )
-        }
+        NAMES => Outcome::Named(name_list(&first(call).ok()?, schema)),
         _ => return None,
     })
 }
 
-fn unmeasured_form(form: Refusable<Vec<u8>>) -> Outcome {
-    form.map_or_else(Outcome::Refused, Outcome::Wrote)
+fn unmeasured_bound(bound: Refusable<Written>) -> Outcome {
+    bound.map_or_else(Outcome::Refused, Outcome::Typed)
 }

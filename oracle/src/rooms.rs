@@ -1,6 +1,8 @@
 //! Calls as the program `rooms` reads them, and the lines that it prints:
-//! refusal or 0, answer, every byte of the result buffer and the workspace; for
-//! the second entry of lookup, where the part starts and ends, and its bytes.
+//! refusal or 0, answer, every byte of the result buffer and the workspace. A
+//! type that is written or a form that is measured is told by its length and its
+//! levels. For the second entry of lookup, where the part starts and ends, and
+//! its bytes.
 
 use crate::candidates::{leave, Candidate, Reply};
 use crate::forms::Bytes;
@@ -20,12 +22,13 @@ const OWN: u8 = 255;
 /// More would make long lines.
 const LARGEST: usize = 600;
 
-/// How many calls there are, in mode 2, of operation 11, of these not as
-/// operation 8, refused with 17, under other limits than the standard ones, and
-/// refused with 20.
+/// How many calls there are, that measure, in mode 2, of operation 11, of these
+/// not as operation 8, refused with 17, under other limits than the standard
+/// ones, and refused with 20.
 #[derive(Clone, Copy, Default)]
 pub struct Tally {
     calls: usize,
+    measures: usize,
     loose: usize,
     full: usize,
     not_full: usize,
@@ -38,9 +41,10 @@ impl fmt::Display for Tally {
     fn fmt(&self, f: &mut fmt::Formatter<'_>) -> fmt::Result {
         write!(
             f,
-            "{} calls, {} of them in mode 2, {} of operation 11, {} of these not as operation 8, \
+            "{} calls, {} of them measure, {} in mode 2, {} of operation 11, {} of these not as operation 8, \
              {} refused with 17, {} under other limits than the standard ones, {} refused with 20",
             self.calls,
+            self.measures,
             self.loose,
             self.full,
             self.not_full,
@@ -75,9 +79,11 @@ fn line(reply: Reply, out: &[u8], work: &[u8]) -> String {
         Reply::Yes => "0 yes".into(),
         Reply::No => "0 no".into(),
         Reply::Nothing => "0 none".into(),
-        Reply::Wrote(n) => format!("0 {n}"),
-        Reply::Attribute(true, n) => format!("0 r:{n}"),
-        Reply::Attribute(false, n) => format!("0 o:{n}"),
+        Reply::Typed(n, levels) => format!("0 {n}/{levels}"),
+        Reply::Attribute(true, n, levels) => format!("0 r:{n}/{levels}"),
+        Reply::Attribute(false, n, levels) => format!("0 o:{n}/{levels}"),
+        Reply::Named(n) => format!("0 {n}"),
+        Reply::Measured(n, levels) => format!("0 m:{n}/{levels}"),
     };
     said + &bracketed(out) + &bracketed(work)
 }
@@ -156,6 +162,7 @@ impl Lent {
             .chain(lengths);
         let tally = &mut self.tally;
         tally.calls += 1;
+        tally.measures += matches!(op, MEASURE_TYPE | MEASURE_VALUE) as usize;
         tally.loose += (call.mode == LOOSE) as usize;
         tally.others += (call.limits != Limits::STANDARD) as usize;
         tally.unallowed += !call.limits.allowed() as usize;

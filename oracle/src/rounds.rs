@@ -81,8 +81,29 @@ impl Round {
         let Drawn { limits, asked } = gen.drawn();
         let cache = SchemaCache::of(limits, &asked.schema);
         let asks = asked.asks.into_iter();
-        let calls = asks.map(|ask| gen.roomed_or_wide(ask, &cache)).collect();
+        let calls = asks.map(|ask| gen.roomed_or_wide(ask, &cache));
+        let mut calls: Vec<Roomed> = calls.collect();
+        calls.extend(gen.measuring(limits));
         Round::of(&cache, calls)
+    }
+
+    /// Every form measured as a type and as a value.
+    pub fn of_forms<'f>(limits: Limits, forms: impl Iterator<Item = &'f Vec<u8>>) -> Round {
+        let measured = |form: &'f Vec<u8>| {
+            [MEASURE_TYPE, MEASURE_VALUE].map(|op| Roomed {
+                ask: Ask {
+                    op,
+                    mode: 0,
+                    attr: 0,
+                    t0: form.clone(),
+                    t1: Vec::new(),
+                },
+                room: 2,
+                work: 2,
+            })
+        };
+        let cache = SchemaCache::of(limits, &[]);
+        Round::of(&cache, forms.flat_map(measured).collect())
     }
 
     /// The questions of a job under limits, with a program's rooms.
@@ -112,13 +133,6 @@ impl Round {
     }
 }
 
-fn length(outcome: &Outcome) -> usize {
-    match outcome {
-        Outcome::Wrote(form) | Outcome::Attribute(_, form) => form.len(),
-        _ => 0,
-    }
-}
-
 /// The length of a fold's first step, its first type.
 fn first_step(call: &Call<'_>) -> Option<usize> {
     let types = read_list(call.limits, call.t0).filter(|_| call.op == FOLD)?;
@@ -135,7 +149,7 @@ impl Gen {
             work: 131_072,
         };
         let call = roomed.call(cache.limits, cache.form);
-        let n = length(&answer_with(&call, cache));
+        let n = answer_with(&call, cache).bytes().map_or(0, <[u8]>::len);
         let most = cache.limits.nearest().bytes;
         let any = self.rng.below(40);
         let short = n.saturating_sub(1);
@@ -176,5 +190,17 @@ impl Gen {
             room,
             work: 2 * room,
         }
+    }
+
+    /// Forms to be measured, drawn beside this generator's questions.
+    pub fn measuring(&self, limits: Limits) -> Vec<Roomed> {
+        let mut beside = self.beside(limits);
+        let asks = beside.measures().into_iter();
+        asks.map(|ask| Roomed {
+            ask,
+            room: beside.rng.below(9),
+            work: beside.rng.below(9),
+        })
+        .collect()
     }
 }

@@ -4,7 +4,7 @@
 use crate::coverage::Coverage;
 use crate::generate::Gen;
 use crate::jobs::{lines, read_job};
-use crate::model::faults::{under_limits, FAULTS};
+use crate::model::faults::{beside_jobs, FAULTS};
 use crate::model::{self, Rules};
 use crate::noted::{self, NOTED};
 
@@ -87,7 +87,7 @@ pub fn sample(seed: u64, pool: usize, questions: usize) -> (Vec<Recorded>, Vec<u
     };
     (0..NOTED.len()).for_each(|at| picked.take(at));
     let mut uncaught = Vec::new();
-    for (fault, _) in FAULTS.iter().filter(|(fault, _)| !under_limits(*fault)) {
+    for (fault, _) in FAULTS.iter().filter(|(fault, _)| !beside_jobs(*fault)) {
         match picked.catcher(*fault) {
             _ if picked.catches(*fault) => (),
             Some(at) => picked.take(at),

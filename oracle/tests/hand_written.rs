@@ -4,7 +4,7 @@
 
 use oracle::candidates::{Candidate, KeptModel, Model, Oracle};
 use oracle::jobs::{batch, lines};
-use oracle::model::faults::{under_limits, FAULTS};
+use oracle::model::faults::{beside_jobs, FAULTS};
 use oracle::model::{self, Rules};
 use oracle::rooms;
 
@@ -86,7 +86,7 @@ fn each_fault_is_seen() {
     for part in parts() {
         let catches = |fault| {
             let given = given(&part, &|job| model::lines(Rules { fault }, job));
-            !under_limits(fault) && given != part.lines
+            !beside_jobs(fault) && given != part.lines
         };
         let faults = caught(&catches);
         seen.push((part.name, faults));

@@ -17,17 +17,22 @@ unsafe fn part<'a>(p: P, n: usize) -> &'a [u8] {
 /// Answer a call, write into the buffers, and number the answer.
 unsafe fn number(call: Call<'_>, out: M, work: M) -> u64 {
     from_raw_parts_mut(work, call.work).fill(0);
-    let write = |kind: u64, form: &[u8]| {
+    let told = |kind: u64, length: usize, levels: usize| {
+        kind | (length as u64) << 8 | (levels as u64) << 24
+    };
+    let write = |kind: u64, form: &[u8], levels: usize| {
         from_raw_parts_mut(out, form.len()).copy_from_slice(form);
-        kind | (form.len() as u64) << 8
+        told(kind, form.len(), levels)
     };
     match answer(&call) {
         Outcome::Refused(n) => (n as u64) << 8,
         Outcome::Yes => 1,
         Outcome::No => 2,
         Outcome::Nothing => 3,
-        Outcome::Wrote(form) => write(4, &form),
-        Outcome::Attribute(required, form) => write(5 + required as u64, &form),
+        Outcome::Typed(w) => write(4, &w.form, w.levels),
+        Outcome::Attribute(required, w) => write(5 + required as u64, &w.form, w.levels),
+        Outcome::Named(form) => write(4, &form, 0),
+        Outcome::Measured(length, levels) => told(9, length, levels),
     }
 }
 
@@ -199,6 +204,16 @@ unsafe extern "C" fn euid_literal(
     number(Call { room: on, ..call }, o, none())
 }
 
+unsafe extern "C" fn measure_type(l: usize, y: usize, a: P, an: usize) -> u64 {
+    let call = plain(l, y, MEASURE_TYPE, 0, 0, &[], part(a, an), &[]);
+    number(call, none(), none())
+}
+
+unsafe extern "C" fn measure_value(l: usize, y: usize, a: P, an: usize) -> u64 {
+    let call = plain(l, y, MEASURE_VALUE, 0, 0, &[], part(a, an), &[]);
+    number(call, none(), none())
+}
+
 const ORACLE: Entries = Entries {
     is_subtype,
     least_upper_bound,
@@ -213,6 +228,8 @@ const ORACLE: Entries = Entries {
     typecheck_restricted_expr_exact: full,
     reduce_to_least_upper_bound: fold,
     euid_literal,
+    measure_type,
+    measure_value,
 };
 
 /// The number of a schema here: its length and its limits, for the entries to
@@ -359,7 +376,7 @@ unsafe extern "C" fn bound_leaves_elements(
     l: usize, y: usize, m: u8, s: P, sn: usize, a: P, an: usize, b: P, bn: usize, o: M, on: usize,
 ) -> u64 {
     let n = least_upper_bound(l, y, m, s, sn, a, an, b, bn, o, on);
-    if m == 2 && n == 4 | 1 << 8 && on > 1 && *o == 6 {
+    if m == 2 && n == 4 | 1 << 8 | 1 << 24 && on > 1 && *o == 6 {
         *o.add(1) = 4;
     }
     n
@@ -369,7 +386,7 @@ unsafe extern "C" fn bound_leaves_elements(
 #[rustfmt::skip]
 unsafe extern "C" fn convert_writes_past(l: usize, y: usize, a: P, an: usize, o: M, on: usize) -> u64 {
     let n = convert(l, y, a, an, o, on);
-    let length = (n >> 8) as usize;
+    let length = (n >> 8 & 0xffff) as usize;
     if n & 255 == 4 && length < on {
         *o.add(length) = 0;
     }
@@ -455,6 +472,66 @@ fn unexamined(number: u64) -> u64 {
 
 const NOT_TEXT: u64 = 17 << 8;
 
+/// The levels of a number that tells some, changed.
+fn with_levels(number: u64, levels: impl Fn(u64) -> u64) -> u64 {
+    match number & 255 {
+        4 | 5 | 6 | 9 => number & 0xff_ffff | levels(number >> 24) << 24,
+        _ => number,
+    }
+}
+
+/// The levels of the first type, whatever the bound has.
+#[rustfmt::skip]
+unsafe extern "C" fn bound_tells_the_first(
+    l: usize, y: usize, m: u8, s: P, sn: usize, a: P, an: usize, b: P, bn: usize, o: M, on: usize,
+) -> u64 {
+    let first = measure_type(l, y, a, an) >> 24;
+    with_levels(least_upper_bound(l, y, m, s, sn, a, an, b, bn, o, on), |_| first)
+}
+
+/// No levels.
+unsafe extern "C" fn convert_tells_none(
+    l: usize,
+    y: usize,
+    a: P,
+    an: usize,
+    o: M,
+    on: usize,
+) -> u64 {
+    with_levels(convert(l, y, a, an, o, on), |_| 0)
+}
+
+/// Levels of a name list.
+#[rustfmt::skip]
+unsafe extern "C" fn names_tell_levels(
+    l: usize, y: usize, s: P, sn: usize, a: P, an: usize, o: M, on: usize, w: M, wn: usize,
+) -> u64 {
+    with_levels(all_attributes(l, y, s, sn, a, an, o, on, w, wn), |_| 1)
+}
+
+/// A level too many of a type that is more than one.
+unsafe extern "C" fn measure_one_more(l: usize, y: usize, a: P, an: usize) -> u64 {
+    with_levels(measure_type(l, y, a, an), |levels| {
+        levels + (levels > 1) as u64
+    })
+}
+
+/// A value measured where a string is not UTF-8.
+unsafe extern "C" fn measure_unexamined(l: usize, y: usize, a: P, an: usize) -> u64 {
+    match measure_value(l, y, a, an) {
+        NOT_TEXT => 9 | (an as u64) << 8 | 1 << 24,
+        other => other,
+    }
+}
+
+/// One level of what is found with a schema checked before.
+#[rustfmt::skip]
+unsafe extern "C" fn lookup_tells_one_checked(
+    s: P, sn: usize, c: u64, n: u16, a: P, an: usize, o: M, on: usize, w: M, wn: usize,
+) -> u64 {
+    with_levels(lookup_attribute_type_checked(s, sn, c, n, a, an, o, on, w, wn), |_| 1)
+}
+
 /// A check that keeps the standard limits.
 unsafe extern "C" fn check_at_the_standard(_: usize, _: usize, s: P, sn: usize) -> u64 {
     check_schema(16, 4096, s, sn)
@@ -479,6 +556,10 @@ fn broken_checks_are_seen() {
             typecheck_restricted_expr_exact: full_unexamined_checked,
             ..CHECKED
         },
+        Checked {
+            lookup_attribute_type: lookup_tells_one_checked,
+            ..CHECKED
+        },
     ];
     for checked in broken {
         assert!(differences(&mut CheckedLibrary(ORACLE, checked)) > 0);
@@ -486,7 +567,7 @@ fn broken_checks_are_seen() {
 }
 
 /// Each with one entry that breaks a promise.
-const BROKEN: [Entries; 11] = [
+const BROKEN: [Entries; 18] = [
     Entries {
         least_upper_bound: bound_writes_when_refused,
         ..ORACLE
@@ -529,6 +610,34 @@ const BROKEN: [Entries; 11] = [
     },
     Entries {
         typecheck_restricted_expr_exact: full_unexamined,
+        ..ORACLE
+    },
+    Entries {
+        least_upper_bound: bound_tells_the_first,
+        ..ORACLE
+    },
+    Entries {
+        convert: convert_tells_none,
+        ..ORACLE
+    },
+    Entries {
+        all_attributes: names_tell_levels,
+        ..ORACLE
+    },
+    Entries {
+        measure_type: measure_one_more,
+        ..ORACLE
+    },
+    Entries {
+        measure_type: measure_value,
+        ..ORACLE
+    },
+    Entries {
+        measure_value: measure_type,
+        ..ORACLE
+    },
+    Entries {
+        measure_value: measure_unexamined,
         ..ORACLE
     },
 ];

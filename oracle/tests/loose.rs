@@ -8,7 +8,7 @@ use oracle::jobs::lines;
 use oracle::limits::Limits;
 use oracle::loose;
 use oracle::properties::{try_claims, Tallies};
-use oracle::questions::{answer, operation::*, Call, Outcome};
+use oracle::questions::{answer, operation::*, Call, Outcome, Written};
 use oracle::trees::{job_form, Ask};
 
 const EMPTY: &[u8] = &[0; 6];
@@ -36,22 +36,23 @@ fn bound(a: &str, b: &str) -> Outcome {
     answer(&call(BOUND, EMPTY, &hex(a), &hex(b)))
 }
 
-fn wrote(form: &str) -> Outcome {
-    Outcome::Wrote(hex(form))
+fn typed(form: &str, levels: usize) -> Outcome {
+    let form = hex(form);
+    Outcome::Typed(Written { form, levels })
 }
 
 #[test]
 fn unlike_sets_are_untyped() {
-    assert_eq!(bound("07 04", "07 05"), wrote("06"));
-    assert_eq!(bound("07 07 04", "07 07 05"), wrote("07 06"));
-    assert_eq!(bound("07 07 04", "07 04"), wrote("06"));
-    assert_eq!(bound("07 01", "07 02"), wrote("07 03"));
+    assert_eq!(bound("07 04", "07 05"), typed("06", 1));
+    assert_eq!(bound("07 07 04", "07 07 05"), typed("07 06", 2));
+    assert_eq!(bound("07 07 04", "07 04"), typed("06", 1));
+    assert_eq!(bound("07 01", "07 02"), typed("07 03", 2));
     assert_eq!(bound("07 04", "04"), Outcome::Refused(15));
     let (a, b) = (
         "08 00 01 00 01 00 01 02 00 07 04",
         "08 00 01 00 01 00 01 02 00 07 05",
     );
-    assert_eq!(bound(a, b), wrote("08 00 01 00 01 00 01 01 00 06"));
+    assert_eq!(bound(a, b), typed("08 00 01 00 01 00 01 01 00 06", 2));
 }
 
 #[test]
@@ -60,9 +61,9 @@ fn actions_of_one_name_join_strictly() {
     let string = "0b 03 00 01 00 01 00 01 02 00 07 05";
     assert_eq!(bound(long, string), Outcome::Refused(15));
     let set = |t: &str| format!("07 {t}");
-    assert_eq!(bound(&set(long), &set(string)), wrote("06"));
+    assert_eq!(bound(&set(long), &set(string)), typed("06", 1));
     let held = |t: &str| format!("08 00 01 00 01 00 01 0c 00 {t}");
-    assert_eq!(bound(&held(long), &held(string)), wrote("08 01 00 00"));
+    assert_eq!(bound(&held(long), &held(string)), typed("08 01 00 00", 1));
     let entity = |n: u8| format!("0b 03 00 01 00 01 00 01 05 00 0a 01 00 {n:02x} 00");
     assert_eq!(bound(&entity(2), &entity(4)), Outcome::Refused(13));
 }
@@ -75,7 +76,7 @@ fn a_fold_in_every_order() {
             false => "02 00 02 00 01 00",
         };
         let list = hex(&format!("03 00 {lengths} {list}"));
-        assert_eq!(answer(&call(FOLD, EMPTY, &list, &[])), wrote("06"));
+        assert_eq!(answer(&call(FOLD, EMPTY, &list, &[])), typed("06", 1));
     }
 }
 
@@ -93,7 +94,8 @@ fn lookup_stays_permissive() {
         ..call(LOOKUP, &schema, &union, &[])
     };
     assert_eq!(answer(&lookup), Outcome::Nothing);
-    assert_eq!(answer(&call(NAMES, &schema, &union, &[])), wrote(""));
+    let names = answer(&call(NAMES, &schema, &union, &[]));
+    assert_eq!(names, Outcome::Named(Vec::new()));
 }
 
 /// Sets of so many names from a place.

@@ -2,7 +2,7 @@
 
 use oracle::jobs::lines;
 use oracle::limits::Limits;
-use oracle::questions::{answer, operation::*, Call, Outcome};
+use oracle::questions::{answer, operation::*, Call, Outcome, Written};
 
 const EMPTY: &[u8] = &[0, 0, 0, 0, 0, 0];
 const R_LONG: &str = "08 00 01 00 01 00 01 01 00 04";
@@ -43,13 +43,14 @@ fn two(op: u8, mode: u8, t0: &str, t1: &str) -> Outcome {
     ask(op, mode, 0, EMPTY, t0, t1)
 }
 
-fn wrote(form: &str) -> Outcome {
-    Outcome::Wrote(hex(form))
+fn typed(form: &str, levels: usize) -> Outcome {
+    let form = hex(form);
+    Outcome::Typed(Written { form, levels })
 }
 
 #[test]
 fn records_without_a_shared_type() {
-    assert_eq!(two(BOUND, 1, R_LONG, R_STRING), wrote("08 01 00 00"));
+    assert_eq!(two(BOUND, 1, R_LONG, R_STRING), typed("08 01 00 00", 1));
     assert_eq!(two(BOUND, 0, R_LONG, R_STRING), Outcome::Refused(15));
 }
 
@@ -64,14 +65,14 @@ fn sets_of_unlike_elements() {
 
 #[test]
 fn fold_of_nothing_and_true_with_false() {
-    assert_eq!(two(FOLD, 0, "00 00", ""), wrote("00"));
-    assert_eq!(two(BOUND, 0, "01", "02"), wrote("03"));
+    assert_eq!(two(FOLD, 0, "00 00", ""), typed("00", 1));
+    assert_eq!(two(BOUND, 0, "01", "02"), typed("03", 1));
 }
 
 #[test]
 fn entities() {
     let (a, b) = ("0a 01 00 02 00", "0a 01 00 04 00");
-    assert_eq!(two(BOUND, 1, a, b), wrote("0a 02 00 02 00 04 00"));
+    assert_eq!(two(BOUND, 1, a, b), typed("0a 02 00 02 00 04 00", 1));
     assert_eq!(two(BOUND, 0, a, b), Outcome::Refused(13));
     assert_eq!(two(DISJOINT, 0, a, b), Outcome::Yes);
 }
@@ -90,7 +91,7 @@ fn width() {
 fn required_with_optional() {
     let optional = "08 00 01 00 01 00 00 01 00 04";
     assert_eq!(two(BOUND, 0, R_LONG, optional), Outcome::Refused(11));
-    assert_eq!(two(BOUND, 1, R_LONG, optional), wrote(optional));
+    assert_eq!(two(BOUND, 1, R_LONG, optional), typed(optional, 2));
 }
 
 #[test]
@@ -131,7 +132,7 @@ fn levels() {
 fn room_of_the_exact_size() {
     let form = hex(R_LONG);
     let ask = |room| ask_in(BOUND, 0, 0, EMPTY, &form, &form, room);
-    assert_eq!(ask(10), Outcome::Wrote(form.clone()));
+    assert_eq!(ask(10), typed(R_LONG, 2));
     assert_eq!(ask(9), Outcome::Refused(10));
 }
 

@@ -1,13 +1,14 @@
 //! `ask OPERATION MODE ATTRIBUTE SCHEMA FIRST [SECOND [ROOM WORKSPACE [LEVELS
 //! BYTES]]]`, bodies in hexadecimal or `-` for none, prints the job of that one
-//! question, its line, the line with that room and workspace and under those
-//! limits, what the published function gives where no size is asked, and what
-//! operation 8 gives where 11 is asked.
+//! question and its line, if it is one of a job, the line with that room and
+//! workspace and under those limits, with the levels of a type, what the
+//! published function gives where no size is asked, and what operation 8 gives
+//! where 11 is asked. 254 measures a type, 253 a value.
 
 use oracle::full::as_conforms;
 use oracle::jobs::{lines, put_line, RESULT, WORKSPACE};
 use oracle::limits::Limits;
-use oracle::questions::{answer, operation::FULL, unmeasured, Outcome};
+use oracle::questions::{answer, operation::*, unmeasured, Outcome, Written};
 use oracle::rounds::Roomed;
 use oracle::trees::{job_form, Ask};
 
@@ -24,6 +25,15 @@ fn print_line(what: &str, outcome: &Outcome) {
     let mut line = Vec::new();
     put_line(&mut line, 0, outcome);
     print!("{what}: {}", String::from_utf8_lossy(&line));
+    if let Some(Written { form, levels }) = outcome.written() {
+        println!("{what}: {} bytes, {levels} levels", form.len());
+    }
+}
+
+fn print_job(job: &[u8]) {
+    let hex: String = job.iter().map(|b| format!("{b:02x}")).collect();
+    println!("job {} bytes: {hex}", job.len());
+    print!("{}", String::from_utf8_lossy(&lines(job)));
 }
 
 fn main() {
@@ -38,10 +48,9 @@ fn main() {
         t0: bytes(word(4)),
         t1: bytes(word(5)),
     };
-    let job = job_form(&schema, std::slice::from_ref(&ask));
-    let hex: String = job.iter().map(|b| format!("{b:02x}")).collect();
-    println!("job {} bytes: {hex}", job.len());
-    print!("{}", String::from_utf8_lossy(&lines(&job)));
+    if (ask.op as usize) < COUNT {
+        print_job(&job_form(&schema, std::slice::from_ref(&ask)));
+    }
     let or = |at: usize, otherwise| word(at).parse().unwrap_or(otherwise);
     let limits = Limits {
         levels: or(8, Limits::STANDARD.levels),
@@ -53,11 +62,9 @@ fn main() {
         work: or(7, WORKSPACE),
     };
     let call = roomed.call(limits, &schema);
-    if args.len() > 6 {
-        let (room, work, Limits { levels, bytes }) = (call.room, call.work, limits);
-        let what = format!("room {room}, workspace {work}, {levels} levels, {bytes} bytes");
-        print_line(&what, &answer(&call));
-    }
+    let (room, work, Limits { levels, bytes }) = (call.room, call.work, limits);
+    let what = format!("room {room}, workspace {work}, limits {levels} and {bytes}");
+    print_line(&what, &answer(&call));
     if let Some(outcome) = unmeasured(&call) {
         print_line("without sizes", &outcome);
     }

@@ -7,8 +7,9 @@
 //! `compare --rooms PATH --seed N --jobs K` does so with the program `rooms`.
 //! With `--standard` the three are asked what K jobs ask, under the standard
 //! limits, and calls with rooms; the first two take `--exhaustive` for seed and
-//! jobs: every small question, under the standard limits and few levels; or
-//! `--strings`: every short string, by operations 8 and 11.
+//! jobs: every small question, under the standard limits and few levels, and
+//! its bodies measured; or `--strings`: every short string, by operations 8 and
+//! 11 and measured.
 //! `compare --program PATH --seed N --jobs K` compares a program that reads
 //! one job on standard input.
 //! `compare --batch PATH --seed N --jobs K` compares a program that reads a
@@ -165,47 +166,49 @@ fn compare_rounds(
     (limited.missing(), differences)
 }
 
-/// Every small question, under the standard limits and under few levels.
+/// The jobs under limits, and their bodies measured.
+fn rounds_of(limits: Limits, jobs: Vec<Vec<u8>>) -> impl Iterator<Item = Round> {
+    let measured = Round::of_forms(limits, exhaustive::measured(&jobs).iter());
+    let asked = move |job: Vec<u8>| Some(Round::of_job(limits, &read_job(&job)?));
+    jobs.into_iter().filter_map(asked).chain([measured])
+}
+
+/// Every small question, under the standard limits and under few levels, and
+/// its bodies measured.
 fn compare_exhaustively(candidates: &mut Candidates<'_>) -> ExitCode {
-    let jobs = exhaustive::jobs().into_iter().map(Judged::of);
-    let (_, standard) = compare_jobs(candidates, jobs);
-    let under = |limits| {
-        let jobs = exhaustive::jobs_under(limits).into_iter();
-        jobs.filter_map(move |job| Some(Round::of_job(limits, &read_job(&job)?)))
-    };
-    let few = exhaustive::FEW.into_iter().flat_map(under);
-    let (_, few) = compare_rounds(candidates, few);
+    let jobs = exhaustive::jobs();
+    let measured = Round::of_forms(Limits::STANDARD, exhaustive::measured(&jobs).iter());
+    let (_, standard) = compare_jobs(candidates, jobs.into_iter().map(Judged::of));
+    let few = exhaustive::FEW.into_iter();
+    let few = few.flat_map(|limits| rounds_of(limits, exhaustive::jobs_under(limits)));
+    let (_, few) = compare_rounds(candidates, few.chain([measured]));
     code(standard + few)
 }
 
-/// Every short string where a String is asked for: yes, or 17.
+/// Every short string where a String is asked for, and measured: yes and its
+/// length, or 17.
 fn compare_strings(candidates: &mut Candidates<'_>) -> ExitCode {
     let cache = SchemaCache::of(Limits::STANDARD, &[0; 6]);
     let [mut asked, mut text, mut differences] = [0; 3];
     exhaustive::each_string(|string| {
         let value = Val::Str(string.to_vec()).form();
-        for op in [CONFORMS, FULL] {
-            let call = Call {
-                limits: cache.limits,
-                op,
-                mode: 0,
-                attr: 0,
-                schema: cache.form,
-                t0: &[5],
-                t1: &value,
-                room: 0,
-                work: 0,
-            };
+        let bodies: [(u8, &[u8], &[u8]); 3] = [
+            (CONFORMS, &[5], &value),
+            (FULL, &[5], &value),
+            (MEASURE_VALUE, &value, &[]),
+        ];
+        for (op, t0, t1) in bodies {
+            let call = Call::plain(op, cache.form, t0, t1);
             let outcome = answer_with(&call, &cache);
             asked += 1;
-            text += (outcome == Outcome::Yes) as u64;
+            text += (outcome != Outcome::Refused(17)) as u64;
             for candidate in candidates.iter_mut() {
                 let what = check_call(*candidate, &call, &outcome);
                 tell(&mut differences, what, &value);
             }
         }
     });
-    println!("{asked} questions, {text} of them yes, the others 17");
+    println!("{asked} questions, {text} of them yes or measured, the others 17");
     println!("{differences} with a difference");
     code(differences)
 }

@@ -6,7 +6,7 @@ use oracle::arguments::Arguments;
 use oracle::candidates::{Candidate, KeptModel, Model};
 use oracle::generate::Gen;
 use oracle::harness::{difference, judged, Judged};
-use oracle::model::faults::{under_limits, FAULTS};
+use oracle::model::faults::{beside_jobs, FAULTS};
 use oracle::model::Rules;
 use oracle::rounds::Round;
 use std::process::ExitCode;
@@ -42,7 +42,7 @@ fn main() -> ExitCode {
     }
     let mut survivors = 0;
     for (fault, text) in FAULTS {
-        let caught = match under_limits(*fault) {
+        let caught = match beside_jobs(*fault) {
             true => caught_under(&rounds, *fault),
             false => caught_in(&jobs, *fault),
         };

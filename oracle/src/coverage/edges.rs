@@ -15,11 +15,17 @@ const WIDE: Limits = Limits {
 
 const SIZES: [&str; 4] = ["bytes", "bytes + 1", "levels", "levels + 1"];
 
+/// What is measured has rows of its own.
+const MEASURED_TYPE: &str = "measured type";
+const MEASURED_VALUE: &str = "measured value";
+
 /// The kinds of forms, and how many of the sizes each can have: an answer and a
 /// step have no more levels than what they are made from.
-const KINDS: [(&str, usize); 7] = [
+const KINDS: [(&str, usize); 9] = [
     ("type", 4),
     ("value", 4),
+    (MEASURED_TYPE, 4),
+    (MEASURED_VALUE, 4),
     ("member", 4),
     ("body", 4),
     ("step", 2),
@@ -97,6 +103,8 @@ impl Edges {
                 .flatten()
                 .for_each(|m| self.measure("member", limits, type_measured(m))),
             LITERAL => self.measure("value", limits, value_measured(call.t0)),
+            MEASURE_TYPE => self.measure(MEASURED_TYPE, limits, type_measured(call.t0)),
+            MEASURE_VALUE => self.measure(MEASURED_VALUE, limits, value_measured(call.t0)),
             _ => self.measure("type", limits, type_measured(call.t0)),
         }
         match call.op {
@@ -121,20 +129,15 @@ impl Edges {
             bytes: call.limits.bytes + 1,
             ..call.limits
         };
-        match outcome {
-            Outcome::Wrote(form) | Outcome::Attribute(_, form) => {
-                if form.len() == call.limits.bytes {
-                    self.add((kind, 0), 0);
-                }
+        if outcome.bytes().map(<[u8]>::len) == Some(call.limits.bytes) {
+            self.add((kind, 0), 0);
+        }
+        if matches!(outcome, Outcome::Refused(9 | 10)) && wider.allowed() {
+            let limits = wider;
+            let refused = matches!(answer(&Call { limits, ..*call }), Outcome::Refused(_));
+            if !refused {
+                self.add((kind, 0), 1);
             }
-            Outcome::Refused(9 | 10) if wider.allowed() => {
-                let limits = wider;
-                let refused = matches!(answer(&Call { limits, ..*call }), Outcome::Refused(_));
-                if !refused {
-                    self.add((kind, 0), 1);
-                }
-            }
-            _ => (),
         }
     }
 

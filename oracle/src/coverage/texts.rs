@@ -1,11 +1,13 @@
-//! Strings: which characters stand in those of a yes; what is damaged in those
-//! of a 17, where these stand, and what the outcome would be without them.
+//! Strings: which characters stand in those of a yes, or of a value that is
+//! measured; what is damaged in those of a 17, where these stand, and what the
+//! outcome would be without them.
 
 use crate::generate::EDGES;
+use crate::limits::Limits;
 use crate::model::places::{self, Found, Place};
 use crate::model::{Counts, Rules};
 use crate::questions::{operation::*, Call, Outcome, SchemaCache};
-use crate::trees::Val;
+use crate::trees::{Sch, Ty, Val};
 use std::collections::BTreeMap;
 
 /// The faults by which strings are not examined, and by which they are as soon
@@ -13,10 +15,14 @@ use std::collections::BTreeMap;
 const UNEXAMINED: u32 = 20;
 const AS_READ: u32 = 410;
 
-const COLUMNS: [&str; 2] = ["conforms", "full"];
+const COLUMNS: [&str; WIDTH] = ["conforms", "full", "measured"];
+const WIDTH: usize = 3;
 
-/// Characters of strings in a value that gets a yes, as in `EDGES`, and a
-/// character that is not ASCII behind a block.
+/// The column of measuring, which no job does.
+const MEASURES: usize = WIDTH - 1;
+
+/// Characters of strings in a value that gets a yes or is measured, as in
+/// `EDGES`, and a character that is not ASCII behind a block.
 const IN_YES: [&str; EDGES.len()] = [
     "yes, U+0000",
     "yes, U+007F",
@@ -77,6 +83,9 @@ const PLACES: [(&str, Test); 12] = [
 ];
 const LAST_LEVEL: &str = "17, last level";
 
+/// How many of the places a value has that no type is asked of.
+const UNTYPED: usize = 4;
+
 /// What the outcome would be, and what refuses such a value before.
 const ELSE_YES: &str = "17, else yes";
 const ELSE_NO: &str = "17, else no";
@@ -94,9 +103,17 @@ fn rows() -> Vec<&'static str> {
     rows
 }
 
-/// How often each row was met, by operation 8 and by 11.
+/// Can measuring meet a row? It asks for no schema and no type.
+fn measurable(row: &str) -> bool {
+    let typed = PLACES[UNTYPED..].iter().map(|(row, _)| *row);
+    let before = BEFORE[..2].iter().map(|(_, row)| *row);
+    let mut others = typed.chain(before).chain([ELSE_YES, ELSE_NO, ELSE_7]);
+    others.all(|other| other != row)
+}
+
+/// How often each row was met, by operation 8, by 11, and by measuring.
 #[derive(Clone, Default)]
-pub struct Texts(BTreeMap<&'static str, [u64; 2]>);
+pub struct Texts(BTreeMap<&'static str, [u64; WIDTH]>);
 
 /// The damage at the first place where a string is not UTF-8.
 fn damage(string: &[u8]) -> Option<&'static str> {
@@ -120,9 +137,17 @@ fn ascii_before(string: &[u8]) -> Option<usize> {
     string.iter().position(|b| !b.is_ascii())
 }
 
+/// The form of a call's value.
+fn form<'a>(call: &Call<'a>) -> &'a [u8] {
+    match call.op {
+        MEASURE_VALUE => call.t0,
+        _ => call.t1,
+    }
+}
+
 /// The value of a call, if it is whole.
 fn value(call: &Call<'_>) -> Option<Val> {
-    Rules::SOUND.whole_value(call.limits, call.t1)
+    Rules::SOUND.whole_value(call.limits, form(call))
 }
 
 /// The rows of strings that stand behind blocks of ASCII.
@@ -150,7 +175,7 @@ fn rows_of_text(value: &Val) -> Vec<&'static str> {
     rows
 }
 
-/// The rows of a 17.
+/// The rows of a 17 of a conformance.
 fn rows_of_broken(call: &Call<'_>, cache: &SchemaCache<'_>, value: &Val) -> Vec<&'static str> {
     let counts = match call.op {
         FULL => Counts::Declared,
@@ -159,21 +184,7 @@ fn rows_of_broken(call: &Call<'_>, cache: &SchemaCache<'_>, value: &Val) -> Vec<
     let ty = Rules::SOUND.whole_type(call.limits, call.t0);
     let ty = ty.expect("a whole type");
     let found = places::strings(counts, cache.tree(), &ty, value);
-    let broken = found.iter().filter(|f| damage(f.bytes).is_some());
-    let broken: Vec<&Found<'_, '_>> = broken.collect();
-    let strings: Vec<&[u8]> = broken.iter().map(|f| f.bytes).collect();
-    let mut rows = behind_blocks(&strings, true);
-    rows.extend(strings.iter().filter_map(|s| damage(s)));
-    rows.sort();
-    rows.dedup();
-    let all = |test: Test| broken.iter().all(|f| test(f));
-    rows.extend(PLACES.iter().filter(|(_, t)| all(*t)).map(|(row, _)| *row));
-    if broken.iter().all(|f| f.at.level == call.limits.levels) {
-        rows.push(LAST_LEVEL);
-    }
-    if std::str::from_utf8(&value.strings().concat()).is_ok() {
-        rows.push(ACROSS);
-    }
+    let mut rows = rows_of_places(call.limits, value, &found, &PLACES);
     rows.push(match (Rules { fault: UNEXAMINED }).answer(call) {
         Outcome::Yes => ELSE_YES,
         Outcome::No => ELSE_NO,
@@ -182,12 +193,44 @@ fn rows_of_broken(call: &Call<'_>, cache: &SchemaCache<'_>, value: &Val) -> Vec<
     rows
 }
 
+/// The rows of a 17 of a value that is measured.
+fn rows_of_unmeasured(limits: Limits, value: &Val) -> Vec<&'static str> {
+    let (untyped, empty) = (Ty::Atom(6), Sch::default());
+    let found = places::strings(Counts::Any, &empty, &untyped, value);
+    rows_of_places(limits, value, &found, &PLACES[..UNTYPED])
+}
+
+/// The rows of what is damaged, and of the places where all that is stands.
+fn rows_of_places(
+    limits: Limits,
+    value: &Val,
+    found: &[Found<'_, '_>],
+    places: &[(&'static str, Test)],
+) -> Vec<&'static str> {
+    let broken = found.iter().filter(|f| damage(f.bytes).is_some());
+    let broken: Vec<&Found<'_, '_>> = broken.collect();
+    let strings: Vec<&[u8]> = broken.iter().map(|f| f.bytes).collect();
+    let mut rows = behind_blocks(&strings, true);
+    rows.extend(strings.iter().filter_map(|s| damage(s)));
+    rows.sort();
+    rows.dedup();
+    let all = |test: Test| broken.iter().all(|f| test(f));
+    rows.extend(places.iter().filter(|(_, t)| all(*t)).map(|(row, _)| *row));
+    if broken.iter().all(|f| f.at.level == limits.levels) {
+        rows.push(LAST_LEVEL);
+    }
+    if std::str::from_utf8(&value.strings().concat()).is_ok() {
+        rows.push(ACROSS);
+    }
+    rows
+}
+
 /// Is the value whole, with a string that is not UTF-8; or, not whole, is such
 /// a string read before that shows?
 fn would_be_17(call: &Call<'_>) -> bool {
     match value(call) {
         Some(value) => value.strings().iter().any(|s| damage(s).is_some()),
-        None => Rules { fault: AS_READ }.reads_broken(call.limits, call.t1),
+        None => Rules { fault: AS_READ }.reads_broken(call.limits, form(call)),
     }
 }
 
@@ -197,10 +240,14 @@ impl Texts {
         let column = match call.op {
             CONFORMS => 0,
             FULL => 1,
+            MEASURE_VALUE => MEASURES,
             _ => return,
         };
         let rows = match (outcome, value(call)) {
-            (Outcome::Yes, Some(value)) => rows_of_text(&value),
+            (Outcome::Yes | Outcome::Measured(..), Some(value)) => rows_of_text(&value),
+            (Outcome::Refused(17), Some(value)) if column == MEASURES => {
+                rows_of_unmeasured(call.limits, &value)
+            }
             (Outcome::Refused(17), Some(value)) => rows_of_broken(call, cache, &value),
             (Outcome::Refused(n), _) => {
                 let before = BEFORE.iter().find(|(number, _)| number == n);
@@ -214,31 +261,37 @@ impl Texts {
         }
     }
 
-    fn met(&self, row: &str) -> [u64; 2] {
+    fn met(&self, row: &str) -> [u64; WIDTH] {
         self.0.get(row).copied().unwrap_or_default()
     }
 
-    pub fn missing(&self) -> Vec<String> {
+    /// The possible cells of the first so many columns that were not met.
+    pub fn missing(&self, columns: usize) -> Vec<String> {
         let mut missing = Vec::new();
         for row in rows() {
-            for (name, count) in COLUMNS.iter().zip(self.met(row)) {
-                if count == 0 {
-                    missing.push(format!("{name}: {row}"));
+            for (at, count) in self.met(row).iter().take(columns).enumerate() {
+                if *count == 0 && (at != MEASURES || measurable(row)) {
+                    missing.push(format!("{}: {row}", COLUMNS[at]));
                 }
             }
         }
         missing
     }
 
-    pub fn table(&self) -> String {
+    /// The first so many columns.
+    pub fn table(&self, columns: usize) -> String {
         let mut out = format!("{:<16}", "");
-        COLUMNS.iter().for_each(|c| out += &format!("{c:>12}"));
+        let names = COLUMNS.iter().take(columns);
+        names.for_each(|c| out += &format!("{c:>12}"));
         out.push('\n');
         for row in rows() {
             out += &format!("{row:<16}");
-            self.met(row)
-                .iter()
-                .for_each(|count| out += &format!("{count:>12}"));
+            for (at, count) in self.met(row).iter().take(columns).enumerate() {
+                match at != MEASURES || measurable(row) {
+                    true => out += &format!("{count:>12}"),
+                    false => out += &format!("{:>12}", "."),
+                }
+            }
             out.push('\n');
         }
         out

@@ -2,7 +2,7 @@
 //! up to two calls deep, in sets and records, beside calls that are known and
 //! unknown, and where no walk looks.
 
-use super::{attr, set, Jobs};
+use super::{attr, lists, set, Jobs};
 use crate::trees::{FunctionEntry, Sch, Ty, Val};
 
 /// The functions, and a name that is none of them.
@@ -69,17 +69,7 @@ fn arguments() -> [Val; 7] {
 
 /// Calls of the outer function with up to so many of them.
 fn calls(most: usize) -> Vec<Val> {
-    let mut lists: Vec<Vec<Val>> = vec![Vec::new()];
-    let mut start = 0;
-    for _ in 0..most {
-        let end = lists.len();
-        for at in start..end {
-            for arg in arguments() {
-                lists.push([lists[at].as_slice(), &[arg]].concat());
-            }
-        }
-        start = end;
-    }
+    let lists = lists(&arguments(), most);
     lists.iter().map(|args| call(OUTER, args)).collect()
 }
 

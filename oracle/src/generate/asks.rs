@@ -58,7 +58,7 @@ impl Gen {
     }
 
     /// A type's form; in some cases one that breaks a rule.
-    fn form(&mut self, mut ty: Ty) -> Vec<u8> {
+    pub fn form(&mut self, mut ty: Ty) -> Vec<u8> {
         if self.rng.percent(3) {
             self.spoil_type(&mut ty);
         }
@@ -223,7 +223,7 @@ fn takes_second(op: u8) -> bool {
 }
 
 /// The type with every part that is not plain replaced by one that is.
-fn plainly(ty: &Ty) -> Ty {
+pub fn plainly(ty: &Ty) -> Ty {
     match ty {
         Ty::Atom(0..=2) => Ty::Atom(3),
         Ty::Atom(9) => Ty::Ent(vec![2]),

@@ -1,11 +1,12 @@
 //! Questions under limits that are drawn, on, around and outside their ranges.
 
-use super::asks::uid_form;
+use super::asks::{plainly, uid_form};
+use super::measures::chain;
 use super::sizes::{ask, attr, counted_action, counted_function};
 use super::{Asked, Gen};
 use crate::limits::Limits;
 use crate::questions::operation::*;
-use crate::trees::{list_form, Ask, Sch, Ty, Val};
+use crate::trees::{list_form, Ask, EntityEntry, Sch, Ty, Val};
 
 /// Limits, and a schema and questions around them.
 pub struct Drawn {
@@ -78,7 +79,7 @@ impl Gen {
     pub fn drawn(&mut self) -> Drawn {
         let limits = self.drawn_limits();
         self.limits = limits.nearest();
-        let asked = match self.rng.below(200) {
+        let asked = match self.rng.below(210) {
             0 => self.counted(),
             1..=2 => self.counted_by_levels(),
             3..=42 => {
@@ -89,6 +90,7 @@ impl Gen {
             63..=64 => self.nested_records(),
             65..=70 => self.swept(),
             71 if self.limits.bytes >= 700 => self.large(),
+            200.. if self.limits.levels > 1 => self.joined(),
             _ => self.small(),
         };
         self.limits = Limits::STANDARD;
@@ -96,7 +98,7 @@ impl Gen {
     }
 
     /// A number of levels: the most, one more, or close to it.
-    fn level_edge(&mut self) -> usize {
+    pub fn level_edge(&mut self) -> usize {
         let most = self.limits.levels;
         match self.rng.percent(80) {
             true => self.rng.from(most, most + 1),
@@ -134,6 +136,39 @@ impl Gen {
             let ty = self.below_holders(leaf, levels - 1);
             let attrs = vec![attr(1, self.rng.percent(50), ty)];
             self.hold(&mut schema, attrs, &mut asks);
+        }
+        let schema = schema.form();
+        Asked { schema, asks }
+    }
+
+    /// Entity types whose one attribute has a type of any levels, changed in some
+    /// place: joined it often has fewer. And sets of about the most levels, to be
+    /// converted.
+    fn joined(&mut self) -> Asked {
+        let leaf = plainly(&self.ty(1));
+        let sets = chain(leaf.clone(), self.level_edge() - 1);
+        let levels = self.rng.from(1, self.limits.levels - 1);
+        let first = self.below_holders(leaf, levels);
+        let types = [first.clone(), self.mutated(&first), self.mutated(&first)];
+        let mut schema = Sch::default();
+        for (at, ty) in types.iter().enumerate() {
+            schema.entities.push(EntityEntry {
+                name: 2 * at as u16,
+                enumerated: self.rng.percent(20),
+                open: false,
+                attrs: vec![attr(1, self.rng.percent(50), ty.clone())],
+            });
+        }
+        let (mode, none) = (self.rng.mode(), Vec::new);
+        let forms = types.map(|ty| ty.form());
+        let mut asks = vec![
+            ask(BOUND, mode, 0, forms[0].clone(), forms[1].clone()),
+            ask(FOLD, mode, 0, list_form(&forms), none()),
+            ask(CONVERT, 0, 0, forms[0].clone(), none()),
+            ask(CONVERT, 0, 0, sets.form(), none()),
+        ];
+        for union in [vec![0], vec![0, 2], vec![2, 4], vec![0, 2, 4]] {
+            asks.push(ask(LOOKUP, 0, 1, Ty::Ent(union).form(), none()));
         }
         let schema = schema.form();
         Asked { schema, asks }

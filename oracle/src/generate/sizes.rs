@@ -50,7 +50,7 @@ impl Gen {
     }
 
     /// A length around the largest of a form.
-    fn edge(&mut self) -> usize {
+    pub fn edge(&mut self) -> usize {
         let most = self.limits.bytes;
         match self.rng.percent(40) {
             true => self.rng.from(most, most + 1),

@@ -4,7 +4,7 @@ use super::attributes::Folded;
 use super::relations::find;
 use super::{Counts, Mode, Rules, Walk};
 use crate::limits::Limits;
-use crate::questions::{operation::*, Call, Outcome, Part};
+use crate::questions::{operation::*, Call, Outcome, Part, Written};
 use crate::trees::{Attr, Sch, Ty, Val};
 
 /// A question: its number if the answer is no.
@@ -25,6 +25,15 @@ fn said(yes: bool) -> Result<Outcome, u8> {
 /// The fault by which each operation does not ask its limits.
 const UNASKED: [u32; COUNT] = [301, 302, 264, 303, 304, 305, 265, 266, 306, 307, 308, 310];
 
+/// The fault by which a call does not.
+fn unasked(op: u8) -> Option<u32> {
+    match op {
+        MEASURE_TYPE => Some(504),
+        MEASURE_VALUE => Some(505),
+        _ => UNASKED.get(op as usize).copied(),
+    }
+}
+
 /// Operation 8 for operation 11.
 pub fn full_as_conforms(op: u8) -> u8 {
     match op {
@@ -35,7 +44,10 @@ pub fn full_as_conforms(op: u8) -> u8 {
 
 /// Does the operation take a schema?
 pub fn takes_schema(op: u8) -> bool {
-    !matches!(op, DISJOINT | CONSISTENT | CONVERT)
+    !matches!(
+        op,
+        DISJOINT | CONSISTENT | CONVERT | MEASURE_TYPE | MEASURE_VALUE
+    )
 }
 
 impl Rules {
@@ -51,12 +63,13 @@ impl Rules {
             true => self.whole_schema(limits, call.schema),
             false => None,
         };
-        self.unexamining(422).answer_under(&call, &schema)
+        let outcome = self.unexamining(422).answer_under(&call, &schema);
+        self.retold(485, 1, outcome)
     }
 
     fn limits_pass(self, call: &Call<'_>) -> bool {
-        let unasked = UNASKED.get(call.op as usize);
-        self.allowed(call.limits) || unasked.is_some_and(|fault| self.fault(*fault))
+        let unasked = unasked(call.op).is_some_and(|fault| self.fault(fault));
+        self.allowed(call.limits) || unasked
     }
 
     /// The same, where the schema has been read.
@@ -70,6 +83,7 @@ impl Rules {
             CONFORMS | FULL => self.conformed(call, schema),
             FOLD => self.folded(call, schema),
             LITERAL => self.literal_typed(call, schema),
+            MEASURE_TYPE | MEASURE_VALUE => self.measured(call, schema),
             _ => Ok(Outcome::Nothing),
         });
         outcome.unwrap_or_else(Outcome::Refused)
@@ -86,6 +100,7 @@ impl Rules {
             ask(2, schema.is_some())?;
         }
         self.text_asked_early(425, call.limits.nearest(), call)?;
+        self.text_measured_early(call)?;
         ask(20, self.limits_pass(call))
     }
 
@@ -107,7 +122,7 @@ impl Rules {
     }
 
     /// A type that the call is handed.
-    fn given(self, limits: Limits, form: &[u8]) -> Option<Ty> {
+    pub fn given(self, limits: Limits, form: &[u8]) -> Option<Ty> {
         self.whole_type(self.kept_standard(limits, 249, 258), form)
     }
 
@@ -163,8 +178,15 @@ impl Rules {
         }
     }
 
-    fn written(self, call: &Call<'_>, form: Vec<u8>) -> Result<Outcome, u8> {
-        Ok(Outcome::Wrote(self.fitting(call, form)?))
+    /// A type that is written, and so many levels told of it.
+    fn written(self, call: &Call<'_>, ty: &Ty, levels: usize) -> Result<Written, u8> {
+        let form = self.fitting(call, ty.form())?;
+        let levels = self.told(call.limits, self.up_to_sixteen(445, levels));
+        Ok(Written { form, levels })
+    }
+
+    fn typed(self, call: &Call<'_>, ty: &Ty, levels: usize) -> Result<Outcome, u8> {
+        Ok(Outcome::Typed(self.written(call, ty, levels)?))
     }
 
     fn compared(self, call: &Call<'_>, schema: &Option<Sch>) -> Result<Outcome, u8> {
@@ -183,15 +205,16 @@ impl Rules {
             }
             _ => {
                 ask(10, call.t0.len() <= call.room || !self.fault(199))?;
-                let bound = self.bound(mode, &a, &b)?;
+                let mut bound = self.bound(mode, &a, &b)?;
                 let loosened = bound == Ty::Atom(6) && a != bound && b != bound;
                 let first = loosened && self.fault_in_loose(247, mode);
                 ask(10, call.t0.len() <= call.room || !first)?;
                 let set = matches!(bound, Ty::Set(_)) && self.fault_in_loose(224, mode);
-                match bound.form() {
-                    form if set && form.len() > call.room => self.written(call, vec![6]),
-                    form => self.written(call, form),
+                if set && bound.form().len() > call.room {
+                    bound = Ty::Atom(6);
                 }
+                let levels = self.bound_levels(mode, [&a, &b], &bound);
+                self.typed(call, &bound, levels)
             }
         }
     }
@@ -200,7 +223,7 @@ impl Rules {
         let (mode, _) = self.mode_and_schema(call, schema)?;
         let types = self.whole_list(call.limits, call.t0).ok_or(3)?;
         let bound = self.fold(mode, &types, self.step_limit(call))?;
-        self.written(call, bound.form())
+        self.typed(call, &bound, self.fold_levels(mode, &types, &bound))
     }
 
     fn disjoined(self, call: &Call<'_>, schema: &Option<Sch>) -> Result<Outcome, u8> {
@@ -217,22 +240,30 @@ impl Rules {
             MAY_HAVE => said(self.may_have(schema, &ty, call.attr)),
             NAMES => {
                 let names = self.names(schema, &ty, limit).ok_or(9)?;
-                let form: Vec<u8> = names.iter().flat_map(|n| n.to_le_bytes()).collect();
-                match self.fault(195) {
-                    true => Ok(Outcome::Wrote(form)),
-                    false => self.written(call, form),
-                }
+                self.named(call, &ty, names)
             }
             _ => match self.lookup(schema, &ty, call.attr, limit) {
                 Folded::Absent => Ok(Outcome::Nothing),
                 Folded::TooLong => Err(9),
-                Folded::Found(required, ty) => Ok(Outcome::Attribute(
-                    required,
-                    self.fitting(call, ty.form())
-                        .map_err(|n| self.or(197, n, 9))?,
-                )),
+                Folded::Found(required, found) => {
+                    let levels = self.lookup_levels(schema, &ty, call.attr, &found);
+                    let written = self.written(call, &found, levels);
+                    let written = written.map_err(|n| self.or(197, n, 9))?;
+                    Ok(Outcome::Attribute(required, written))
+                }
             },
         }
+    }
+
+    fn named(self, call: &Call<'_>, ty: &Ty, names: Vec<u16>) -> Result<Outcome, u8> {
+        let mut form = names.iter().flat_map(|n| n.to_le_bytes()).collect();
+        if !self.fault(195) {
+            form = self.fitting(call, form)?;
+        }
+        Ok(match self.name_levels(ty) {
+            None => Outcome::Named(form),
+            Some(levels) => Outcome::Typed(Written { form, levels }),
+        })
     }
 
     fn agreed(self, call: &Call<'_>, schema: &Option<Sch>) -> Result<Outcome, u8> {
@@ -251,7 +282,8 @@ impl Rules {
         ask(2, schema.is_some() || !self.fault(192))?;
         let ty = self.first(call)?;
         ask(8, !self.ends_early(297, [ty.levels()]))?;
-        self.written(call, self.convert(&ty).ok_or(8)?.form())
+        let converted = self.convert(&ty).ok_or(8)?;
+        self.typed(call, &converted, self.converted_levels(&ty, &converted))
     }
 
     fn conformed(self, call: &Call<'_>, schema: &Option<Sch>) -> Result<Outcome, u8> {
@@ -292,7 +324,7 @@ impl Rules {
         };
         match self.literal(schema, ty, id) {
             None => Ok(Outcome::Nothing),
-            Some(ty) => self.written(call, ty.form()),
+            Some(ty) => self.typed(call, &ty, self.literal_levels(schema, &ty)),
         }
     }
 
@@ -344,8 +376,12 @@ impl Rules {
         !self.fault(284) || *outcome != Outcome::Refused(20)
     }
 
-    /// Is the result buffer left as it was by this refusal?
+    /// Is the result buffer left as it was by this outcome, but for an answer?
     pub fn spares_result(self, outcome: &Outcome) -> bool {
-        !self.fault(285) || *outcome != Outcome::Refused(20)
+        match outcome {
+            Outcome::Refused(20) => !self.fault(285),
+            Outcome::Measured(..) => !self.fault(535),
+            _ => true,
+        }
     }
 }

@@ -3,7 +3,7 @@
 use super::read::Reading;
 use super::Rules;
 use crate::limits::Limits;
-use crate::questions::{operation::FULL, Call, Outcome};
+use crate::questions::{operation::FULL, Call, Outcome, Written};
 
 struct Entry {
     op: u8,
@@ -76,6 +76,15 @@ impl Rules {
             .collect()
     }
 
+    /// A line has a type's form alone.
+    fn printed(self, written: &Written) -> String {
+        let form = self.hex(&written.form);
+        match self.fault(426) {
+            true => format!("{form}/{}", written.levels),
+            false => form,
+        }
+    }
+
     fn line(self, index: usize, outcome: &Outcome) -> String {
         let index = self.or(209, index, index + 1);
         match outcome {
@@ -83,12 +92,14 @@ impl Rules {
             Outcome::Yes => format!("{index} 0 yes\n"),
             Outcome::No => format!("{index} 0 no\n"),
             Outcome::Nothing => format!("{index} 0 none\n"),
-            Outcome::Wrote(form) if form.is_empty() && self.fault(206) => format!("{index} 0\n"),
-            Outcome::Wrote(form) => format!("{index} 0 {}\n", self.hex(form)),
-            Outcome::Attribute(required, form) => {
+            Outcome::Typed(written) => format!("{index} 0 {}\n", self.printed(written)),
+            Outcome::Attribute(required, written) => {
                 let flag = self.or(208, ["o:", "r:"][*required as usize], "");
-                format!("{index} 0 {flag}{}\n", self.hex(form))
+                format!("{index} 0 {flag}{}\n", self.printed(written))
             }
+            Outcome::Named(form) if form.is_empty() && self.fault(206) => format!("{index} 0\n"),
+            Outcome::Named(form) => format!("{index} 0 {}\n", self.hex(form)),
+            Outcome::Measured(..) => unreachable!("no question of a job measures"),
         }
     }
 }

@@ -48,7 +48,17 @@ impl Rules {
         };
         match refused.filter(|_| self.fault(283)) {
             Some(number) => Outcome::Refused(number),
-            None => self.unexamining(421).answer_under(&call, &kept.schema),
+            None => self.told_kept(kept, &call),
+        }
+    }
+
+    fn told_kept(self, kept: &Kept, call: &Call<'_>) -> Outcome {
+        let outcome = self.unexamining(421).answer_under(call, &kept.schema);
+        let outcome = self.retold(484, 1, outcome);
+        let deepest = kept.schema.as_ref().and_then(|s| self.deepest_body(s));
+        match deepest {
+            Some(levels) => self.retold(486, levels, outcome),
+            None => outcome,
         }
     }
 

@@ -3,6 +3,12 @@
 use super::Rules;
 use crate::limits::Limits;
 
+/// Beyond the limits of every form.
+pub const WIDE: Limits = Limits {
+    levels: 64,
+    bytes: 65_535,
+};
+
 impl Rules {
     /// The limits as a call takes them.
     pub fn taken(self, limits: Limits) -> Limits {

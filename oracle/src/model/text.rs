@@ -2,6 +2,7 @@
 //! value?
 
 use super::calls::ask;
+use super::limits::WIDE;
 use super::places::{self, Found, Place};
 use super::{Counts, Rules, Walk};
 use crate::limits::Limits;
@@ -44,12 +45,6 @@ const REFUSED: [(u32, char); 11] = [
     (374, '\u{10000}'),
     (375, '\u{10ffff}'),
 ];
-
-/// Beyond the limits of every form.
-const WIDE: Limits = Limits {
-    levels: 64,
-    bytes: 65_535,
-};
 
 impl Rules {
     /// The table with its faults.
@@ -160,7 +155,7 @@ impl Rules {
     }
 
     /// Is this a whole value with a string that is not text?
-    fn broken(self, limits: Limits, form: &[u8]) -> bool {
+    pub fn broken(self, limits: Limits, form: &[u8]) -> bool {
         let value = self.whole_value(limits, form);
         value.is_some_and(|v| !self.strings_are_text(&v))
     }
@@ -217,7 +212,7 @@ impl Rules {
 
     /// Is every string that is examined text, and all else that a fault takes
     /// for a string?
-    fn is_text(self, call: &Call<'_>, schema: &Sch, ty: &Ty, value: &Val) -> bool {
+    pub fn is_text(self, call: &Call<'_>, schema: &Sch, ty: &Ty, value: &Val) -> bool {
         let strings = self.examined(call, schema, ty, value);
         let text = match self.fault(405) {
             true => self.text(&strings.concat()),

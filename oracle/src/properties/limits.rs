@@ -7,7 +7,7 @@ use crate::generate::Gen;
 use crate::harness::check_call;
 use crate::limits::Limits;
 use crate::model::Rules;
-use crate::questions::{answer_with, operation::*, Call, Outcome, SchemaCache};
+use crate::questions::{answer_with, Call, Outcome, SchemaCache, Written};
 use crate::rounds::Round;
 
 /// Try the claims about limits on the questions of one round.
@@ -20,7 +20,6 @@ pub fn try_limits(gen: &mut Gen, tallies: &mut Tallies) {
         refused(tallies, outside, &call);
         if round.limits.allowed() {
             kept(tallies, &call, &answered.outcome, &cache);
-            levels(tallies, &call, &answered.outcome);
             whole(tallies, &call, &answered.outcome);
         }
     }
@@ -75,37 +74,12 @@ fn kept(tallies: &mut Tallies, call: &Call<'_>, outcome: &Outcome, cache: &Schem
     tallies.claim(name, same, &forms(call));
 }
 
-fn levels_of(form: &[u8]) -> usize {
-    let ty = Rules::SOUND.whole_type(Limits::LARGEST, form);
-    ty.expect("a whole type").levels()
-}
-
-/// A bound has no more levels than what it was made from.
-fn levels(tallies: &mut Tallies, call: &Call<'_>, outcome: &Outcome) {
-    let (BOUND | FOLD, Outcome::Wrote(form)) = (call.op, outcome) else {
-        return;
-    };
-    let deepest = match call.op {
-        BOUND => levels_of(call.t0).max(levels_of(call.t1)),
-        _ => {
-            let types = Rules::SOUND.whole_list(call.limits, call.t0);
-            let types = types.expect("a whole list");
-            types.iter().map(|t| t.levels()).max().unwrap_or(1)
-        }
-    };
-    let name = "limits: a bound has no more levels than the deepest of its types";
-    tallies.claim(name, levels_of(form) <= deepest, &forms(call));
-}
-
 /// A type that is written is whole under the limits of its call; so is a list
 /// of one.
 fn whole(tallies: &mut Tallies, call: &Call<'_>, outcome: &Outcome) {
-    let (Outcome::Wrote(form) | Outcome::Attribute(_, form)) = outcome else {
+    let Some(Written { form, .. }) = outcome.written() else {
         return;
     };
-    if call.op == NAMES {
-        return;
-    }
     let list = crate::trees::list_form(std::slice::from_ref(form));
     let holds = read_type(call.limits, form).is_some() && read_list(call.limits, &list).is_some();
     let name = "limits: a type that is written is whole under them";
