@@ -12,7 +12,7 @@ use schemas::sections::Sections;
 
 // An attribute of an entity type: where its type starts and ends in the schema, and whether it is required; absent from a body that is
 // open or closed; or the schema lacks the entity type.
-#[derive(Drop)]
+#[derive(Clone, Copy)]
 pub enum EntityAttribute {
     At(usize, usize, bool),
     Absent(bool),
@@ -35,7 +35,7 @@ pub fn entity_attribute(schema: &[u8], at: Sections, entity: usize, name: usize)
 }
 
 // Where the entries of an entity type's attributes start, and how many they are.
-#[derive(Drop)]
+#[derive(Clone, Copy)]
 pub enum EntityEntries {
     From(usize, usize),
     Missing,

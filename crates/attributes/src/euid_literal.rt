@@ -15,7 +15,7 @@ use schemas::sections::Sections;
 use writing::writers::{copy, put_entity, put_kind};
 
 // What a uid's type is: an action, with the start and end of the body that lists its attributes; an entity; or nothing.
-#[derive(Drop)]
+#[derive(Clone, Copy)]
 pub enum Literal {
     Action(usize, usize),
     Entity,

@@ -15,7 +15,7 @@ use forms::search::{Found, find};
 use forms::widths::Width;
 
 // Where an attribute's type starts and ends in the form that lists it, and whether it is required.
-#[derive(Drop)]
+#[derive(Clone, Copy)]
 pub enum Place {
     At(usize, usize, bool),
     Nothing,

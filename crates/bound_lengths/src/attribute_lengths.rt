@@ -5,7 +5,7 @@ ghost use Rattle.bound_lengths.specs.Pairs.{behind};
 use writing::form_lengths::{FormLength, capped};
 
 // How many attributes are kept and how long they are together, or the number of a refusal.
-#[derive(Drop)]
+#[derive(Clone, Copy)]
 pub enum AttributesLength {
     Of(usize, usize),
     Not(u8),
@@ -24,7 +24,7 @@ impl AttributesLength {
 }
 
 // What an attribute comes to: kept with a type of so many bytes, dropped, or the number of a refusal.
-#[derive(Drop)]
+#[derive(Clone, Copy)]
 pub enum PairLength {
     Of(usize),
     Dropped,

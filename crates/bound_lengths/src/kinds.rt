@@ -8,7 +8,7 @@ use forms::modes::Mode;
 use forms::refusals::Refusal;
 
 // The kind of a bound that has one byte, or the number of a refusal.
-#[derive(Drop)]
+#[derive(Clone, Copy)]
 pub enum Joined {
     Kind(u8),
     Not(u8),

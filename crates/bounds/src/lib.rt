@@ -1,4 +1,6 @@
 // The least upper bound of two types, written.
+#![tactic(auto)]
+
 pub mod bound_writes;
 pub mod flags;
 pub mod kept_attributes;

@@ -7,7 +7,7 @@ ghost use Rattle.conformance.specs.Verdicts.{verdict_of};
 use crate::verdicts::Verdict;
 
 // Any number, or exactly as many as its function declares.
-#[derive(Drop)]
+#[derive(Clone, Copy)]
 pub enum Counts {
     Shorter,
     Exact,

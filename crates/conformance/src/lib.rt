@@ -1,4 +1,6 @@
 // Whether a value has a type, element by element down a nested value.
+#![tactic(auto)]
+
 pub mod calls;
 pub mod conforms;
 pub mod counts;

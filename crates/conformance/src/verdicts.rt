@@ -4,7 +4,7 @@ ghost use Rattle.cedar.specs.Conformance.{verdict};
 ghost use Rattle.conformance.specs.Verdicts.{verdict_of, inside_of};
 
 // Yes; no; no, after an unknown function inside an argument; or an unknown function that it reaches.
-#[derive(Drop)]
+#[derive(Clone, Copy)]
 pub enum Verdict {
     Holds,
     Fails,

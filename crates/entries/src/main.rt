@@ -1,4 +1,6 @@
 // Calls each C entry by position, and prints each answer's number and the bytes that it left; tests/entries.c does the same in C.
+#![tactic(auto)]
+
 mod calls;
 mod checked_calls;
 mod print;

@@ -10,7 +10,7 @@ use schemas::sections::entries_end;
 use schemas::whole::Checked;
 
 // What the second of two offsets is multiplied by, and the bytes of the limits above the levels.
-#[derive(Drop)]
+#[derive(Clone, Copy)]
 pub struct Packed;
 
 impl Packed {

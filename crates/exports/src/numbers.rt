@@ -9,7 +9,7 @@ use validator::answers::Answer;
 use validator::own_attribute_type::OwnPart;
 
 // The kind of an answer, in the low byte of its number.
-#[derive(Drop)]
+#[derive(Clone, Copy)]
 pub struct Kind;
 
 impl Kind {

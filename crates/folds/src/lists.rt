@@ -20,7 +20,7 @@ use forms::refusals::Refusal;
 use forms::widths::Width;
 
 // How a fold ends: with a bound of so many bytes, or with the number of its refusal.
-#[derive(Drop)]
+#[derive(Clone, Copy)]
 pub enum Folded {
     To(usize),
     Not(u8),

@@ -16,7 +16,7 @@ use writing::form_lengths::FormLength;
 use writing::writers::copy;
 
 // Where a step leads: to a bound of so many bytes, to none, by the number of its reason, or to one that is too long.
-#[derive(Drop)]
+#[derive(Clone, Copy)]
 pub enum JoinStep {
     To(usize),
     Not(u8),

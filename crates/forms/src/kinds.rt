@@ -3,7 +3,7 @@ ghost use Rattle.std.specs.Prelude.{◌≡◌};
 ghost use Rattle.cedar.specs.Bytes.{flag};
 
 // Kinds of type forms.
-#[derive(Drop)]
+#[derive(Clone, Copy)]
 pub struct Kind;
 
 impl Kind {
@@ -35,7 +35,7 @@ impl Kind {
 }
 
 // Kinds of value forms.
-#[derive(Drop)]
+#[derive(Clone, Copy)]
 pub struct ValueKind;
 
 impl ValueKind {
@@ -57,7 +57,7 @@ impl ValueKind {
 }
 
 // Kinds of entity entries in a schema.
-#[derive(Drop)]
+#[derive(Clone, Copy)]
 pub struct EntityKind;
 
 impl EntityKind {
@@ -67,7 +67,7 @@ impl EntityKind {
 }
 
 // Kinds of a function's arguments.
-#[derive(Drop)]
+#[derive(Clone, Copy)]
 pub struct ArgumentKind;
 
 impl ArgumentKind {
@@ -81,7 +81,7 @@ impl ArgumentKind {
 }
 
 // The open byte of a record form.
-#[derive(Drop)]
+#[derive(Clone, Copy)]
 pub struct Openness;
 
 impl Openness {
@@ -101,7 +101,7 @@ impl Openness {
 }
 
 // The required byte of an attribute's entry.
-#[derive(Drop)]
+#[derive(Clone, Copy)]
 pub struct Requirement;
 
 impl Requirement {

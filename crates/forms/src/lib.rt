@@ -1,4 +1,6 @@
 // The byte forms of Cedar's types, values and schemas: whether one is whole, and where its parts lie.
+#![tactic(auto)]
+
 pub mod kinds;
 pub mod limits;
 pub mod lists;

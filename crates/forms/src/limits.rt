@@ -4,7 +4,7 @@ ghost use Rattle.cedar.specs.Limits.{standard, allowed};
 ghost use Rattle.forms.specs.Limits.{as_limits};
 
 // What a call is asked with: how many levels a type or a value may have, and how many bytes; an answer has no more bytes either.
-#[derive(Drop)]
+#[derive(Clone, Copy)]
 pub struct Limits {
     pub levels: usize,
     pub bytes: usize,

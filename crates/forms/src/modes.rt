@@ -4,7 +4,7 @@ ghost use Rattle.cedar.specs.Types.{is_permissive, is_loose};
 ghost use Rattle.cedar.specs.Calls.{mode_of};
 ghost use Rattle.forms.specs.Modes.{as_mode, mode_in};
 
-#[derive(Drop)]
+#[derive(Clone, Copy)]
 pub enum Mode {
     Strict,
     Permissive,
@@ -12,7 +12,7 @@ pub enum Mode {
 }
 
 // The mode that a number means, or none.
-#[derive(Drop)]
+#[derive(Clone, Copy)]
 pub enum KnownMode {
     Of(Mode),
     Nothing,

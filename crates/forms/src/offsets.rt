@@ -1,7 +1,7 @@
 // Where the parts of a form begin, and the lengths of forms that have one.
 
 // A type form.
-#[derive(Drop)]
+#[derive(Clone, Copy)]
 pub struct Offset;
 
 impl Offset {
@@ -44,7 +44,7 @@ impl Offset {
 }
 
 // A value form.
-#[derive(Drop)]
+#[derive(Clone, Copy)]
 pub struct ValueOffset;
 
 impl ValueOffset {
@@ -86,7 +86,7 @@ impl ValueOffset {
 }
 
 // A schema's counts, and the fields of its entries after the name.
-#[derive(Drop)]
+#[derive(Clone, Copy)]
 pub struct SchemaOffset;
 
 impl SchemaOffset {

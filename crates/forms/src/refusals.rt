@@ -1,5 +1,5 @@
 // Why a call has no answer.
-#[derive(Drop)]
+#[derive(Clone, Copy)]
 pub struct Refusal;
 
 impl Refusal {

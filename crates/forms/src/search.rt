@@ -5,14 +5,14 @@ ghost use Rattle.forms.specs.Search.{Laid, below, used, found_at};
 use crate::numbers::u16_at;
 
 // How many entries a search passed, and how many bytes of bodies.
-#[derive(Drop)]
+#[derive(Clone, Copy)]
 pub struct Skipped {
     pub entries: usize,
     pub bytes: usize,
 }
 
 // Where an entry stands: how many entries and bytes of bodies stand before it.
-#[derive(Drop)]
+#[derive(Clone, Copy)]
 pub enum Found {
     At(usize, usize),
     Nothing,

@@ -1,5 +1,5 @@
 // How many bytes an entry of a table takes. Its last two are the length of its body.
-#[derive(Drop)]
+#[derive(Clone, Copy)]
 pub struct Width;
 
 impl Width {

@@ -1,4 +1,6 @@
 // Jobs: whether one is whole, the check of its schema, its questions, and the line of each.
+#![tactic(auto)]
+
 mod answers;
 mod checks;
 mod lines;

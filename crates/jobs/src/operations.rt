@@ -3,7 +3,7 @@ ghost use Rattle.std.specs.Prelude.{◌≡◌, ◌≤◌};
 ghost use Rattle.cedar.specs.JobForm.{takes_mode, takes_attribute, takes_second};
 ghost use Rattle.jobs.specs.JobBytes.{last_operation, op_of};
 
-#[derive(Drop)]
+#[derive(Clone, Copy)]
 pub struct Operation;
 
 impl Operation {

@@ -8,14 +8,14 @@ use crate::whole::{Entry, JobForm, bodies_from};
 use forms::numbers::u16_at;
 
 // Where a walk over a job's questions stands: the index of a question, and where its bodies begin.
-#[derive(Drop)]
+#[derive(Clone, Copy)]
 pub struct Cursor {
     pub index: usize,
     pub body: usize,
 }
 
 // A question: what it asks, and where its two bodies begin and end.
-#[derive(Drop)]
+#[derive(Clone, Copy)]
 pub struct Question {
     pub operation: u8,
     pub mode: u8,

@@ -3,7 +3,7 @@ use crate::questions::Cursor;
 use forms::limits::Limits;
 
 // A line of so many bytes and the next cursor, or no question.
-#[derive(Drop)]
+#[derive(Clone, Copy)]
 pub enum NextLine {
     Line(usize, Cursor),
     End,
@@ -11,7 +11,7 @@ pub enum NextLine {
 
 // The buffers of a job: its result and its workspace; and a line, which is an index of five digits, a refusal of three, two spaces,
 // a word of four, two digits for each byte of the result, and a newline.
-#[derive(Drop)]
+#[derive(Clone, Copy)]
 pub struct Buffers;
 
 impl Buffers {

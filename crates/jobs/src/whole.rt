@@ -9,7 +9,7 @@ use forms::limits::Limits;
 use forms::numbers::{u16_at, wide};
 
 // Where the parts of a job stand: the schema's length, the count of questions, their entries.
-#[derive(Drop)]
+#[derive(Clone, Copy)]
 pub struct JobForm;
 
 impl JobForm {
@@ -21,7 +21,7 @@ impl JobForm {
 }
 
 // Where the fields of an entry stand, and how many bytes it takes.
-#[derive(Drop)]
+#[derive(Clone, Copy)]
 pub struct Entry;
 
 impl Entry {

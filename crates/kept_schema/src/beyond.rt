@@ -4,7 +4,7 @@ use forms::limits::Limits;
 use forms::offsets::Offset;
 use forms::widths::Width;
 
-#[derive(Drop)]
+#[derive(Clone, Copy)]
 struct Beyond;
 
 impl Beyond {

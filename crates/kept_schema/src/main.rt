@@ -1,4 +1,6 @@
 // Keeps schemas under limits, puts each call to what they hand out, by position, and prints what each answered and left in its buffers.
+#![tactic(auto)]
+
 mod ask;
 mod beyond;
 mod print;

@@ -13,7 +13,7 @@ use forms::offsets::{Offset, ValueOffset};
 use forms::widths::Width;
 
 // What is walked.
-#[derive(Drop)]
+#[derive(Clone, Copy)]
 pub enum Form {
     Types,
     Values,

@@ -1,3 +1,5 @@
 // How many levels a type or a value has.
+#![tactic(auto)]
+
 pub mod depths;
 pub mod larger;

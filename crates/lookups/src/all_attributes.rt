@@ -23,7 +23,7 @@ use schemas::sections::Sections;
 use writing::writers::put_name;
 
 // How a name list ends: with so many bytes, or a step's bound is too long.
-#[derive(Drop)]
+#[derive(Clone, Copy)]
 pub enum Names {
     Of(usize),
     TooLong,

@@ -23,7 +23,7 @@ use schemas::sections::Sections;
 use writing::writers::copy;
 
 // How a lookup ends: found, required?, with so many bytes; nothing; or a step's bound is too long.
-#[derive(Drop)]
+#[derive(Clone, Copy)]
 pub enum Looked {
     Found(bool, usize),
     Nothing,

@@ -1,4 +1,6 @@
 // What the benchmark measures alone: whether bytes are text.
+#![tactic(auto)]
+
 ghost use Rattle.std.specs.Prelude.{◌≡◌};
 ghost use Rattle.cedar.specs.Bytes.{flag};
 ghost use Rattle.cedar.specs.Text.{is_text};

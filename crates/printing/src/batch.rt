@@ -8,7 +8,7 @@ use forms::numbers::u16_at;
 use streams::{Input, read_input, stop, write_output};
 
 // How many bytes a job's length takes, and how many its job at most: more than a whole job has, so that a batch can hold bad ones.
-#[derive(Drop)]
+#[derive(Clone, Copy)]
 struct Batch;
 
 impl Batch {
@@ -18,7 +18,7 @@ impl Batch {
 }
 
 // What stands before a job: its length; or nothing, at the end of the batch; or a length that is cut short, too large or unreadable.
-#[derive(Drop)]
+#[derive(Clone, Copy)]
 enum Head {
     Job(usize),
     End,

@@ -1,4 +1,6 @@
 // The lines of a job or of a batch of jobs, on standard output.
+#![tactic(auto)]
+
 mod batch;
 mod job;
 

@@ -9,7 +9,7 @@ use schemas::offsets::Offsets;
 use schemas::whole::Checked;
 
 // The block, the limits that it was checked under, and where the bodies of each of its sections start: all 0 where it is no whole schema.
-#[derive(Drop)]
+#[derive(Clone, Copy)]
 pub struct ValidatorSchema<'a> {
     pub block: &'a [u8],
     pub limits: Limits,

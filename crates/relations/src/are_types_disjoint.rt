@@ -10,7 +10,7 @@ use forms::numbers::u16_at;
 use forms::offsets::Offset;
 
 // Where the names of a type begin in its form, and how many they are.
-#[derive(Drop)]
+#[derive(Clone, Copy)]
 pub enum TypeNames {
     From(usize, usize),
     Nothing,

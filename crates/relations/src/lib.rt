@@ -1,4 +1,6 @@
 // How two whole types relate: disjoint, subtype, consistent.
+#![tactic(auto)]
+
 pub mod are_types_disjoint;
 pub mod is_consistent_with;
 pub mod is_plain;

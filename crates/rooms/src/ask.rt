@@ -24,7 +24,7 @@ use validator::typecheck_restricted_expr::{
 };
 
 // What no operation of a job asks: the second entry of lookup, and measuring; and what stands in the buffers before a call.
-#[derive(Drop)]
+#[derive(Clone, Copy)]
 struct Calls;
 
 impl Calls {

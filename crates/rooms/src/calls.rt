@@ -6,7 +6,7 @@ use forms::numbers::u16_at;
 
 // What an entry is asked: the operation, its mode and attribute, the lengths of the result buffer and the workspace, the lengths of the
 // schema and the two bodies, and the limits.
-#[derive(Drop)]
+#[derive(Clone, Copy)]
 pub struct Call {
     pub operation: u8,
     pub mode: u8,
@@ -21,7 +21,7 @@ pub struct Call {
 }
 
 // Where the numbers of a call stand before its bodies, how many bytes they take, and the most that the bodies can take.
-#[derive(Drop)]
+#[derive(Clone, Copy)]
 pub struct Form;
 
 impl Form {

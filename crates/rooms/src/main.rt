@@ -1,5 +1,7 @@
 // Puts calls with result buffers and workspaces of any size to the library's entries, and prints what each answered and left in its
 // buffers; tests/rooms.txt has the calls and the lines.
+#![tactic(auto)]
+
 mod ask;
 mod calls;
 mod print;

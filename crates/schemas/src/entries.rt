@@ -10,21 +10,21 @@ use forms::numbers::u16_at;
 use forms::offsets::SchemaOffset;
 
 // What an entry is found by: an entity type or a function by its name, an action by its type and id.
-#[derive(Drop)]
+#[derive(Clone, Copy)]
 pub enum Key {
     Name(usize),
     Uid(usize, usize),
 }
 
 // Where an entry starts, and where its body starts and ends.
-#[derive(Drop)]
+#[derive(Clone, Copy)]
 pub enum FoundEntry {
     At(usize, usize, usize),
     Nothing,
 }
 
 // A function: whether it returns an extension, which (0 if none), and where its arguments start and end.
-#[derive(Drop)]
+#[derive(Clone, Copy)]
 pub struct Signature {
     pub returns: bool,
     pub extension: usize,
@@ -32,7 +32,7 @@ pub struct Signature {
     pub end: usize,
 }
 
-#[derive(Drop)]
+#[derive(Clone, Copy)]
 pub enum FoundFunction {
     At(Signature),
     Nothing,

@@ -13,7 +13,7 @@ use forms::numbers::u16_at;
 use forms::offsets::SchemaOffset;
 use forms::widths::Width;
 
-#[derive(Drop)]
+#[derive(Clone, Copy)]
 pub enum SectionKind {
     Entities,
     Actions,

@@ -1,4 +1,6 @@
 // The schema form: whether one is whole, where its sections lie, and its entries by key.
+#![tactic(auto)]
+
 pub mod arguments;
 pub mod bodies;
 pub mod entries;

@@ -10,7 +10,7 @@ use crate::whole::{Checked, check_schema};
 use forms::limits::Limits;
 
 // The starts are all 0 for a schema that is broken.
-#[derive(Drop)]
+#[derive(Clone, Copy)]
 pub struct Offsets {
     pub limits: Limits,
     pub entities: usize,

@@ -8,7 +8,7 @@ use forms::numbers::u16_at;
 use forms::offsets::SchemaOffset;
 
 // What a function's entry says of an extension that it returns.
-#[derive(Drop)]
+#[derive(Clone, Copy)]
 pub struct Returns;
 
 impl Returns {
@@ -18,7 +18,7 @@ impl Returns {
 }
 
 // The name that stands where there is no extension.
-#[derive(Drop)]
+#[derive(Clone, Copy)]
 pub struct Extension;
 
 impl Extension {
@@ -26,7 +26,7 @@ impl Extension {
 }
 
 // What the next entry of a section may be called at least: a name; for an action a type and an id.
-#[derive(Drop)]
+#[derive(Clone, Copy)]
 pub struct Low {
     pub name: usize,
     pub id: usize,

@@ -11,7 +11,7 @@ use forms::offsets::SchemaOffset;
 use forms::widths::Width;
 
 // How many bytes the three counts take.
-#[derive(Drop)]
+#[derive(Clone, Copy)]
 pub struct Counts;
 
 impl Counts {
@@ -19,7 +19,7 @@ impl Counts {
 }
 
 // Where a section lies: how many entries it has, where they start, and where their bodies start.
-#[derive(Drop)]
+#[derive(Clone, Copy)]
 pub struct Section {
     pub count: usize,
     pub entries: usize,
@@ -27,7 +27,7 @@ pub struct Section {
 }
 
 // The sections of a schema, found once and handed to every search, with the limits that it was checked under.
-#[derive(Drop)]
+#[derive(Clone, Copy)]
 pub struct Sections {
     pub limits: Limits,
     pub entities: Section,
@@ -36,7 +36,7 @@ pub struct Sections {
 }
 
 // Where the bodies of a whole section end.
-#[derive(Drop)]
+#[derive(Clone, Copy)]
 pub enum Passed {
     To(usize),
     Broken,

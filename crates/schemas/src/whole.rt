@@ -9,7 +9,7 @@ use forms::numbers::u16_at;
 use forms::offsets::SchemaOffset;
 
 // What a check found, with the limits that it was asked under: a whole schema's sections, or that it is not whole.
-#[derive(Drop)]
+#[derive(Clone, Copy)]
 pub enum Checked {
     Whole(Sections),
     Broken(Limits),

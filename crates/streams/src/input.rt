@@ -6,14 +6,14 @@ use crate::output::may_try_again;
 use libc::STDIN_FILENO;
 
 // The bytes that came, or a failure.
-#[derive(Drop)]
+#[derive(Clone, Copy)]
 pub enum Input {
     Bytes(usize),
     Unreadable,
 }
 
 // What one read brought.
-#[derive(Drop)]
+#[derive(Clone, Copy)]
 enum Got {
     Bytes(usize),
     End,

@@ -1,4 +1,6 @@
 // Standard input and standard output, read and written in full.
+#![tactic(auto)]
+
 mod error;
 mod input;
 mod output;

@@ -5,7 +5,7 @@ ghost use Rattle.std.specs.Prelude.{length};
 use libc::STDOUT_FILENO;
 
 // What one write took.
-#[derive(Drop)]
+#[derive(Clone, Copy)]
 enum Put {
     Bytes(usize),
     Failed,

@@ -1,3 +1,5 @@
 // Strings: whether bytes are text, and whether every string of a value is.
+#![tactic(auto)]
+
 pub mod text;
 pub mod values;

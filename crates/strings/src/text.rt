@@ -4,7 +4,7 @@ ghost use Rattle.cedar.specs.Text.{tail, is_text};
 ghost use Rattle.strings.specs.Steps.{is_in, second_range, Width, Plain, Passes, PassesWide};
 
 // How many bytes below 128 are passed by one test: first many, then a few.
-#[derive(Drop)]
+#[derive(Clone, Copy)]
 struct Block;
 
 impl Block {

@@ -1,4 +1,6 @@
 // Reads a job on standard input and prints its lines.
+#![tactic(auto)]
+
 use forms::limits::Limits;
 use printing::print_job;
 use streams::{Input, read_input};

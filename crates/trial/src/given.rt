@@ -1,7 +1,7 @@
 // What a call is given: forms, and buffers that are filled with what no call writes.
 ghost use Rattle.std.specs.Prelude.{◌≡◌, replicate};
 
-#[derive(Drop)]
+#[derive(Clone, Copy)]
 pub struct Form;
 
 impl Form {

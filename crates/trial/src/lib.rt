@@ -1,4 +1,6 @@
 // What the test programs of the C entries and of the reader ask, and how test programs show numbers, bytes and answers on standard output.
+#![tactic(auto)]
+
 mod answers;
 mod bytes;
 mod given;

@@ -4,7 +4,7 @@ ghost use Rattle.validator.specs.Answers.{answer_of};
 
 // What an entry answers: a refusal's number; yes or no; none; how many bytes and levels a form has that it measured; the same of a type
 // that it wrote; of an attribute's type, behind whether it is required; how many bytes a name list has that it wrote.
-#[derive(Drop)]
+#[derive(Clone, Copy)]
 pub enum Answer {
     Refused(u8),
     Yes,

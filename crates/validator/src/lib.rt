@@ -1,4 +1,6 @@
 // The public entries: each asks the questions of its call in order, and answers or refuses by number.
+#![tactic(auto)]
+
 pub mod all_attributes;
 pub mod answers;
 pub mod are_types_disjoint;

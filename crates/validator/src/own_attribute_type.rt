@@ -15,7 +15,7 @@ use schemas::sections::Sections;
 use schemas::whole::{Checked, check_schema};
 
 // What the entry says beside the part, where it is no refusal's number.
-#[derive(Drop)]
+#[derive(Clone, Copy)]
 pub struct Told;
 
 impl Told {
@@ -27,7 +27,7 @@ impl Told {
 }
 
 // Where the attribute stands in the form that lists it: a refusal's number; none; its start and end, and whether it is required.
-#[derive(Drop)]
+#[derive(Clone, Copy)]
 pub enum OwnPart {
     Refused(u8),
     Nothing,

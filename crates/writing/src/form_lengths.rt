@@ -5,7 +5,7 @@ ghost use Rattle.writing.specs.FormLengths.{cap, plus};
 use forms::limits::Limits;
 
 // A length of at most one byte more than the largest form that any limits allow, or the number of a refusal.
-#[derive(Drop)]
+#[derive(Clone, Copy)]
 pub enum FormLength {
     Of(usize),
     Not(u8),

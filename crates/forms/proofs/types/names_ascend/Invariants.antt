@@ -1,0 +1,13 @@
+use Prim.Native.Nat.{◌*◌, ◌≤◌}
+use mathlib.Core.Path.{◌≡◌, refl}
+use lib.ListN.{length}
+use native.Mathlib.Omega.{arith}
+use Rattle.forms.specs.TypeBytes.{names_up}
+use Rattle.forms.specs.Laws.Types.{NamesLeft, names-start, names-low, names-again, names-end}
+use Rattle.forms.proofs.types.names_ascend.Given as goal
+
+abbrev pub invariant-loop-left : goal.invariant-loop-left
+invariant-loop-left l = NamesLeft l.n l.names l.left l.low l.b
+
+abbrev pub decreases-loop-left : goal.decreases-loop-left
+decreases-loop-left l = l.left
