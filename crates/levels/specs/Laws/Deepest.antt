@@ -94,15 +94,15 @@ module _ (f : Form) (l width c : ℕ) (b : List ℕ) (h : table_fits (body_row w
       }
 
 -- No body left, no byte left.
-none_left : (f : Form) (l width left : ℕ) (e b : List ℕ) → rows_to (body_row width) (λ _. whole_form f l) none_left left tt e b ≡ true → left ≡ 0 →
+no_body_no_byte : (f : Form) (l width left : ℕ) (e b : List ℕ) → rows_to (body_row width) (λ _. whole_form f l) none_left left tt e b ≡ true → left ≡ 0 →
     length b ≡ 0
 unfolding rows_to
-none_left f l width zero e b h z = eqb-true (length b) 0 h
-none_left f l width (suc n) e b h z = absurd (omega arith)
+no_body_no_byte f l width zero e b h z = eqb-true (length b) 0 h
+no_body_no_byte f l width (suc n) e b h z = absurd (omega arith)
 
 module _ {f : Form} {l width all left : ℕ} {e b : List ℕ} {most : ℕ} (i : BodiesAhead f l width all left e b most) where
   pub bodies-left : left + most ≤ length b → 0 < left
-  bodies-left h = pos left λ z. absurd (omega (arith, i.some, h, none_left f l width left e b i.rows.good z))
+  bodies-left h = pos left λ z. absurd (omega (arith, i.some, h, no_body_no_byte f l width left e b i.rows.good z))
 
   pub bodies-end : length b < left + most → most ≡ all
   bodies-end h = omega (arith, i.same, (rows_few f l width left e b i.bytes i.rows.good).1)

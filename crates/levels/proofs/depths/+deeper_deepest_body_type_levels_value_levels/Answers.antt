@@ -1,0 +1,378 @@
+use mathlib.Core.Path.{ap, sym, ◌∙◌}
+use mathlib.Core.List.{List}
+use mathlib.Core.Logic.{inl, inr}
+use Rattle.cedar.specs.Levels.{depth, depth_value}
+use Prim.Native.Nat.{suc, ◌+◌, ◌*◌, ◌-◌, max}
+use native.Mathlib.Omega.{arith}
+use borrow.Author.Rules.{rules}
+use Rattle.forms.specs.Rows.{body_row}
+use Rattle.forms.specs.TypeBytes.{whole, dec}
+use Rattle.forms.specs.ValueBytes.{member_row, pair_row, whole_v, dec_v}
+use Rattle.forms.specs.Laws.Parts.{rest_0}
+use Rattle.forms.specs.Laws.Bytes.{Bytes-index}
+use Rattle.forms.specs.Laws.Bodies.{table-bodies}
+use Rattle.forms.specs.Laws.Ahead.{table-count, table-entries, ahead-room, ahead-inside, ahead-body}
+use Rattle.forms.specs.Laws.Views.{not-empty, whole-level, is_set}
+use Rattle.forms.specs.Laws.Values.{value-level, value-first, value_as}
+use Rattle.levels.specs.declared.depths.Form.{Form}
+use Rattle.levels.specs.declared.depths.Form.TheVariants.{Types as types, Values as values}
+use Rattle.levels.specs.Deepest.{whole_form, levels_in, deepest_at}
+use Rattle.levels.specs.Laws.Deepest.{levels-bounds, BodiesAhead, bodies-none, bodies-start, bodies-left, bodies-end, bodies-passed, bodies-again}
+use Rattle.levels.specs.Laws.Deepest.{SetsAbove, sets-start, sets-again, sets_end}
+use Rattle.levels.specs.Laws.Deepest.{record-levels, action-levels, lone-levels, record-bodies, action-bodies}
+use Rattle.levels.specs.Laws.Deepest.{set-value-levels, record-value-levels, call-levels, lone-value-levels}
+use Prim.Native.Nat.{ℕ, ◌<◌}
+use Rattle.levels.proofs.depths.+deeper_deepest_body_type_levels_value_levels.Goals as goal
+
+pub deeper-type_levels-requires : goal.deeper-type_levels-requires
+deeper-type_levels-requires t c =
+    let args = c.args in
+    (omega arith, rw (rest_0 args.b.now) (sym (ap (λ (f : Form). whole_form f args.levels args.b.now) c.in-Types.is) ∙ c.requires))
+
+pub deeper-value_levels-requires : goal.deeper-value_levels-requires
+deeper-value_levels-requires t c =
+    let args = c.args in
+    (omega arith, rw (rest_0 args.b.now) (sym (ap (λ (f : Form). whole_form f args.levels args.b.now) c.in-Values.is) ∙ c.requires))
+
+pub deeper-returns-in-Types : goal.deeper-returns-in-Types
+deeper-returns-in-Types t c =
+    let args = c.args in
+    let levels = c.type_levels.ensures ∙ ap (λ (x : List ℕ). depth (dec args.levels x)) (rest_0 args.b.now) in
+    c.larger.ensures ∙ ap (max args.most) (levels ∙ sym (ap (λ (f : Form). levels_in f args.levels args.b.now) c.in-Types.is))
+
+pub deeper-returns-in-Values : goal.deeper-returns-in-Values
+deeper-returns-in-Values t c =
+    let args = c.args in
+    let levels = c.value_levels.ensures ∙ ap (λ (x : List ℕ). depth_value (dec_v args.levels x)) (rest_0 args.b.now) in
+    c.larger-in-Values.ensures ∙ ap (max args.most) (levels ∙ sym (ap (λ (f : Form). levels_in f args.levels args.b.now) c.in-Values.is))
+
+pub deepest_body-u16_at-n-requires : goal.deepest_body-u16_at-n-requires
+deepest_body-u16_at-n-requires t c =
+    let args = c.args in
+    omega (arith, table-count (body_row args.width) (λ _. whole_form args.form args.levels) tt args.at args.t.now c.requires.t_value)
+
+pub deepest_body-overflow_mul-end : goal.deepest_body-overflow_mul-end
+deepest_body-overflow_mul-end t c =
+    let count = c.u16_at-n in
+    let args = c.args in
+    omega (arith, table-entries (body_row args.width) (λ _. whole_form args.form args.levels) tt args.at args.t.now c.requires.t_value count.result count.ensures.0)
+
+pub deepest_body-overflow_add-end : goal.deepest_body-overflow_add-end
+deepest_body-overflow_add-end t c =
+    let count = c.u16_at-n in
+    let args = c.args in
+    omega (arith, table-entries (body_row args.width) (λ _. whole_form args.form args.levels) tt args.at args.t.now c.requires.t_value count.result count.ensures.0)
+
+pub deepest_body-returns-then-n-eq0 : goal.deepest_body-returns-then-n-eq0
+deepest_body-returns-then-n-eq0 t c =
+    let count = c.u16_at-n in
+    let args = c.args in
+    bodies-none args.form args.levels args.width args.at args.t.now c.requires.t_value count.result count.ensures.0 c.if-n-eq0.true
+
+pub deepest_body-slice_bounds-e-count : goal.deepest_body-slice_bounds-e-count
+deepest_body-slice_bounds-e-count t c =
+    let count = c.u16_at-n in
+    let args = c.args in
+    omega (arith, table-entries (body_row args.width) (λ _. whole_form args.form args.levels) tt args.at args.t.now c.requires.t_value count.result count.ensures.0)
+
+pub deepest_body-slice_bounds-e-start : goal.deepest_body-slice_bounds-e-start
+deepest_body-slice_bounds-e-start t c =
+    let count = c.u16_at-n in
+    let args = c.args in
+    omega (arith, table-entries (body_row args.width) (λ _. whole_form args.form args.levels) tt args.at args.t.now c.requires.t_value count.result count.ensures.0)
+
+pub deepest_body-slice_bounds-e-end : goal.deepest_body-slice_bounds-e-end
+deepest_body-slice_bounds-e-end t c =
+    let count = c.u16_at-n in
+    let args = c.args in
+    omega (arith, table-entries (body_row args.width) (λ _. whole_form args.form args.levels) tt args.at args.t.now c.requires.t_value count.result count.ensures.0)
+
+pub deepest_body-slice_bounds-b-count : goal.deepest_body-slice_bounds-b-count
+deepest_body-slice_bounds-b-count t c =
+    let count = c.u16_at-n in
+    let args = c.args in
+    omega (arith, table-entries (body_row args.width) (λ _. whole_form args.form args.levels) tt args.at args.t.now c.requires.t_value count.result count.ensures.0)
+
+pub deepest_body-slice_bounds-b-start : goal.deepest_body-slice_bounds-b-start
+deepest_body-slice_bounds-b-start t c =
+    let count = c.u16_at-n in
+    let args = c.args in
+    omega (arith, table-entries (body_row args.width) (λ _. whole_form args.form args.levels) tt args.at args.t.now c.requires.t_value count.result count.ensures.0)
+
+-- ?? known shared_slice_known-1.
+-- ?? known shared_slice_known-1.given
+pub deepest_body-loop-left-init : goal.deepest_body-loop-left-init
+deepest_body-loop-left-init t c =
+    let if1 = c.if-n-eq0 in
+    let count = c.u16_at-n in
+    let known = c.shared_slice_known-1 in
+    let args = c.args in
+    bodies-start args.form args.levels args.width args.at args.t.now c.requires.t_value count.result count.ensures.0 (Bytes-index args.t.now (λ i. (known.given i).fits)) count.ensures.1 if1.false
+
+pub deepest_body-overflow_add-left : goal.deepest_body-overflow_add-left
+deepest_body-overflow_add-left t c = omega (arith, c.loop-left.invariant.small.0, c.loop-left.invariant.small.1)
+
+pub deepest_body-u16_at-len-requires : goal.deepest_body-u16_at-len-requires
+deepest_body-u16_at-len-requires t c =
+    let loop = c.loop-left in
+    omega (arith, ahead-room loop.invariant.rows (bodies-left loop.invariant c.loop-left-test.true))
+
+pub deepest_body-slice_bounds-deeper-end : goal.deepest_body-slice_bounds-deeper-end
+deepest_body-slice_bounds-deeper-end t c =
+    let size = c.u16_at-len in
+    let loop = c.loop-left in
+    omega (arith, ahead-inside loop.invariant.rows (bodies-left loop.invariant c.loop-left-test.true) size.result size.ensures.0)
+
+pub deepest_body-deeper-most-requires : goal.deepest_body-deeper-most-requires
+deepest_body-deeper-most-requires t c =
+    let size = c.u16_at-len in
+    let loop = c.loop-left in
+    (omega arith, ahead-body loop.invariant.rows (bodies-left loop.invariant c.loop-left-test.true) size.result size.ensures.0)
+
+pub deepest_body-slice_bounds-e-count-in-loop-left : goal.deepest_body-slice_bounds-e-count-in-loop-left
+deepest_body-slice_bounds-e-count-in-loop-left t c =
+    let loop = c.loop-left in
+    omega (arith, ahead-room loop.invariant.rows (bodies-left loop.invariant c.loop-left-test.true))
+
+pub deepest_body-slice_bounds-e-start-in-loop-left : goal.deepest_body-slice_bounds-e-start-in-loop-left
+deepest_body-slice_bounds-e-start-in-loop-left t c =
+    let loop = c.loop-left in
+    omega (arith, ahead-room loop.invariant.rows (bodies-left loop.invariant c.loop-left-test.true))
+
+pub deepest_body-slice_bounds-b-count-in-loop-left : goal.deepest_body-slice_bounds-b-count-in-loop-left
+deepest_body-slice_bounds-b-count-in-loop-left t c =
+    let size = c.u16_at-len in
+    let loop = c.loop-left in
+    omega (arith, ahead-inside loop.invariant.rows (bodies-left loop.invariant c.loop-left-test.true) size.result size.ensures.0)
+
+pub deepest_body-slice_bounds-b-start-in-loop-left : goal.deepest_body-slice_bounds-b-start-in-loop-left
+deepest_body-slice_bounds-b-start-in-loop-left t c =
+    let size = c.u16_at-len in
+    let loop = c.loop-left in
+    omega (arith, ahead-inside loop.invariant.rows (bodies-left loop.invariant c.loop-left-test.true) size.result size.ensures.0)
+
+pub deepest_body-overflow_sub-left : goal.deepest_body-overflow_sub-left
+deepest_body-overflow_sub-left t c =
+    let loop = c.loop-left in
+    omega (arith, bodies-left loop.invariant c.loop-left-test.true)
+
+pub deepest_body-loop-left-smaller : goal.deepest_body-loop-left-smaller
+deepest_body-loop-left-smaller t c =
+    let loop = c.loop-left in
+    omega (arith, bodies-left loop.invariant c.loop-left-test.true)
+
+pub deepest_body-loop-left-preserved : goal.deepest_body-loop-left-preserved
+deepest_body-loop-left-preserved t c =
+    let if2 = c.if-most-len in
+    let size = c.u16_at-len in
+    let loop = c.loop-left in
+    let some = bodies-left loop.invariant c.loop-left-test.true in
+    bodies-again loop.invariant some size.result size.ensures.0 size.ensures.1 if2.most (elim if2.branch [
+      | inl found ↦ found.3 ∙ found.2.ensures
+      | inr passed ↦ passed.1 ∙ bodies-passed loop.invariant some size.result size.ensures.0 (omega (arith, passed.0.left))
+    ])
+
+pub deepest_body-returns : goal.deepest_body-returns
+deepest_body-returns t c = bodies-end c.loop-left.invariant (omega arith)
+
+pub type_levels-loop-b-init : goal.type_levels-loop-b-init
+type_levels-loop-b-init t c =
+    let args = c.args in
+    sets-start args.levels args.t.now c.requires
+
+pub type_levels-bounds-b-0 : goal.type_levels-bounds-b-0
+type_levels-bounds-b-0 t c =
+    let loop = c.loop-b in
+    omega (arith, not-empty loop.left loop.b.now loop.invariant.good)
+
+pub type_levels-slice_bounds-b-count-in-loop-b : goal.type_levels-slice_bounds-b-count-in-loop-b
+type_levels-slice_bounds-b-count-in-loop-b t c =
+    let loop = c.loop-b in
+    omega (arith, not-empty loop.left loop.b.now loop.invariant.good)
+
+pub type_levels-slice_bounds-b-start-in-loop-b : goal.type_levels-slice_bounds-b-start-in-loop-b
+type_levels-slice_bounds-b-start-in-loop-b t c =
+    let loop = c.loop-b in
+    omega (arith, not-empty loop.left loop.b.now loop.invariant.good)
+
+pub type_levels-overflow_sub-left : goal.type_levels-overflow_sub-left
+type_levels-overflow_sub-left t c =
+    let loop = c.loop-b in
+    omega (arith, (is_set loop.left loop.b.now loop.invariant.good c.loop-b-test.true).deep)
+
+pub type_levels-loop-b-smaller : goal.type_levels-loop-b-smaller
+type_levels-loop-b-smaller t c =
+    let loop = c.loop-b in
+    omega (arith, (is_set loop.left loop.b.now loop.invariant.good c.loop-b-test.true).deep)
+
+pub type_levels-loop-b-preserved : goal.type_levels-loop-b-preserved
+type_levels-loop-b-preserved t c =
+    let loop = c.loop-b in
+    sets-again loop.invariant c.loop-b-test.true
+
+pub type_levels-overflow_sub-above : goal.type_levels-overflow_sub-above
+type_levels-overflow_sub-above t c =
+    let loop = c.loop-b in
+    omega (arith, loop.invariant.few)
+
+pub type_levels-overflow_add-above : goal.type_levels-overflow_add-above
+type_levels-overflow_add-above t c =
+    let loop = c.loop-b in
+    omega (arith, loop.invariant.few, whole-level loop.left loop.b.now loop.invariant.good)
+
+pub type_levels-overflow_sub-below : goal.type_levels-overflow_sub-below
+type_levels-overflow_sub-below t c =
+    let loop = c.loop-b in
+    omega (arith, whole-level loop.left loop.b.now loop.invariant.good)
+
+pub type_levels-bounds-b-0-2 : goal.type_levels-bounds-b-0-2
+type_levels-bounds-b-0-2 t c =
+    let loop = c.loop-b in
+    omega (arith, not-empty loop.left loop.b.now loop.invariant.good)
+
+pub type_levels-deepest_body-requires : goal.type_levels-deepest_body-requires
+type_levels-deepest_body-requires t c =
+    let loop = c.loop-b in
+    (omega (arith, loop.invariant.few, whole-level loop.left loop.b.now loop.invariant.good), (omega arith, record-bodies loop.left loop.b.now loop.invariant.good c.in-8.is))
+
+-- ?? known shared_slice_known-1.
+-- ?? known shared_slice_known-1.given
+pub type_levels-overflow_add-result : goal.type_levels-overflow_add-result
+type_levels-overflow_add-result t c =
+    let walk = c.deepest_body in
+    let loop = c.loop-b in
+    let known = c.shared_slice_known-1 in
+    let args = c.args in
+    let sum = sets_end loop.invariant walk.result (record-levels loop.left loop.b.now loop.invariant.good c.in-8.is ∙ ap suc (sym walk.ensures)) in
+    let most = levels-bounds types args.levels args.t.now (Bytes-index args.t.now (λ i. (known.given i).fits)) c.requires in
+    omega (arith, sum, most.0)
+
+pub type_levels-deepest_body-requires-in-11 : goal.type_levels-deepest_body-requires-in-11
+type_levels-deepest_body-requires-in-11 t c =
+    let loop = c.loop-b in
+    (omega (arith, loop.invariant.few, whole-level loop.left loop.b.now loop.invariant.good), (omega arith, action-bodies loop.left loop.b.now loop.invariant.good c.in-11.is))
+
+-- ?? known shared_slice_known-1.
+-- ?? known shared_slice_known-1.given
+pub type_levels-overflow_add-result-in-11 : goal.type_levels-overflow_add-result-in-11
+type_levels-overflow_add-result-in-11 t c =
+    let walk = c.deepest_body-in-11 in
+    let loop = c.loop-b in
+    let known = c.shared_slice_known-1 in
+    let args = c.args in
+    let sum = sets_end loop.invariant walk.result (action-levels loop.left loop.b.now loop.invariant.good c.in-11.is ∙ ap suc (sym walk.ensures)) in
+    let most = levels-bounds types args.levels args.t.now (Bytes-index args.t.now (λ i. (known.given i).fits)) c.requires in
+    omega (arith, sum, most.0)
+
+pub type_levels-returns-in-8 : goal.type_levels-returns-in-8
+type_levels-returns-in-8 t c =
+    let walk = c.deepest_body in
+    let loop = c.loop-b in
+    let sum = sets_end loop.invariant walk.result (record-levels loop.left loop.b.now loop.invariant.good c.in-8.is ∙ ap suc (sym walk.ensures)) in
+    sum
+
+pub type_levels-returns-in-11 : goal.type_levels-returns-in-11
+type_levels-returns-in-11 t c =
+    let walk = c.deepest_body-in-11 in
+    let loop = c.loop-b in
+    let sum = sets_end loop.invariant walk.result (action-levels loop.left loop.b.now loop.invariant.good c.in-11.is ∙ ap suc (sym walk.ensures)) in
+    sum
+
+pub type_levels-returns-in_default : goal.type_levels-returns-in_default
+type_levels-returns-in_default t c =
+    let loop = c.loop-b in
+    let lone = lone-levels loop.left loop.b.now loop.invariant.good c.loop-b-test.false c.in_default.in_default-own.rest.0.1 c.in_default.in_default-own.rest.1 in
+    omega (arith, sets_end loop.invariant 0 lone)
+
+pub value_levels-overflow_sub-below : goal.value_levels-overflow_sub-below
+value_levels-overflow_sub-below t c =
+    let args = c.args in
+    omega (arith, value-level args.levels args.v.now c.requires)
+
+pub value_levels-bounds-v-0 : goal.value_levels-bounds-v-0
+value_levels-bounds-v-0 t c =
+    let args = c.args in
+    omega (arith, value-first args.levels args.v.now c.requires)
+
+pub value_levels-deepest_body-requires : goal.value_levels-deepest_body-requires
+value_levels-deepest_body-requires t c =
+    let args = c.args in
+    let whole = value_as args.levels args.v.now c.requires 5 c.in-5.is in
+    (omega (arith, value-level args.levels args.v.now c.requires), (omega arith, rw (rest_0 args.v.now) (whole)))
+
+-- ?? known shared_slice_known-1.
+-- ?? known shared_slice_known-1.given
+pub value_levels-overflow_add-result : goal.value_levels-overflow_add-result
+value_levels-overflow_add-result t c =
+    let walk = c.deepest_body in
+    let known = c.shared_slice_known-1 in
+    let args = c.args in
+    let below = walk.ensures ∙ ap (deepest_at values (args.levels - 1) 2 1) (rest_0 args.v.now) in
+    let sum = set-value-levels args.levels args.v.now c.requires c.in-5.is in
+    let most = levels-bounds values args.levels args.v.now (Bytes-index args.v.now (λ i. (known.given i).fits)) c.requires in
+    omega (arith, below, sum, most.0)
+
+pub value_levels-deepest_body-requires-in-6 : goal.value_levels-deepest_body-requires-in-6
+value_levels-deepest_body-requires-in-6 t c =
+    let args = c.args in
+    let whole = value_as args.levels args.v.now c.requires 6 c.in-6.is in
+    (omega (arith, value-level args.levels args.v.now c.requires), (omega arith, rw (rest_0 args.v.now) (table-bodies pair_row (whole_v (args.levels - 1)) 0 1 args.v.now whole)))
+
+-- ?? known shared_slice_known-1.
+-- ?? known shared_slice_known-1.given
+pub value_levels-overflow_add-result-in-6 : goal.value_levels-overflow_add-result-in-6
+value_levels-overflow_add-result-in-6 t c =
+    let walk = c.deepest_body-in-6 in
+    let known = c.shared_slice_known-1 in
+    let args = c.args in
+    let below = walk.ensures ∙ ap (deepest_at values (args.levels - 1) 4 1) (rest_0 args.v.now) in
+    let sum = record-value-levels args.levels args.v.now c.requires c.in-6.is in
+    let most = levels-bounds values args.levels args.v.now (Bytes-index args.v.now (λ i. (known.given i).fits)) c.requires in
+    omega (arith, below, sum, most.0)
+
+pub value_levels-deepest_body-requires-in-7 : goal.value_levels-deepest_body-requires-in-7
+value_levels-deepest_body-requires-in-7 t c =
+    let args = c.args in
+    let whole = value_as args.levels args.v.now c.requires 7 c.in-7.is in
+    (omega (arith, value-level args.levels args.v.now c.requires), (omega arith, rw (rest_0 args.v.now) (whole)))
+
+-- ?? known shared_slice_known-1.
+-- ?? known shared_slice_known-1.given
+pub value_levels-overflow_add-result-in-7 : goal.value_levels-overflow_add-result-in-7
+value_levels-overflow_add-result-in-7 t c =
+    let walk = c.deepest_body-in-7 in
+    let known = c.shared_slice_known-1 in
+    let args = c.args in
+    let below = walk.ensures ∙ ap (deepest_at values (args.levels - 1) 2 3) (rest_0 args.v.now) in
+    let sum = call-levels args.levels args.v.now c.requires c.in-7.is in
+    let most = levels-bounds values args.levels args.v.now (Bytes-index args.v.now (λ i. (known.given i).fits)) c.requires in
+    omega (arith, below, sum, most.0)
+
+pub value_levels-returns-in-5 : goal.value_levels-returns-in-5
+value_levels-returns-in-5 t c =
+    let walk = c.deepest_body in
+    let args = c.args in
+    let below = walk.ensures ∙ ap (deepest_at values (args.levels - 1) 2 1) (rest_0 args.v.now) in
+    let sum = set-value-levels args.levels args.v.now c.requires c.in-5.is in
+    omega (arith, below, sum)
+
+pub value_levels-returns-in-6 : goal.value_levels-returns-in-6
+value_levels-returns-in-6 t c =
+    let walk = c.deepest_body-in-6 in
+    let args = c.args in
+    let below = walk.ensures ∙ ap (deepest_at values (args.levels - 1) 4 1) (rest_0 args.v.now) in
+    let sum = record-value-levels args.levels args.v.now c.requires c.in-6.is in
+    omega (arith, below, sum)
+
+pub value_levels-returns-in-7 : goal.value_levels-returns-in-7
+value_levels-returns-in-7 t c =
+    let walk = c.deepest_body-in-7 in
+    let args = c.args in
+    let below = walk.ensures ∙ ap (deepest_at values (args.levels - 1) 2 3) (rest_0 args.v.now) in
+    let sum = call-levels args.levels args.v.now c.requires c.in-7.is in
+    omega (arith, below, sum)
+
+pub value_levels-returns-in_default : goal.value_levels-returns-in_default
+value_levels-returns-in_default t c =
+    let args = c.args in
+    sym (lone-value-levels args.levels args.v.now c.requires c.in_default.in_default-own.rest.0.0.1 c.in_default.in_default-own.rest.0.1 c.in_default.in_default-own.rest.1)

@@ -1,0 +1,14 @@
+use native.Mathlib.Omega.{arith}
+use lib.Dec.{eqb}
+use Rattle.forms.specs.Laws.Attributes.{laid}
+use Rattle.forms.specs.TypeBytes.{names_by}
+use Rattle.relations.specs.Meets.{all_covered}
+use Rattle.relations.specs.Laws.Covered.{Covering, covering-start, covering-end, covering-past, covering-core, covering-not, covering-again}
+use borrow.Author.Rules.{rules}
+use Rattle.relations.proofs.is_consistent_with.names_covered.Given as goal
+
+abbrev pub invariant-loop-left : goal.invariant-loop-left
+invariant-loop-left l = Covering (eqb l.openness 1) (all_covered l.n (eqb l.openness 1) (names_by 5 l.m l.fs) l.es) l.m l.left l.e l.more l.f l.c
+
+abbrev pub decreases-loop-left : goal.decreases-loop-left
+decreases-loop-left l = l.left

@@ -1,0 +1,45 @@
+use mathlib.Core.Path.{◌≡◌, refl, ◌∙◌}
+use mathlib.Core.Bool.{false}
+use mathlib.Core.Logic.{⊎_elim}
+use native.Mathlib.Omega.{arith}
+use Rattle.cedar.specs.Disjoint.{shares}
+use Rattle.relations.specs.Laws.Names.{Walk, walk_start, walk-second, shares-skip, share-end, share-hit, share-over, share-past}
+use borrow.Author.Rules.{rules}
+use Rattle.relations.proofs.names.names_share.Goals as goal
+
+pub search-init : goal.search-init
+search-init c =     (walk_start c.requires.ascending c.requires.ascending_2, refl)
+
+pub loop-more-init : goal.loop-more-init
+loop-more-init c =
+    let search-step = c.search in
+    search-step.invariant
+
+pub loop-more-preserved : goal.loop-more-preserved
+loop-more-preserved c =
+    let if1 = c.if-x-y in
+    let y = c.u16_at-y in
+    let by-walk-second = walk-second c.loop-more.invariant.0 c.search-test.true c.loop-more-test.true
+    shares-skip c.u16_at-x.result y.result c.u16_at-x.ensures.0 y.ensures.0
+    (omega (arith, if1.false, c.if-x-y-2.false)) in
+    (by-walk-second, c.loop-more.invariant.1)
+
+pub search-preserved : goal.search-preserved
+search-preserved c =
+    let loop = c.loop-more in
+    let x = c.u16_at-x in
+    let l = loop.invariant in
+    let p = c.search-test.true in
+    let ⊎-elim-came = ⊎_elim (λ w. share-over l.0 p x.result x.ensures.0 w.left)
+    (λ w. share-past l.0 p x.result x.ensures.0 w.0.taken w.1.result w.1.ensures.0 w.3.taken) c.loop-more-test.branch in
+    (⊎-elim-came, l.1)
+
+pub returns-after-search : goal.returns-after-search
+returns-after-search c =     c.search.invariant.1 ∙ share-end c.search.invariant.0 c.search-test.false
+
+pub returns-then-x-y : goal.returns-then-x-y
+returns-then-x-y c =
+    let loop-test = c.loop-more-test in
+    let loop = c.loop-more in
+    share-hit loop.invariant.0 c.search-test.true c.u16_at-x.result c.u16_at-x.ensures.0 loop-test.true
+    c.u16_at-y.result c.u16_at-y.ensures.0 c.if-x-y.true

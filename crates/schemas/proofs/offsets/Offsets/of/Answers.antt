@@ -1,0 +1,17 @@
+use mathlib.Core.Path.{◌∙◌}
+use Rattle.schemas.specs.Laws.Offsets.{of-whole, of-broken}
+use borrow.Author.Rules.{rules}
+use Rattle.schemas.proofs.offsets.Offsets.of.Goals as goal
+
+pub returns-in-Whole : goal.returns-in-Whole
+returns-in-Whole c =
+    let args = c.args in
+    of-whole args.limits args.s.now c.check_schema.result c.check_schema.ensures c.«c».given.0.0
+    c.«c».given.1
+
+pub returns-in-Broken : goal.returns-in-Broken
+returns-in-Broken c =
+    let args = c.args in
+    c.broken.ensures
+    ∙ of-broken args.limits args.s.now c.check_schema.result c.check_schema.ensures c.in-Broken.field-0
+    c.in-Broken.is

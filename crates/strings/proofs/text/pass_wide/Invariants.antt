@@ -1,0 +1,12 @@
+use Prim.Native.Nat.{◌-◌}
+use lib.ListN.{length}
+use native.Mathlib.Omega.{arith}
+use Rattle.strings.specs.Steps.{Passes}
+use Rattle.strings.specs.Laws.Steps.{passes_none, passes-width, wide-stop, wide-end, wide-none}
+use Rattle.strings.proofs.text.pass_wide.Given as goal
+
+abbrev pub invariant-loop-i : goal.invariant-loop-i
+invariant-loop-i l = Passes l.b l.at l.i
+
+abbrev pub decreases-loop-i : goal.decreases-loop-i
+decreases-loop-i l = length l.b - l.i

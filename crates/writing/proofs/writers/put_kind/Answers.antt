@@ -1,0 +1,12 @@
+use lib.ListN.{length-set}
+use native.Mathlib.Omega.{arith}
+use lib.Seq.{sets-eq}
+use mathlib.Core.List.{[], ◌∷◌}
+use borrow.Author.Rules.{rules}
+use Rattle.writing.proofs.writers.put_kind.Goals as goal
+
+pub bounds-out-1 : goal.bounds-out-1
+bounds-out-1 c = simp length-set (omega arith)
+
+pub returns : goal.returns
+returns c = sets-eq (_ ∷ _ ∷ _ ∷ []) c.args.out.now 0 c.requires.0
