@@ -23,6 +23,7 @@ use Rattle.levels.specs.Laws.Deepest.{record-levels, action-levels, lone-levels,
 use Rattle.levels.specs.Laws.Deepest.{set-value-levels, record-value-levels, call-levels, lone-value-levels}
 use Prim.Native.Nat.{ℕ, ◌<◌}
 use Rattle.levels.proofs.depths.+deeper_deepest_body_type_levels_value_levels.Goals as goal
+use Rattle.levels.proofs.depths.+deeper_deepest_body_type_levels_value_levels.Goals.{deepest_body-then-most-len, deepest_body-else-most-len}
 
 pub deeper-type_levels-requires : goal.deeper-type_levels-requires
 deeper-type_levels-requires t c =
@@ -99,15 +100,12 @@ deepest_body-slice_bounds-b-start t c =
     let args = c.args in
     omega (arith, table-entries (body_row args.width) (λ _. whole_form args.form args.levels) tt args.at args.t.now c.requires.t_value count.result count.ensures.0)
 
--- ?? known shared_slice_known-1.
--- ?? known shared_slice_known-1.given
 pub deepest_body-loop-left-init : goal.deepest_body-loop-left-init
 deepest_body-loop-left-init t c =
     let if1 = c.if-n-eq0 in
     let count = c.u16_at-n in
-    let known = c.shared_slice_known-1 in
     let args = c.args in
-    bodies-start args.form args.levels args.width args.at args.t.now c.requires.t_value count.result count.ensures.0 (Bytes-index args.t.now (λ i. (known.given i).fits)) count.ensures.1 if1.false
+    bodies-start args.form args.levels args.width args.at args.t.now c.requires.t_value count.result count.ensures.0 (Bytes-index args.t.now (λ i. (c.type_inv.t i).fits)) count.ensures.1 if1.false
 
 pub deepest_body-overflow_add-left : goal.deepest_body-overflow_add-left
 deepest_body-overflow_add-left t c = omega (arith, c.loop-left.invariant.small.0, c.loop-left.invariant.small.1)
@@ -168,8 +166,8 @@ deepest_body-loop-left-preserved t c =
     let loop = c.loop-left in
     let some = bodies-left loop.invariant c.loop-left-test.true in
     bodies-again loop.invariant some size.result size.ensures.0 size.ensures.1 if2.most (elim if2.branch [
-      | inl found ↦ found.3 ∙ found.2.ensures
-      | inr passed ↦ passed.1 ∙ bodies-passed loop.invariant some size.result size.ensures.0 (omega (arith, passed.0.left))
+      | deepest_body-then-most-len w ↦ w.most-is ∙ w.deeper-most.ensures
+      | deepest_body-else-most-len w ↦ w.most-is ∙ bodies-passed loop.invariant some size.result size.ensures.0 (omega (arith, w.if-most-len.false))
     ])
 
 pub deepest_body-returns : goal.deepest_body-returns
@@ -235,16 +233,13 @@ type_levels-deepest_body-requires t c =
     let loop = c.loop-b in
     (omega (arith, loop.invariant.few, whole-level loop.left loop.b.now loop.invariant.good), (omega arith, record-bodies loop.left loop.b.now loop.invariant.good c.in-8.is))
 
--- ?? known shared_slice_known-1.
--- ?? known shared_slice_known-1.given
 pub type_levels-overflow_add-result : goal.type_levels-overflow_add-result
 type_levels-overflow_add-result t c =
     let walk = c.deepest_body in
     let loop = c.loop-b in
-    let known = c.shared_slice_known-1 in
     let args = c.args in
     let sum = sets_end loop.invariant walk.result (record-levels loop.left loop.b.now loop.invariant.good c.in-8.is ∙ ap suc (sym walk.ensures)) in
-    let most = levels-bounds types args.levels args.t.now (Bytes-index args.t.now (λ i. (known.given i).fits)) c.requires in
+    let most = levels-bounds types args.levels args.t.now (Bytes-index args.t.now (λ i. (c.type_inv.t i).fits)) c.requires in
     omega (arith, sum, most.0)
 
 pub type_levels-deepest_body-requires-in-11 : goal.type_levels-deepest_body-requires-in-11
@@ -252,16 +247,13 @@ type_levels-deepest_body-requires-in-11 t c =
     let loop = c.loop-b in
     (omega (arith, loop.invariant.few, whole-level loop.left loop.b.now loop.invariant.good), (omega arith, action-bodies loop.left loop.b.now loop.invariant.good c.in-11.is))
 
--- ?? known shared_slice_known-1.
--- ?? known shared_slice_known-1.given
 pub type_levels-overflow_add-result-in-11 : goal.type_levels-overflow_add-result-in-11
 type_levels-overflow_add-result-in-11 t c =
     let walk = c.deepest_body-in-11 in
     let loop = c.loop-b in
-    let known = c.shared_slice_known-1 in
     let args = c.args in
     let sum = sets_end loop.invariant walk.result (action-levels loop.left loop.b.now loop.invariant.good c.in-11.is ∙ ap suc (sym walk.ensures)) in
-    let most = levels-bounds types args.levels args.t.now (Bytes-index args.t.now (λ i. (known.given i).fits)) c.requires in
+    let most = levels-bounds types args.levels args.t.now (Bytes-index args.t.now (λ i. (c.type_inv.t i).fits)) c.requires in
     omega (arith, sum, most.0)
 
 pub type_levels-returns-in-8 : goal.type_levels-returns-in-8
@@ -300,16 +292,13 @@ value_levels-deepest_body-requires t c =
     let whole = value_as args.levels args.v.now c.requires 5 c.in-5.is in
     (omega (arith, value-level args.levels args.v.now c.requires), (omega arith, rw (rest_0 args.v.now) (whole)))
 
--- ?? known shared_slice_known-1.
--- ?? known shared_slice_known-1.given
 pub value_levels-overflow_add-result : goal.value_levels-overflow_add-result
 value_levels-overflow_add-result t c =
     let walk = c.deepest_body in
-    let known = c.shared_slice_known-1 in
     let args = c.args in
     let below = walk.ensures ∙ ap (deepest_at values (args.levels - 1) 2 1) (rest_0 args.v.now) in
     let sum = set-value-levels args.levels args.v.now c.requires c.in-5.is in
-    let most = levels-bounds values args.levels args.v.now (Bytes-index args.v.now (λ i. (known.given i).fits)) c.requires in
+    let most = levels-bounds values args.levels args.v.now (Bytes-index args.v.now (λ i. (c.type_inv.v i).fits)) c.requires in
     omega (arith, below, sum, most.0)
 
 pub value_levels-deepest_body-requires-in-6 : goal.value_levels-deepest_body-requires-in-6
@@ -318,16 +307,13 @@ value_levels-deepest_body-requires-in-6 t c =
     let whole = value_as args.levels args.v.now c.requires 6 c.in-6.is in
     (omega (arith, value-level args.levels args.v.now c.requires), (omega arith, rw (rest_0 args.v.now) (table-bodies pair_row (whole_v (args.levels - 1)) 0 1 args.v.now whole)))
 
--- ?? known shared_slice_known-1.
--- ?? known shared_slice_known-1.given
 pub value_levels-overflow_add-result-in-6 : goal.value_levels-overflow_add-result-in-6
 value_levels-overflow_add-result-in-6 t c =
     let walk = c.deepest_body-in-6 in
-    let known = c.shared_slice_known-1 in
     let args = c.args in
     let below = walk.ensures ∙ ap (deepest_at values (args.levels - 1) 4 1) (rest_0 args.v.now) in
     let sum = record-value-levels args.levels args.v.now c.requires c.in-6.is in
-    let most = levels-bounds values args.levels args.v.now (Bytes-index args.v.now (λ i. (known.given i).fits)) c.requires in
+    let most = levels-bounds values args.levels args.v.now (Bytes-index args.v.now (λ i. (c.type_inv.v i).fits)) c.requires in
     omega (arith, below, sum, most.0)
 
 pub value_levels-deepest_body-requires-in-7 : goal.value_levels-deepest_body-requires-in-7
@@ -336,16 +322,13 @@ value_levels-deepest_body-requires-in-7 t c =
     let whole = value_as args.levels args.v.now c.requires 7 c.in-7.is in
     (omega (arith, value-level args.levels args.v.now c.requires), (omega arith, rw (rest_0 args.v.now) (whole)))
 
--- ?? known shared_slice_known-1.
--- ?? known shared_slice_known-1.given
 pub value_levels-overflow_add-result-in-7 : goal.value_levels-overflow_add-result-in-7
 value_levels-overflow_add-result-in-7 t c =
     let walk = c.deepest_body-in-7 in
-    let known = c.shared_slice_known-1 in
     let args = c.args in
     let below = walk.ensures ∙ ap (deepest_at values (args.levels - 1) 2 3) (rest_0 args.v.now) in
     let sum = call-levels args.levels args.v.now c.requires c.in-7.is in
-    let most = levels-bounds values args.levels args.v.now (Bytes-index args.v.now (λ i. (known.given i).fits)) c.requires in
+    let most = levels-bounds values args.levels args.v.now (Bytes-index args.v.now (λ i. (c.type_inv.v i).fits)) c.requires in
     omega (arith, below, sum, most.0)
 
 pub value_levels-returns-in-5 : goal.value_levels-returns-in-5

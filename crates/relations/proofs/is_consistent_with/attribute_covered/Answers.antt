@@ -28,11 +28,9 @@ returns-in_default c =
     args.fs.now args.cs.now c.requires.core_list refl c.u16_at.result c.u16_at.ensures.0 c.find.result
     c.find.ensures c.if-e-ne-REQUIRED.false c.in_default.is
 
--- ?? known enum_told-1.given
 pub returns : goal.returns
 returns c =
-    let g = c.enum_told-1.given in
     let args = c.args in
     covered-found (eqb args.openness 1) (names_by 5 args.m args.fs.now) args.e.now (ne_eqb args.openness 1 c.if-openness-eq-OPEN.false) args.m
     args.fs.now args.cs.now c.requires.core_list refl c.u16_at.result c.u16_at.ensures.0 c.find.result
-    c.find.ensures c.if-e-ne-REQUIRED.false g.0.0 g.0.1.0 g.1
+    c.find.ensures c.if-e-ne-REQUIRED.false c.in-At.field-0 c.in-At.field-1 c.in-At.is

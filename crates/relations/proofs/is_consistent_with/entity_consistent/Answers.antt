@@ -20,7 +20,7 @@ u16_at-requires c =     omega (arith, (is-entity c.args.levels c.args.t0.now c.r
 pub names_share-requires : goal.names_share-requires
 names_share-requires c =
     let by-entity-names = entity-names (entity-form (is-entity c.args.levels c.args.t0.now c.requires.t0_value c.in-10.is)) in
-    (rw c.u16_at.ensures.0 by-entity-names, first_of c.requires.entity_form)
+    record { ascending = rw c.u16_at.ensures.0 by-entity-names; ascending_2 = first_of c.requires.entity_form }
 
 pub u16_at-requires-in-11 : goal.u16_at-requires-in-11
 u16_at-requires-in-11 c =     omega (arith, (is-action c.args.levels c.args.t0.now c.requires.t0_value c.in-11.is).some)

@@ -18,7 +18,6 @@ skip_below-passed-requires c =
     let loop = c.loop-left in
     laid loop.invariant.core.sound
 
--- ?? step well-formed
 pub overflow_mul-at : goal.overflow_mul-at
 overflow_mul-at c =
     let loop-test = c.loop-left-test in
@@ -30,7 +29,7 @@ overflow_mul-at c =
       c.loop-left.invariant.few,
       c.loop-left.invariant.core.sound.sized,
       c.requires.core_list.sound.sized,
-      c.well-formed.1.1.1.0.0,
+      c.well_formed.1.1.1.0.0,
     )
 
 pub slice_bounds-f-count : goal.slice_bounds-f-count
@@ -67,7 +66,7 @@ attribute_covered-requires c =
     let by-covering-core = covering-core c.loop-left.invariant c.loop-left-test.true c.u16_at.result c.u16_at.ensures.0
     c.skip_below-passed.result.entries c.skip_below-passed.result.bytes c.skip_below-passed.ensures.0
     c.skip_below-passed.ensures.1 in
-    (omega (arith, c.loop-left.invariant.entries.sized), by-covering-core)
+    record { in_bounds = omega (arith, c.loop-left.invariant.entries.sized); core_list = by-covering-core }
 
 pub returns-then-not-attribute_covered : goal.returns-then-not-attribute_covered
 returns-then-not-attribute_covered c =

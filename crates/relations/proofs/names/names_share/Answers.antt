@@ -24,6 +24,7 @@ loop-more-preserved c =
     (omega (arith, if1.false, c.if-x-y-2.false)) in
     (by-walk-second, c.loop-more.invariant.1)
 
+-- ?? branch
 pub search-preserved : goal.search-preserved
 search-preserved c =
     let loop = c.loop-more in

@@ -8,7 +8,7 @@ use borrow.Author.Rules.{rules}
 use Rattle.relations.proofs.names.names_share.Given as goal
 
 abbrev pub invariant-loop-more : goal.invariant-loop-more
-invariant-loop-more l = Walk shares l.n l.m l.first l.second l.initial.shared l.more l.left l.b × (l.shared ≡ false)
+invariant-loop-more l = Walk shares l.n l.m l.first l.second l.left l.more l.a l.b × (l.shared ≡ false)
 
 abbrev pub decreases-loop-more : goal.decreases-loop-more
 decreases-loop-more l = l.more

@@ -21,6 +21,7 @@ returns-then-x-y c =
     subset-past c.loop-left.invariant c.loop-left-test.true (omega arith) c.u16_at-x.result c.u16_at-y.result
     c.u16_at-x.ensures.0 c.u16_at-y.ensures.0 c.if-x-y.true
 
+-- ?? branch
 pub loop-left-preserved : goal.loop-left-preserved
 loop-left-preserved c =
     let if2 = c.if-x-y in
