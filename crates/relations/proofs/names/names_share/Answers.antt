@@ -6,6 +6,7 @@ use Rattle.cedar.specs.Disjoint.{shares}
 use Rattle.relations.specs.Laws.Names.{Walk, walk_start, walk-second, shares-skip, share-end, share-hit, share-over, share-past}
 use borrow.Author.Rules.{rules}
 use Rattle.relations.proofs.names.names_share.Goals as goal
+use Rattle.relations.proofs.names.names_share.Goals.{else-loop-more-test, then-loop-more-test+else-x-y+then-x-y-2}
 
 pub search-init : goal.search-init
 search-init c =     (walk_start c.requires.ascending c.requires.ascending_2, refl)
@@ -24,16 +25,20 @@ loop-more-preserved c =
     (omega (arith, if1.false, c.if-x-y-2.false)) in
     (by-walk-second, c.loop-more.invariant.1)
 
--- ?? branch
 pub search-preserved : goal.search-preserved
 search-preserved c =
     let loop = c.loop-more in
     let x = c.u16_at-x in
     let l = loop.invariant in
     let p = c.search-test.true in
-    let ⊎-elim-came = ⊎_elim (λ w. share-over l.0 p x.result x.ensures.0 w.left)
-    (λ w. share-past l.0 p x.result x.ensures.0 w.0.taken w.1.result w.1.ensures.0 w.3.taken) c.loop-more-test.branch in
-    (⊎-elim-came, l.1)
+    (
+      elim c.loop-more-test.branch [
+        | else-loop-more-test w ↦ share-over l.0 p x.result x.ensures.0 w.loop-more-test.false
+        | then-loop-more-test+else-x-y+then-x-y-2 w ↦
+            share-past l.0 p x.result x.ensures.0 w.loop-more-test.true w.u16_at-y.result w.u16_at-y.ensures.0 w.if-x-y-2.true
+      ],
+      l.1,
+    )
 
 pub returns-after-search : goal.returns-after-search
 returns-after-search c =     c.search.invariant.1 ∙ share-end c.search.invariant.0 c.search-test.false

@@ -7,6 +7,7 @@ use Rattle.forms.specs.Parts.{rest}
 use Rattle.relations.specs.Laws.Names.{Walk, walk_start, walk-met, walk-second, subset-skip, subset-end, subset-over, subset-past, subset-both}
 use borrow.Author.Rules.{rules}
 use Rattle.relations.proofs.names.names_subset.Goals as goal
+use Rattle.relations.proofs.names.names_subset.Goals.{then-x-y-2, else-x-y-2}
 
 pub loop-left-init : goal.loop-left-init
 loop-left-init c =     walk_start c.requires.ascending c.requires.ascending_2
@@ -21,7 +22,6 @@ returns-then-x-y c =
     subset-past c.loop-left.invariant c.loop-left-test.true (omega arith) c.u16_at-x.result c.u16_at-y.result
     c.u16_at-x.ensures.0 c.u16_at-y.ensures.0 c.if-x-y.true
 
--- ?? branch
 pub loop-left-preserved : goal.loop-left-preserved
 loop-left-preserved c =
     let if2 = c.if-x-y in
@@ -30,11 +30,12 @@ loop-left-preserved c =
     let l = c.loop-left.invariant in
     let p = c.loop-left-test.true in
     let q : 0 < c.loop-left.more = omega arith in
-    ⊎_elim (λ w. walk-met {a = rest 2 c.loop-left.a.now} {a' = c.if-x-y-2.a.now} w.3 (ap (λ z. z.now) w.2)
-    (subset-both l p q x.result y.result x.ensures.0 y.ensures.0 w.0.taken))
-    (λ w. walk-met {a = c.loop-left.a.now} {a' = c.if-x-y-2.a.now} w.2 (ap (λ z. z.now) w.1)
-    (walk-second l p q subset-skip x.result y.result x.ensures.0 y.ensures.0 (omega (arith, w.0.left, if2.false))))
-    c.if-x-y-2.branch
+    elim c.if-x-y-2.branch [
+      | then-x-y-2 w ↦ walk-met {a = rest 2 c.loop-left.a.now} {a' = c.if-x-y-2.a.now} w.left-is (ap (λ z. z.now) w.a-is)
+          (subset-both l p q x.result y.result x.ensures.0 y.ensures.0 w.if-x-y-2.true)
+      | else-x-y-2 w ↦ walk-met {a = c.loop-left.a.now} {a' = c.if-x-y-2.a.now} w.left-is (ap (λ z. z.now) w.a-is)
+          (walk-second l p q subset-skip x.result y.result x.ensures.0 y.ensures.0 (omega (arith, w.if-x-y-2.false, if2.false)))
+    ]
 
 pub returns : goal.returns
 returns c = subset-end c.loop-left.invariant c.loop-left-test.false
