@@ -1,6 +1,6 @@
 -- Lists of bytes compared element by element. Assumes nothing.
 use Rattle.std.specs.Prelude.{◌≡◌, refl, List, true, false, ◌&&◌, ℕ, suc, ◌+◌, ◌≤◌, ◌<◌, eqb, length, get_or, drop}
-use Rattle.std.proofs.Common.{ap, ap₂, sym, ◌∙◌, add-one, arith, drop_of_length-le, drop-cons, eq-eqb, ne_eqb}
+use Rattle.std.proofs.Common.{ap₂, sym, ◌∙◌, add-one, arith, drop_of_length-le, drop-cons, eq-eqb, ne_eqb}
 use Rattle.cedar.specs.Types.{eq_names}
 
 -- Bytes from i on answer for all.

@@ -1,5 +1,5 @@
 -- Equal forms have equal bytes: names, and types. Assumes nothing.
-use Rattle.std.specs.Prelude.{◌≡◌, refl, List, [], ◌∷◌, Bool, true, false, ℕ, suc, ◌*◌, ◌<◌, T, length, get_or}
+use Rattle.std.specs.Prelude.{◌≡◌, refl, List, Bool, true, false, ℕ, ◌*◌, T, length}
 use Rattle.std.proofs.Common.{ap, ap₂, sym, ◌∙◌, arith, eq-eqb}
 use Rattle.std.proofs.Math.Option.{some}
 use Rattle.cedar.specs.Bytes.{Bytes, enc_names, parse_names}

@@ -2,16 +2,14 @@
 use Rattle.std.specs.Prelude.{◌≡◌, List, Bool, true, false, not, ◌||◌, cond, ◌&&◌, ℕ, zero, suc, ◌≤◌, ◌<◌, T, eqb, leb}
 use Rattle.std.proofs.Math.Path.{refl}
 use Rattle.std.proofs.Common.{ap, sym, ◌∙◌, arith, eqb→eq}
-use borrow.Author.Tests.{eq-eqb, ne_eqb, eqb-false, lt-leb}
-use Rattle.std.proofs.Math.Option.{none, some}
-use Rattle.cedar.specs.Types.{present, is_never, as_set, as_rec, as_ent, same, Mode, strict, permissive, is_permissive, Atom, never, true', false', bool, long}
+use borrow.Author.Tests.{eq-eqb, ne_eqb, eqb-false}
+use Rattle.std.proofs.Math.Option.{none}
+use Rattle.cedar.specs.Types.{is_never, as_set, as_rec, as_ent, same, Mode, is_permissive, Atom, never, true', false', bool, long}
 use Rattle.cedar.specs.Types.{string, anyset, anyent, Ty, atom, set, rec, act, ent, ext, is, eq_flag, eq_names}
-use Rattle.cedar.specs.Calls.{mode_of}
 use Rattle.cedar.specs.Subtype.{sub_atom, sub_flag, sub}
 use Rattle.cedar.specs.TypeForm.{one, kind_of, atom_code}
 use Rattle.cedar.specs.Laws.Tests.{T-ext, not-T→false, eqb-equal}
 use Rattle.cedar.specs.Laws.Equality.{is→eq, is-refl, same→eq}
-use Rattle.forms.specs.Modes.{as_mode}
 use Rattle.relations.specs.Under.{kind_under, record_under}
 use Rattle.forms.specs.Codes.{code}
 

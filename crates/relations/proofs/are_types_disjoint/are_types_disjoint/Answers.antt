@@ -1,7 +1,6 @@
 use Rattle.forms.specs.TypeBytes.{dec}
 use native.Mathlib.Omega.{arith}
 use Rattle.relations.specs.Laws.Disjoint.{found_nothing, found_from, found_within, disjoint-first, disjoint-second, disjoint-both}
-use borrow.Author.Rules.{rules}
 use Rattle.relations.proofs.are_types_disjoint.are_types_disjoint.Goals as goal
 
 pub returns-in_default : goal.returns-in_default
@@ -18,7 +17,7 @@ returns-in_default-type_names c =
     (found_nothing type-names2.ensures c.in_default-type_names.is)
 
 pub slice_bounds-names_share-count : goal.slice_bounds-names_share-count
-slice_bounds-names_share-count c =     omega (arith, (found_within c.type_names.ensures c.in-From.a c.in-From.n c.in-From.is).0)
+slice_bounds-names_share-count c = omega (arith, (found_within c.type_names.ensures c.in-From.a c.in-From.n c.in-From.is).0)
 
 pub slice_bounds-names_share-start : goal.slice_bounds-names_share-start
 slice_bounds-names_share-start c = slice_bounds-names_share-count c

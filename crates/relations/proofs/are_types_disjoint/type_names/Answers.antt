@@ -4,7 +4,7 @@ use Rattle.relations.specs.Laws.Disjoint.{named-entity, named-action, named-noth
 use Rattle.relations.proofs.are_types_disjoint.type_names.Goals as goal
 
 pub bounds-t-0 : goal.bounds-t-0
-bounds-t-0 c =     not-empty c.args.levels c.args.t.now c.requires
+bounds-t-0 c = not-empty c.args.levels c.args.t.now c.requires
 
 pub u16_at-requires : goal.u16_at-requires
 u16_at-requires c =
@@ -12,10 +12,10 @@ u16_at-requires c =
     omega (arith, s.sized)
 
 pub returns-in-10 : goal.returns-in-10
-returns-in-10 c =     named-entity c.args.levels c.args.t.now c.requires c.in-10.is c.u16_at.result c.u16_at.ensures.0
+returns-in-10 c = named-entity c.args.levels c.args.t.now c.requires c.in-10.is c.u16_at.result c.u16_at.ensures.0
 
 pub returns-in-11 : goal.returns-in-11
-returns-in-11 c =     named-action c.args.levels c.args.t.now c.requires c.in-11.is
+returns-in-11 c = named-action c.args.levels c.args.t.now c.requires c.in-11.is
 
 pub returns-in_default : goal.returns-in_default
 returns-in_default c =

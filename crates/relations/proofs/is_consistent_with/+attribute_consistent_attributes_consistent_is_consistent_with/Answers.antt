@@ -1,19 +1,16 @@
 use mathlib.Core.Path.{refl, ◌∙◌}
-use Prim.Native.Nat.{◌+◌, ◌*◌}
 use native.Mathlib.Omega.{arith}
 use lib.Dec.{eqb}
 use borrow.Author.Tests.{eq-eqb, ne_eqb}
-use Rattle.forms.specs.TypeBytes.{dec, dec_a}
+use Rattle.forms.specs.TypeBytes.{dec}
 use Rattle.forms.specs.Laws.Views.{not-empty, is_set, is-record, is-entity}
 use Rattle.forms.specs.Laws.Attributes.{laid}
 use Rattle.relations.specs.Laws.Names.{entity-form}
 use Rattle.forms.specs.Laws.Bytes.{Bytes-index}
-use Rattle.relations.specs.Laws.Meeting.{met-open, met-closed, met-here, met-entry, met-with, Meeting, meeting-start, meeting-end, meeting-core}
+use Rattle.relations.specs.Laws.Meeting.{met-open, met-closed, met-here, met-entry, met-with, meeting-start, meeting-end, meeting-core}
 use Rattle.relations.specs.Laws.Meeting.{meeting-past, meeting-list, meeting-not, meeting-again}
 use Rattle.relations.specs.Laws.Consistent.{entries-up, core-list, with-entity, unlike-kinds, with-set, with-extension, with-kind, record-not}
 use Rattle.relations.specs.Laws.Consistent.{with-record}
-use borrow.Author.Rules.{rules}
-use Prim.Native.Nat.{ℕ, ◌<◌}
 use Rattle.relations.proofs.is_consistent_with.+attribute_consistent_attributes_consistent_is_consistent_with.Goals as goal
 
 -- `relations::is_consistent_with::attribute_consistent`, `relations::is_consistent_with::attributes_consistent`,
@@ -21,7 +18,7 @@ use Rattle.relations.proofs.is_consistent_with.+attribute_consistent_attributes_
 -- `relations::is_consistent_with::is_consistent_with` meet their contracts. Assumes nothing.
 
 pub attribute_consistent-find-requires : goal.attribute_consistent-find-requires
-attribute_consistent-find-requires t c =     laid c.requires.left.sound
+attribute_consistent-find-requires t c = laid c.requires.left.sound
 
 pub attribute_consistent-returns-then-openness-eq-OPEN : goal.attribute_consistent-returns-then-openness-eq-OPEN
 attribute_consistent-returns-then-openness-eq-OPEN t c =
@@ -112,7 +109,7 @@ attribute_consistent-returns t c =
     c.is_consistent_with.ensures ∙ by-met-with
 
 pub attributes_consistent-loop-more-init : goal.attributes_consistent-loop-more-init
-attributes_consistent-loop-more-init t c =     meeting-start (eqb c.args.openness 1) c.requires.sound c.requires.sound_2
+attributes_consistent-loop-more-init t c = meeting-start (eqb c.args.openness 1) c.requires.sound c.requires.sound_2
 
 pub attributes_consistent-u16_at-requires : goal.attributes_consistent-u16_at-requires
 attributes_consistent-u16_at-requires t c = omega (arith, (meeting-core c.loop-more.invariant c.loop-more-test.true).room)
@@ -159,16 +156,16 @@ attributes_consistent-overflow_sub-left t c =
     omega (arith, by-meeting-past.most)
 
 pub attributes_consistent-u16_at-len-requires : goal.attributes_consistent-u16_at-len-requires
-attributes_consistent-u16_at-len-requires t c =     omega (arith, (meeting-core c.loop-more.invariant c.loop-more-test.true).room)
+attributes_consistent-u16_at-len-requires t c = omega (arith, (meeting-core c.loop-more.invariant c.loop-more-test.true).room)
 
 pub attributes_consistent-slice_bounds-attribute_consistent-count : goal.attributes_consistent-slice_bounds-attribute_consistent-count
-attributes_consistent-slice_bounds-attribute_consistent-count t c =     omega (arith, (meeting-core c.loop-more.invariant c.loop-more-test.true).fit, c.u16_at-len.ensures.0)
+attributes_consistent-slice_bounds-attribute_consistent-count t c = omega (arith, (meeting-core c.loop-more.invariant c.loop-more-test.true).fit, c.u16_at-len.ensures.0)
 
 pub attributes_consistent-slice_bounds-attribute_consistent-start : goal.attributes_consistent-slice_bounds-attribute_consistent-start
 attributes_consistent-slice_bounds-attribute_consistent-start t c = attributes_consistent-slice_bounds-attribute_consistent-count t c
 
 pub attributes_consistent-slice_bounds-attribute_consistent-end : goal.attributes_consistent-slice_bounds-attribute_consistent-end
-attributes_consistent-slice_bounds-attribute_consistent-end t c =     omega (arith, (meeting-core c.loop-more.invariant c.loop-more-test.true).fit, c.u16_at-len.ensures.0)
+attributes_consistent-slice_bounds-attribute_consistent-end t c = omega (arith, (meeting-core c.loop-more.invariant c.loop-more-test.true).fit, c.u16_at-len.ensures.0)
 
 pub attributes_consistent-attribute_consistent-requires : goal.attributes_consistent-attribute_consistent-requires
 attributes_consistent-attribute_consistent-requires t c =
@@ -187,13 +184,13 @@ attributes_consistent-returns-then-not-attribute_consistent t c =
     attribute-consistent-2.ensures c.if-not-attribute_consistent.true-raw
 
 pub attributes_consistent-slice_bounds-f-count : goal.attributes_consistent-slice_bounds-f-count
-attributes_consistent-slice_bounds-f-count t c =     omega (arith, (meeting-core c.loop-more.invariant c.loop-more-test.true).room)
+attributes_consistent-slice_bounds-f-count t c = omega (arith, (meeting-core c.loop-more.invariant c.loop-more-test.true).room)
 
 pub attributes_consistent-slice_bounds-f-start : goal.attributes_consistent-slice_bounds-f-start
 attributes_consistent-slice_bounds-f-start t c = attributes_consistent-slice_bounds-f-count t c
 
 pub attributes_consistent-slice_bounds-c-count : goal.attributes_consistent-slice_bounds-c-count
-attributes_consistent-slice_bounds-c-count t c =     omega (arith, (meeting-core c.loop-more.invariant c.loop-more-test.true).fit, c.u16_at-len.ensures.0)
+attributes_consistent-slice_bounds-c-count t c = omega (arith, (meeting-core c.loop-more.invariant c.loop-more-test.true).fit, c.u16_at-len.ensures.0)
 
 pub attributes_consistent-slice_bounds-c-start : goal.attributes_consistent-slice_bounds-c-start
 attributes_consistent-slice_bounds-c-start t c = attributes_consistent-slice_bounds-c-count t c
@@ -211,10 +208,10 @@ pub attributes_consistent-returns : goal.attributes_consistent-returns
 attributes_consistent-returns t c = meeting-end c.loop-more.invariant c.loop-more-test.false
 
 pub is_consistent_with-bounds-t0-0 : goal.is_consistent_with-bounds-t0-0
-is_consistent_with-bounds-t0-0 t c =     not-empty c.args.levels c.args.t0.now c.requires.t0_value
+is_consistent_with-bounds-t0-0 t c = not-empty c.args.levels c.args.t0.now c.requires.t0_value
 
 pub is_consistent_with-bounds-t1-0 : goal.is_consistent_with-bounds-t1-0
-is_consistent_with-bounds-t1-0 t c =     not-empty c.args.levels c.args.t1.now c.requires.t1_value
+is_consistent_with-bounds-t1-0 t c = not-empty c.args.levels c.args.t1.now c.requires.t1_value
 
 pub is_consistent_with-entity_consistent-requires : goal.is_consistent_with-entity_consistent-requires
 is_consistent_with-entity_consistent-requires t c =
@@ -234,19 +231,19 @@ is_consistent_with-returns-then-j-k t c =
     c.kind_consistent.ensures ∙ by-unlike-kinds
 
 pub is_consistent_with-slice_bounds-is_consistent_with-count : goal.is_consistent_with-slice_bounds-is_consistent_with-count
-is_consistent_with-slice_bounds-is_consistent_with-count t c =     omega (arith, not-empty c.args.levels c.args.t0.now c.requires.t0_value)
+is_consistent_with-slice_bounds-is_consistent_with-count t c = omega (arith, not-empty c.args.levels c.args.t0.now c.requires.t0_value)
 
 pub is_consistent_with-slice_bounds-is_consistent_with-start : goal.is_consistent_with-slice_bounds-is_consistent_with-start
 is_consistent_with-slice_bounds-is_consistent_with-start t c = is_consistent_with-slice_bounds-is_consistent_with-count t c
 
 pub is_consistent_with-slice_bounds-is_consistent_with-count-in-7 : goal.is_consistent_with-slice_bounds-is_consistent_with-count-in-7
-is_consistent_with-slice_bounds-is_consistent_with-count-in-7 t c =     omega (arith, not-empty c.args.levels c.args.t1.now c.requires.t1_value)
+is_consistent_with-slice_bounds-is_consistent_with-count-in-7 t c = omega (arith, not-empty c.args.levels c.args.t1.now c.requires.t1_value)
 
 pub is_consistent_with-slice_bounds-is_consistent_with-start-in-7 : goal.is_consistent_with-slice_bounds-is_consistent_with-start-in-7
 is_consistent_with-slice_bounds-is_consistent_with-start-in-7 t c = is_consistent_with-slice_bounds-is_consistent_with-count-in-7 t c
 
 pub is_consistent_with-overflow_sub-levels : goal.is_consistent_with-overflow_sub-levels
-is_consistent_with-overflow_sub-levels t c =     omega (arith, (is_set c.args.levels c.args.t1.now c.requires.t1_value c.in-7.is).deep)
+is_consistent_with-overflow_sub-levels t c = omega (arith, (is_set c.args.levels c.args.t1.now c.requires.t1_value c.in-7.is).deep)
 
 pub is_consistent_with-is_consistent_with-requires : goal.is_consistent_with-is_consistent_with-requires
 is_consistent_with-is_consistent_with-requires t c =
@@ -260,7 +257,7 @@ is_consistent_with-u16_at-n-requires t c =
     omega (arith, (is-record c.args.levels c.args.t0.now c.requires.t0_value (c.if-j-k.false ∙ c.in-8.is)).some)
 
 pub is_consistent_with-u16_at-m-requires : goal.is_consistent_with-u16_at-m-requires
-is_consistent_with-u16_at-m-requires t c =     omega (arith, (is-record c.args.levels c.args.t1.now c.requires.t1_value c.in-8.is).some)
+is_consistent_with-u16_at-m-requires t c = omega (arith, (is-record c.args.levels c.args.t1.now c.requires.t1_value c.in-8.is).some)
 
 pub is_consistent_with-slice_bounds-es-count : goal.is_consistent_with-slice_bounds-es-count
 is_consistent_with-slice_bounds-es-count t c =
@@ -324,7 +321,7 @@ is_consistent_with-returns-then-not-attributes_consistent t c =
     attributes-consistent-2.result attributes-consistent-2.ensures c.if-not-attributes_consistent.true-raw
 
 pub is_consistent_with-bounds-t1-1 : goal.is_consistent_with-bounds-t1-1
-is_consistent_with-bounds-t1-1 t c =     omega (arith, (is-record c.args.levels c.args.t1.now c.requires.t1_value c.in-8.is).some)
+is_consistent_with-bounds-t1-1 t c = omega (arith, (is-record c.args.levels c.args.t1.now c.requires.t1_value c.in-8.is).some)
 
 pub is_consistent_with-names_covered-requires : goal.is_consistent_with-names_covered-requires
 is_consistent_with-names_covered-requires t c =

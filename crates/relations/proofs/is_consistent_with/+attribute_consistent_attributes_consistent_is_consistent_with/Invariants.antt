@@ -1,19 +1,7 @@
-use mathlib.Core.Path.{refl, ◌∙◌}
 use Prim.Native.Nat.{◌+◌, ◌*◌}
-use native.Mathlib.Omega.{arith}
 use lib.Dec.{eqb}
-use borrow.Author.Tests.{eq-eqb, ne_eqb}
 use Rattle.forms.specs.TypeBytes.{dec, dec_a}
-use Rattle.forms.specs.Laws.Views.{not-empty, is_set, is-record, is-entity}
-use Rattle.forms.specs.Laws.Attributes.{laid}
-use Rattle.relations.specs.Laws.Names.{entity-form}
-use Rattle.forms.specs.Laws.Bytes.{Bytes-index}
-use Rattle.relations.specs.Laws.Meeting.{met-open, met-closed, met-here, met-entry, met-with, Meeting, meeting-start, meeting-end, meeting-core}
-use Rattle.relations.specs.Laws.Meeting.{meeting-past, meeting-list, meeting-not, meeting-again}
-use Rattle.relations.specs.Laws.Consistent.{entries-up, core-list, with-entity, unlike-kinds, with-set, with-extension, with-kind, record-not}
-use Rattle.relations.specs.Laws.Consistent.{with-record}
-use borrow.Author.Rules.{rules}
-use Prim.Native.Nat.{ℕ, ◌<◌}
+use Rattle.relations.specs.Laws.Meeting.{Meeting}
 use Rattle.relations.proofs.is_consistent_with.+attribute_consistent_attributes_consistent_is_consistent_with.Given as goal
 
 abbrev pub decreases-attribute_consistent : goal.decreases-attribute_consistent

@@ -4,7 +4,6 @@ use borrow.Author.Tests.{eq-eqb, ne_eqb}
 use Rattle.forms.specs.Laws.Attributes.{laid}
 use Rattle.forms.specs.TypeBytes.{names_by}
 use Rattle.relations.specs.Laws.Covered.{covered-open, covered-optional, covered-not, covered-found}
-use borrow.Author.Rules.{rules}
 use Rattle.relations.proofs.is_consistent_with.attribute_covered.Goals as goal
 
 pub returns-then-openness-eq-OPEN : goal.returns-then-openness-eq-OPEN
@@ -19,7 +18,7 @@ returns-then-e-ne-REQUIRED c =
     covered-optional (eqb args.openness 1) (names_by 5 args.m args.fs.now) args.e.now (ne_eqb args.openness 1 if1.false) c.if-e-ne-REQUIRED.true
 
 pub find-requires : goal.find-requires
-find-requires c =     laid c.requires.core_list.sound
+find-requires c = laid c.requires.core_list.sound
 
 pub returns-in_default : goal.returns-in_default
 returns-in_default c =

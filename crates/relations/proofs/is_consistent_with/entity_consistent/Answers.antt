@@ -2,20 +2,19 @@ use native.Mathlib.Omega.{arith}
 use Rattle.forms.specs.Laws.Views.{not-empty, is-entity, is-action}
 use Rattle.relations.specs.Laws.Names.{entity-form, entity-names, first_of}
 use Rattle.relations.specs.Laws.Meets.{entity-any, entity-name, entity-action, entity-other}
-use borrow.Author.Rules.{rules}
 use Rattle.relations.proofs.is_consistent_with.entity_consistent.Goals as goal
 
 pub bounds-t0-0 : goal.bounds-t0-0
-bounds-t0-0 c =     not-empty c.args.levels c.args.t0.now c.requires.t0_value
+bounds-t0-0 c = not-empty c.args.levels c.args.t0.now c.requires.t0_value
 
 pub slice_bounds-names_share-count : goal.slice_bounds-names_share-count
-slice_bounds-names_share-count c =     omega (arith, (is-entity c.args.levels c.args.t0.now c.requires.t0_value c.in-10.is).some)
+slice_bounds-names_share-count c = omega (arith, (is-entity c.args.levels c.args.t0.now c.requires.t0_value c.in-10.is).some)
 
 pub slice_bounds-names_share-start : goal.slice_bounds-names_share-start
 slice_bounds-names_share-start c = slice_bounds-names_share-count c
 
 pub u16_at-requires : goal.u16_at-requires
-u16_at-requires c =     omega (arith, (is-entity c.args.levels c.args.t0.now c.requires.t0_value c.in-10.is).some)
+u16_at-requires c = omega (arith, (is-entity c.args.levels c.args.t0.now c.requires.t0_value c.in-10.is).some)
 
 pub names_share-requires : goal.names_share-requires
 names_share-requires c =
@@ -23,10 +22,10 @@ names_share-requires c =
     record { ascending = rw c.u16_at.ensures.0 by-entity-names; ascending_2 = first_of c.requires.entity_form }
 
 pub u16_at-requires-in-11 : goal.u16_at-requires-in-11
-u16_at-requires-in-11 c =     omega (arith, (is-action c.args.levels c.args.t0.now c.requires.t0_value c.in-11.is).some)
+u16_at-requires-in-11 c = omega (arith, (is-action c.args.levels c.args.t0.now c.requires.t0_value c.in-11.is).some)
 
 pub returns-in-9 : goal.returns-in-9
-returns-in-9 c =     entity-any c.args.levels c.args.t0.now c.args.t1.now c.requires.t0_value c.requires.entity_form c.in-9.is
+returns-in-9 c = entity-any c.args.levels c.args.t0.now c.args.t1.now c.requires.t0_value c.requires.entity_form c.in-9.is
 
 pub returns-in-10 : goal.returns-in-10
 returns-in-10 c =

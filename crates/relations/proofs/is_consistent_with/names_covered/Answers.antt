@@ -1,14 +1,11 @@
 use native.Mathlib.Omega.{arith}
 use lib.Dec.{eqb}
 use Rattle.forms.specs.Laws.Attributes.{laid}
-use Rattle.forms.specs.TypeBytes.{names_by}
-use Rattle.relations.specs.Meets.{all_covered}
-use Rattle.relations.specs.Laws.Covered.{Covering, covering-start, covering-end, covering-past, covering-core, covering-not, covering-again}
-use borrow.Author.Rules.{rules}
+use Rattle.relations.specs.Laws.Covered.{covering-start, covering-end, covering-past, covering-core, covering-not, covering-again}
 use Rattle.relations.proofs.is_consistent_with.names_covered.Goals as goal
 
 pub loop-left-init : goal.loop-left-init
-loop-left-init c =     covering-start (eqb c.args.openness 1) c.requires.entries_up c.requires.core_list
+loop-left-init c = covering-start (eqb c.args.openness 1) c.requires.entries_up c.requires.core_list
 
 pub u16_at-requires : goal.u16_at-requires
 u16_at-requires c = omega (arith, c.loop-left.invariant.entries.sized)
@@ -76,7 +73,7 @@ returns-then-not-attribute_covered c =
     c.skip_below-passed.ensures.1 attribute-covered.result attribute-covered.ensures c.if-not-attribute_covered.true-raw
 
 pub slice_bounds-e-count : goal.slice_bounds-e-count
-slice_bounds-e-count c =     omega (arith, c.loop-left.invariant.entries.sized)
+slice_bounds-e-count c = omega (arith, c.loop-left.invariant.entries.sized)
 
 pub slice_bounds-e-start : goal.slice_bounds-e-start
 slice_bounds-e-start c = slice_bounds-e-count c

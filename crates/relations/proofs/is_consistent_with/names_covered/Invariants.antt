@@ -1,10 +1,7 @@
-use native.Mathlib.Omega.{arith}
 use lib.Dec.{eqb}
-use Rattle.forms.specs.Laws.Attributes.{laid}
 use Rattle.forms.specs.TypeBytes.{names_by}
 use Rattle.relations.specs.Meets.{all_covered}
-use Rattle.relations.specs.Laws.Covered.{Covering, covering-start, covering-end, covering-past, covering-core, covering-not, covering-again}
-use borrow.Author.Rules.{rules}
+use Rattle.relations.specs.Laws.Covered.{Covering}
 use Rattle.relations.proofs.is_consistent_with.names_covered.Given as goal
 
 abbrev pub invariant-loop-left : goal.invariant-loop-left

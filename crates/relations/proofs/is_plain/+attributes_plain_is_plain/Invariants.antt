@@ -1,12 +1,6 @@
-use mathlib.Core.Path.{◌∙◌}
 use Prim.Native.Nat.{◌+◌, ◌*◌}
-use native.Mathlib.Omega.{arith}
 use Rattle.forms.specs.TypeBytes.{dec, dec_a}
-use Rattle.forms.specs.Laws.Views.{not-empty, is_set, is-record, is-entity}
-use Rattle.relations.specs.Laws.Plain.{PlainLeft, plain-start, plain_end, plain-first, plain-not, plain-again, plain-set, plain-record, plain-entity}
-use Rattle.relations.specs.Laws.Plain.{plain-extension, plain_other}
-use borrow.Author.Rules.{rules}
-use Prim.Native.Nat.{ℕ, ◌<◌}
+use Rattle.relations.specs.Laws.Plain.{PlainLeft}
 use Rattle.relations.proofs.is_plain.+attributes_plain_is_plain.Given as goal
 
 abbrev pub decreases-attributes_plain : goal.decreases-attributes_plain

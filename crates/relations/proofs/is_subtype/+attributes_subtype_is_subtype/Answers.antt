@@ -1,24 +1,21 @@
 use mathlib.Core.Path.{◌∙◌}
 use Prim.Native.Nat.{◌+◌, ◌*◌}
 use native.Mathlib.Omega.{arith}
-use Rattle.forms.specs.TypeBytes.{dec, dec_a}
 use Rattle.forms.specs.Laws.Parts.{length_part}
 use Rattle.forms.specs.Laws.Views.{not-empty, is_set, is-record, is-entity}
 use Rattle.forms.specs.Laws.Attributes.{laid}
 use Rattle.forms.specs.Modes.{as_mode}
 use Rattle.relations.specs.Laws.Names.{entity-form}
 use Rattle.forms.specs.Laws.Bytes.{Bytes-index}
-use Rattle.relations.specs.Laws.Walks.{Under, under-start, under-end, under-missing, under-here, under_next, under-upper, under-flag, under-type}
+use Rattle.relations.specs.Laws.Walks.{under-start, under-end, under-missing, under-here, under_next, under-upper, under-flag, under-type}
 use Rattle.relations.specs.Laws.Walks.{under-again}
 use Rattle.relations.specs.Laws.Subtype.{unlike-kinds, set-under, entity-under, action-under, extension-under, atoms-under, record-not, record-under}
-use borrow.Author.Rules.{rules}
-use Prim.Native.Nat.{ℕ, ◌<◌}
 use Rattle.relations.proofs.is_subtype.+attributes_subtype_is_subtype.Goals as goal
 
 -- `relations::is_subtype::attributes_subtype`, `relations::is_subtype::is_subtype` meet their contracts. Assumes nothing.
 
 pub attributes_subtype-loop-more-init : goal.attributes_subtype-loop-more-init
-attributes_subtype-loop-more-init t c =     under-start (as_mode c.args.mode) c.requires.sound c.requires.sound_2
+attributes_subtype-loop-more-init t c = under-start (as_mode c.args.mode) c.requires.sound c.requires.sound_2
 
 pub attributes_subtype-find-requires : goal.attributes_subtype-find-requires
 attributes_subtype-find-requires t c =
@@ -177,10 +174,10 @@ pub attributes_subtype-returns : goal.attributes_subtype-returns
 attributes_subtype-returns t c = under-end c.loop-more.invariant c.loop-more-test.false
 
 pub is_subtype-bounds-t0-0 : goal.is_subtype-bounds-t0-0
-is_subtype-bounds-t0-0 t c =     not-empty c.args.levels c.args.t0.now c.requires.t0_value
+is_subtype-bounds-t0-0 t c = not-empty c.args.levels c.args.t0.now c.requires.t0_value
 
 pub is_subtype-bounds-t1-0 : goal.is_subtype-bounds-t1-0
-is_subtype-bounds-t1-0 t c =     not-empty c.args.levels c.args.t1.now c.requires.t1_value
+is_subtype-bounds-t1-0 t c = not-empty c.args.levels c.args.t1.now c.requires.t1_value
 
 pub is_subtype-returns-then-j-k : goal.is_subtype-returns-then-j-k
 is_subtype-returns-then-j-k t c =
@@ -189,19 +186,19 @@ is_subtype-returns-then-j-k t c =
     c.kind_under.result c.kind_under.ensures
 
 pub is_subtype-slice_bounds-is_subtype-count : goal.is_subtype-slice_bounds-is_subtype-count
-is_subtype-slice_bounds-is_subtype-count t c =     omega (arith, not-empty c.args.levels c.args.t0.now c.requires.t0_value)
+is_subtype-slice_bounds-is_subtype-count t c = omega (arith, not-empty c.args.levels c.args.t0.now c.requires.t0_value)
 
 pub is_subtype-slice_bounds-is_subtype-start : goal.is_subtype-slice_bounds-is_subtype-start
 is_subtype-slice_bounds-is_subtype-start t c = is_subtype-slice_bounds-is_subtype-count t c
 
 pub is_subtype-slice_bounds-is_subtype-count-in-7 : goal.is_subtype-slice_bounds-is_subtype-count-in-7
-is_subtype-slice_bounds-is_subtype-count-in-7 t c =     omega (arith, not-empty c.args.levels c.args.t1.now c.requires.t1_value)
+is_subtype-slice_bounds-is_subtype-count-in-7 t c = omega (arith, not-empty c.args.levels c.args.t1.now c.requires.t1_value)
 
 pub is_subtype-slice_bounds-is_subtype-start-in-7 : goal.is_subtype-slice_bounds-is_subtype-start-in-7
 is_subtype-slice_bounds-is_subtype-start-in-7 t c = is_subtype-slice_bounds-is_subtype-count-in-7 t c
 
 pub is_subtype-overflow_sub-levels : goal.is_subtype-overflow_sub-levels
-is_subtype-overflow_sub-levels t c =     omega (arith, (is_set c.args.levels c.args.t1.now c.requires.t1_value c.in-7.is).deep)
+is_subtype-overflow_sub-levels t c = omega (arith, (is_set c.args.levels c.args.t1.now c.requires.t1_value c.in-7.is).deep)
 
 pub is_subtype-is_subtype-requires : goal.is_subtype-is_subtype-requires
 is_subtype-is_subtype-requires t c =
@@ -215,7 +212,7 @@ is_subtype-u16_at-n-requires t c =
     omega (arith, (is-record c.args.levels c.args.t0.now c.requires.t0_value (c.if-j-k.false ∙ c.in-8.is)).some)
 
 pub is_subtype-u16_at-m-requires : goal.is_subtype-u16_at-m-requires
-is_subtype-u16_at-m-requires t c =     omega (arith, (is-record c.args.levels c.args.t1.now c.requires.t1_value c.in-8.is).some)
+is_subtype-u16_at-m-requires t c = omega (arith, (is-record c.args.levels c.args.t1.now c.requires.t1_value c.in-8.is).some)
 
 pub is_subtype-slice_bounds-es-count : goal.is_subtype-slice_bounds-es-count
 is_subtype-slice_bounds-es-count t c =
@@ -242,7 +239,7 @@ is_subtype-bounds-t0-1 t c =
     omega (arith, (is-record c.args.levels c.args.t0.now c.requires.t0_value (c.if-j-k.false ∙ c.in-8.is)).some)
 
 pub is_subtype-bounds-t1-1 : goal.is_subtype-bounds-t1-1
-is_subtype-bounds-t1-1 t c =     omega (arith, (is-record c.args.levels c.args.t1.now c.requires.t1_value c.in-8.is).some)
+is_subtype-bounds-t1-1 t c = omega (arith, (is-record c.args.levels c.args.t1.now c.requires.t1_value c.in-8.is).some)
 
 pub is_subtype-record_under-requires : goal.is_subtype-record_under-requires
 is_subtype-record_under-requires t c =

@@ -3,7 +3,6 @@ use Rattle.forms.specs.Modes.{as_mode}
 use Rattle.relations.specs.Laws.Names.{entity-names}
 use Rattle.relations.specs.Laws.SameForm.{names-permissive, names-strict}
 use Rattle.forms.specs.Laws.Bytes.{Bytes-index}
-use borrow.Author.Rules.{rules}
 use Rattle.relations.proofs.is_subtype.entity_under.Goals as goal
 
 pub names_subset-requires : goal.names_subset-requires

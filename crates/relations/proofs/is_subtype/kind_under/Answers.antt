@@ -2,11 +2,10 @@ use mathlib.Core.Path.{refl, sym, ◌∙◌}
 use borrow.Author.Tests.{eq-eqb, ne_eqb}
 use Rattle.forms.specs.Modes.{as_mode}
 use Rattle.relations.specs.Laws.Under.{under-never, under-bool, under-set, under-entity, under-other}
-use borrow.Author.Rules.{rules}
 use Rattle.relations.proofs.is_subtype.kind_under.Goals as goal
 
 pub returns-then-j-eq-NEVER : goal.returns-then-j-eq-NEVER
-returns-then-j-eq-NEVER c =     under-never (as_mode c.args.mode) c.args.j c.args.k c.if-j-eq-NEVER.true
+returns-then-j-eq-NEVER c = under-never (as_mode c.args.mode) c.args.j c.args.k c.if-j-eq-NEVER.true
 
 pub returns-then-j-eq-TRUE : goal.returns-then-j-eq-TRUE
 returns-then-j-eq-TRUE c =
@@ -35,7 +34,7 @@ returns-else-j-eq-TRUE c =
     sym (under-bool (as_mode args.mode) args.j args.k if1.false c.in-3.is ∙ rw (ne_eqb args.j 1 c.if-j-eq-TRUE.false) refl)
 
 pub returns-in-6 : goal.returns-in-6
-returns-in-6 c =     sym (under-set (as_mode c.args.mode) c.args.j c.args.k c.if-j-eq-NEVER.false c.in-6.is)
+returns-in-6 c = sym (under-set (as_mode c.args.mode) c.args.j c.args.k c.if-j-eq-NEVER.false c.in-6.is)
 
 pub returns-else-j-eq-ACTION : goal.returns-else-j-eq-ACTION
 returns-else-j-eq-ACTION c =

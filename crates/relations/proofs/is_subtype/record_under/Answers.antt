@@ -2,7 +2,6 @@ use mathlib.Core.Path.{sym, ◌∙◌}
 use Rattle.forms.specs.TypeBytes.{names_by}
 use Rattle.forms.specs.Modes.{as_mode}
 use Rattle.relations.specs.Laws.Under.{open_no, open-same, open_more, open-strict}
-use borrow.Author.Rules.{rules}
 use Rattle.relations.proofs.is_subtype.record_under.Goals as goal
 
 pub returns-then-open1-open0 : goal.returns-then-open1-open0

@@ -1,7 +1,6 @@
 use mathlib.Core.Path.{sym, ◌∙◌}
 use Rattle.forms.specs.Modes.{as_mode}
 use Rattle.relations.specs.Laws.Under.{flag-permissive, flag-strict}
-use borrow.Author.Rules.{rules}
 use Rattle.relations.proofs.is_subtype.required_under.Goals as goal
 
 pub returns-then-is_permissive : goal.returns-then-is_permissive

@@ -1,15 +1,11 @@
-use mathlib.Core.Path.{◌≡◌, refl, ◌∙◌}
-use mathlib.Core.Bool.{false}
-use mathlib.Core.Logic.{⊎_elim}
+use mathlib.Core.Path.{refl, ◌∙◌}
 use native.Mathlib.Omega.{arith}
-use Rattle.cedar.specs.Disjoint.{shares}
-use Rattle.relations.specs.Laws.Names.{Walk, walk_start, walk-second, shares-skip, share-end, share-hit, share-over, share-past}
-use borrow.Author.Rules.{rules}
+use Rattle.relations.specs.Laws.Names.{walk_start, walk-second, shares-skip, share-end, share-hit, share-over, share-past}
 use Rattle.relations.proofs.names.names_share.Goals as goal
 use Rattle.relations.proofs.names.names_share.Goals.{else-loop-more-test, then-loop-more-test+else-x-y+then-x-y-2}
 
 pub search-init : goal.search-init
-search-init c =     (walk_start c.requires.ascending c.requires.ascending_2, refl)
+search-init c = (walk_start c.requires.ascending c.requires.ascending_2, refl)
 
 pub loop-more-init : goal.loop-more-init
 loop-more-init c =
@@ -30,8 +26,7 @@ search-preserved c =
     let loop = c.loop-more in
     let x = c.u16_at-x in
     let l = loop.invariant in
-    let p = c.search-test.true in
-    (
+    let p = c.search-test.true in (
       elim c.loop-more-test.branch [
         | else-loop-more-test w ↦ share-over l.0 p x.result x.ensures.0 w.loop-more-test.false
         | then-loop-more-test+else-x-y+then-x-y-2 w ↦
@@ -41,7 +36,7 @@ search-preserved c =
     )
 
 pub returns-after-search : goal.returns-after-search
-returns-after-search c =     c.search.invariant.1 ∙ share-end c.search.invariant.0 c.search-test.false
+returns-after-search c = c.search.invariant.1 ∙ share-end c.search.invariant.0 c.search-test.false
 
 pub returns-then-x-y : goal.returns-then-x-y
 returns-then-x-y c =

@@ -1,10 +1,7 @@
-use mathlib.Core.Path.{◌≡◌, refl, ◌∙◌}
+use mathlib.Core.Path.{◌≡◌}
 use mathlib.Core.Bool.{false}
-use mathlib.Core.Logic.{⊎_elim}
-use native.Mathlib.Omega.{arith}
 use Rattle.cedar.specs.Disjoint.{shares}
-use Rattle.relations.specs.Laws.Names.{Walk, walk_start, walk-second, shares-skip, share-end, share-hit, share-over, share-past}
-use borrow.Author.Rules.{rules}
+use Rattle.relations.specs.Laws.Names.{Walk}
 use Rattle.relations.proofs.names.names_share.Given as goal
 
 abbrev pub invariant-loop-more : goal.invariant-loop-more

@@ -1,16 +1,13 @@
 use mathlib.Core.Path.{ap}
-use mathlib.Core.Logic.{⊎_elim}
 use Prim.Native.Nat.{◌<◌}
 use native.Mathlib.Omega.{arith}
-use Rattle.cedar.specs.Subtype.{subset}
 use Rattle.forms.specs.Parts.{rest}
-use Rattle.relations.specs.Laws.Names.{Walk, walk_start, walk-met, walk-second, subset-skip, subset-end, subset-over, subset-past, subset-both}
-use borrow.Author.Rules.{rules}
+use Rattle.relations.specs.Laws.Names.{walk_start, walk-met, walk-second, subset-skip, subset-end, subset-over, subset-past, subset-both}
 use Rattle.relations.proofs.names.names_subset.Goals as goal
 use Rattle.relations.proofs.names.names_subset.Goals.{then-x-y-2, else-x-y-2}
 
 pub loop-left-init : goal.loop-left-init
-loop-left-init c =     walk_start c.requires.ascending c.requires.ascending_2
+loop-left-init c = walk_start c.requires.ascending c.requires.ascending_2
 
 pub returns-then-more-eq0 : goal.returns-then-more-eq0
 returns-then-more-eq0 c =

@@ -1,14 +1,13 @@
 use mathlib.Core.Path.{refl}
-use Prim.Native.Nat.{◌-◌, ◌<◌}
+use Prim.Native.Nat.{◌<◌}
 use native.Mathlib.Omega.{arith}
 use lib.ListN.{length}
 use Rattle.forms.specs.Laws.Names.{unlike-lengths}
-use Rattle.relations.specs.Laws.Equality.{BytesLeft, bytes-end, bytes-differ, bytes-again}
-use borrow.Author.Rules.{rules}
+use Rattle.relations.specs.Laws.Equality.{bytes-end, bytes-differ, bytes-again}
 use Rattle.relations.proofs.same_bytes.same_bytes.Goals as goal
 
 pub returns-then-a-b : goal.returns-then-a-b
-returns-then-a-b c =     unlike-lengths c.args.a.now c.args.b.now c.if-a-b.true
+returns-then-a-b c = unlike-lengths c.args.a.now c.args.b.now c.if-a-b.true
 
 pub loop-i-init : goal.loop-i-init
 loop-i-init c = record { same = refl }

@@ -1,10 +1,6 @@
-use mathlib.Core.Path.{refl}
-use Prim.Native.Nat.{◌-◌, ◌<◌}
-use native.Mathlib.Omega.{arith}
+use Prim.Native.Nat.{◌-◌}
 use lib.ListN.{length}
-use Rattle.forms.specs.Laws.Names.{unlike-lengths}
-use Rattle.relations.specs.Laws.Equality.{BytesLeft, bytes-end, bytes-differ, bytes-again}
-use borrow.Author.Rules.{rules}
+use Rattle.relations.specs.Laws.Equality.{BytesLeft}
 use Rattle.relations.proofs.same_bytes.same_bytes.Given as goal
 
 abbrev pub invariant-loop-i : goal.invariant-loop-i

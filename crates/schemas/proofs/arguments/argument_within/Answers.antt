@@ -1,9 +1,8 @@
 use Rattle.schemas.specs.Laws.Arguments.{arg-extension, arg-named, arg-low, arg_plain}
-use borrow.Author.Rules.{rules}
 use Rattle.schemas.proofs.arguments.argument_within.Goals as goal
 
 pub returns-then-k-eq-EXTENSION : goal.returns-then-k-eq-EXTENSION
-returns-then-k-eq-EXTENSION c =     arg-extension c.args.a.now c.if-k-eq-EXTENSION.true
+returns-then-k-eq-EXTENSION c = arg-extension c.args.a.now c.if-k-eq-EXTENSION.true
 
 pub returns-then-u16_at-ne-NONE : goal.returns-then-u16_at-ne-NONE
 returns-then-u16_at-ne-NONE c =

@@ -1,16 +1,14 @@
-use borrow.Author.Rules.{rules}
 use Rattle.forms.specs.Laws.Parts.{length_rest}
-use lib.ListN.{length}
 use native.Mathlib.Omega.{arith}
 use mathlib.Core.Path.{refl}
-use Rattle.schemas.specs.Laws.Arguments.{ArgsLeft, args-short, args-not, args-again, args_end}
+use Rattle.schemas.specs.Laws.Arguments.{args-short, args-not, args-again, args_end}
 use Rattle.schemas.proofs.arguments.arguments_within.Goals as goal
 
 pub loop-a-init : goal.loop-a-init
 loop-a-init c = record { same = refl }
 
 pub returns-then-a-lt-ARGUMENT : goal.returns-then-a-lt-ARGUMENT
-returns-then-a-lt-ARGUMENT c =     args-short c.loop-a.invariant c.loop-a-test.true c.if-a-lt-ARGUMENT.true
+returns-then-a-lt-ARGUMENT c = args-short c.loop-a.invariant c.loop-a-test.true c.if-a-lt-ARGUMENT.true
 
 pub returns-then-not-argument_within : goal.returns-then-not-argument_within
 returns-then-not-argument_within c =
@@ -18,7 +16,7 @@ returns-then-not-argument_within c =
     c.argument_within.ensures c.if-not-argument_within.true-raw
 
 pub loop-a-smaller : goal.loop-a-smaller
-loop-a-smaller c =     omega (arith, length_rest 3 c.loop-a.a.now)
+loop-a-smaller c = omega (arith, length_rest 3 c.loop-a.a.now)
 
 pub loop-a-preserved : goal.loop-a-preserved
 loop-a-preserved c =

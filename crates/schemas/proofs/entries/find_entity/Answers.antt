@@ -1,5 +1,4 @@
 use Rattle.schemas.specs.Laws.Finders.{entities-laid}
-use borrow.Author.Rules.{rules}
 use Rattle.schemas.proofs.entries.find_entity.Goals as goal
 
 pub find_entry-requires : goal.find_entry-requires

@@ -1,22 +1,20 @@
 use Rattle.forms.specs.Laws.Parts.{length_rest}
-use Rattle.schemas.specs.Laws.Entries.{FindLeft, find-start, find-room, find-fit, find-here, find-again, find-end}
+use Rattle.schemas.specs.Laws.Entries.{find-start, find-room, find-fit, find-here, find-again, find-end}
 use Rattle.schemas.specs.Laws.Walks.{at_least}
-use Rattle.schemas.specs.SchemaBytes.{row_of}
-use borrow.Author.Rules.{rules}
 use native.Mathlib.Omega.{arith}
 use Rattle.schemas.proofs.entries.find_entry.Goals as goal
 
 pub loop-left-init : goal.loop-left-init
-loop-left-init c =     find-start c.args.key c.requires
+loop-left-init c = find-start c.args.key c.requires
 
 pub slice_bounds-e-count : goal.slice_bounds-e-count
-slice_bounds-e-count c =     omega (arith, find-room c.loop-left.invariant c.loop-left-test.true)
+slice_bounds-e-count c = omega (arith, find-room c.loop-left.invariant c.loop-left-test.true)
 
 pub slice_bounds-e-start : goal.slice_bounds-e-start
-slice_bounds-e-start c =     omega (arith, find-room c.loop-left.invariant c.loop-left-test.true)
+slice_bounds-e-start c = omega (arith, find-room c.loop-left.invariant c.loop-left-test.true)
 
 pub slice_bounds-e-end : goal.slice_bounds-e-end
-slice_bounds-e-end c =     omega (arith, find-room c.loop-left.invariant c.loop-left-test.true)
+slice_bounds-e-end c = omega (arith, find-room c.loop-left.invariant c.loop-left-test.true)
 
 pub body_length-requires : goal.body_length-requires
 body_length-requires c =
@@ -36,7 +34,7 @@ returns-then-has_key c =
     c.has_key.ensures c.if-has_key.true
 
 pub overflow_add-at : goal.overflow_add-at
-overflow_add-at c =     omega (arith, find-room c.loop-left.invariant c.loop-left-test.true, c.width-width.ensures)
+overflow_add-at c = omega (arith, find-room c.loop-left.invariant c.loop-left-test.true, c.width-width.ensures)
 
 pub loop-left-preserved : goal.loop-left-preserved
 loop-left-preserved c =
@@ -44,4 +42,4 @@ loop-left-preserved c =
     c.has_key.result c.has_key.ensures c.if-has_key.false c.width-width.result c.width-width.ensures
 
 pub returns : goal.returns
-returns c =     find-end c.loop-left.invariant c.loop-left-test.false
+returns c = find-end c.loop-left.invariant c.loop-left-test.false

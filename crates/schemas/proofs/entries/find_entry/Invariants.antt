@@ -1,9 +1,5 @@
-use Rattle.forms.specs.Laws.Parts.{length_rest}
-use Rattle.schemas.specs.Laws.Entries.{FindLeft, find-start, find-room, find-fit, find-here, find-again, find-end}
-use Rattle.schemas.specs.Laws.Walks.{at_least}
+use Rattle.schemas.specs.Laws.Entries.{FindLeft}
 use Rattle.schemas.specs.SchemaBytes.{row_of}
-use borrow.Author.Rules.{rules}
-use native.Mathlib.Omega.{arith}
 use Rattle.schemas.proofs.entries.find_entry.Given as goal
 
 abbrev pub invariant-loop-left : goal.invariant-loop-left

@@ -1,7 +1,5 @@
 use Rattle.forms.specs.Limits.{as_limits}
-use Rattle.schemas.specs.Laws.Walks.{WalkLeft, walk_start, walk-room, walk-unfit, walk-short, walk-body, walk-again, walk_end}
-use borrow.Author.Rules.{rules}
-use native.Mathlib.Omega.{arith}
+use Rattle.schemas.specs.Laws.Walks.{WalkLeft}
 use Rattle.schemas.proofs.sections.section_within.Given as goal
 
 abbrev pub invariant-loop-left : goal.invariant-loop-left

@@ -1,5 +1,4 @@
 use Rattle.schemas.specs.Laws.Checks.{check-refused, check-allowed}
-use borrow.Author.Rules.{rules}
 use Rattle.schemas.proofs.whole.check_schema.Goals as goal
 
 pub returns-then-not-are_allowed : goal.returns-then-not-are_allowed

@@ -1,12 +1,11 @@
 use Rattle.schemas.specs.Laws.Checks.{head-short, head-entities, head-actions, head-functions, head-open}
-use borrow.Author.Rules.{rules}
 use Rattle.schemas.proofs.whole.counts_within.Goals as goal
 
 pub returns-then-s-lt-BYTES : goal.returns-then-s-lt-BYTES
-returns-then-s-lt-BYTES c =     head-short c.args.s.now c.if-s-lt-BYTES.true
+returns-then-s-lt-BYTES c = head-short c.args.s.now c.if-s-lt-BYTES.true
 
 pub returns-then-u16_at-gt-ENTITIES : goal.returns-then-u16_at-gt-ENTITIES
-returns-then-u16_at-gt-ENTITIES c =     head-entities c.args.s.now c.u16_at.result c.u16_at.ensures.0 c.if-u16_at-gt-ENTITIES.true
+returns-then-u16_at-gt-ENTITIES c = head-entities c.args.s.now c.u16_at.result c.u16_at.ensures.0 c.if-u16_at-gt-ENTITIES.true
 
 pub returns-then-u16_at-gt-ACTIONS : goal.returns-then-u16_at-gt-ACTIONS
 returns-then-u16_at-gt-ACTIONS c =

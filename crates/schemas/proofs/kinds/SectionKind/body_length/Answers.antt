@@ -1,5 +1,4 @@
 use native.Mathlib.Omega.{arith}
-use borrow.Author.Rules.{rules}
 use Rattle.schemas.proofs.kinds.SectionKind.body_length.Goals as goal
 
 pub u16_at-requires : goal.u16_at-requires

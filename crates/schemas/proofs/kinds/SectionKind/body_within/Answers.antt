@@ -1,12 +1,11 @@
 use native.Mathlib.Omega.{arith}
-use borrow.Author.Rules.{rules}
 use Rattle.schemas.proofs.kinds.SectionKind.body_within.Goals as goal
 
 pub bounds-e-2 : goal.bounds-e-2
-bounds-e-2 c =     omega (arith, rw c.in-Entities.is at c.requires)
+bounds-e-2 c = omega (arith, rw c.in-Entities.is at c.requires)
 
 pub returns-in-Entities : goal.returns-in-Entities
-returns-in-Entities c =     rw c.in-Entities.is c.body_within.ensures
+returns-in-Entities c = rw c.in-Entities.is c.body_within.ensures
 
 pub returns-in-Actions : goal.returns-in-Actions
 returns-in-Actions c = rw c.in-Actions.is c.body_within-in-Actions.ensures

@@ -1,5 +1,4 @@
 use native.Mathlib.Omega.{arith}
-use borrow.Author.Rules.{rules}
 use Rattle.schemas.proofs.kinds.SectionKind.follows.Goals as goal
 
 pub entity_follows-requires : goal.entity_follows-requires

@@ -2,7 +2,6 @@ use native.Mathlib.Omega.{arith}
 use Prim.Native.Nat.{ℕ, ◌+◌}
 use mathlib.Core.Path.{ap, ap₂}
 use Rattle.schemas.specs.Laws.Walks.{at_least}
-use borrow.Author.Rules.{rules}
 use Rattle.schemas.proofs.kinds.SectionKind.next.Goals as goal
 
 pub u16_at-name-requires : goal.u16_at-name-requires
@@ -15,7 +14,7 @@ pub returns-in-Entities : goal.returns-in-Entities
 returns-in-Entities c = rw c.in-Entities.is (ap (λ (n : ℕ). n + 1) c.u16_at-name.ensures.0)
 
 pub returns-in-Actions : goal.returns-in-Actions
-returns-in-Actions c =     rw c.in-Actions.is (ap₂ (λ (i j : ℕ). (i, j + 1)) c.u16_at-name.ensures.0 c.u16_at.ensures.0)
+returns-in-Actions c = rw c.in-Actions.is (ap₂ (λ (i j : ℕ). (i, j + 1)) c.u16_at-name.ensures.0 c.u16_at.ensures.0)
 
 pub returns-in-Functions : goal.returns-in-Functions
 returns-in-Functions c = rw c.in-Functions.is (ap (λ (n : ℕ). n + 1) c.u16_at-name.ensures.0)

@@ -1,13 +1,12 @@
 use mathlib.Core.Path.{◌∙◌}
 use Rattle.schemas.specs.Laws.Offsets.{of-whole, of-broken}
-use borrow.Author.Rules.{rules}
 use Rattle.schemas.proofs.offsets.Offsets.of.Goals as goal
 
 pub returns-in-Whole : goal.returns-in-Whole
 returns-in-Whole c =
     let args = c.args in
-    of-whole args.limits args.s.now c.check_schema.result c.check_schema.ensures c.«c».given.0.0
-    c.«c».given.1
+    of-whole args.limits args.s.now c.check_schema.result c.check_schema.ensures c.in-Whole.at
+    c.in-Whole.is
 
 pub returns-in-Broken : goal.returns-in-Broken
 returns-in-Broken c =
