@@ -1,5 +1,5 @@
 -- The conversion to a core type, with its refusal. Assumes nothing: these are definitions.
-use Rattle.std.specs.Prelude.{ℕ, Bool, cond, eqb}
+use Rattle.std.specs.Prelude.{ℕ, cond, eqb}
 use Rattle.cedar.specs.Types.{true', false', bool, Ty, Attrs}
 use Rattle.cedar.specs.TypeForm.{atom_code}
 use Rattle.cedar.specs.Conversion.{convert, convert_attrs}

@@ -19,7 +19,7 @@ use Rattle.attributes.specs.declared.entity_attribute.EntityEntries.{EntityEntri
 use Rattle.attributes.specs.declared.entity_attribute.EntityEntries.TheVariants.{From, Missing as NoEntity}
 use Rattle.attributes.specs.Place.{Placed}
 use Rattle.attributes.specs.EntityAttribute.{AttributeIn, EntriesIn}
-use Rattle.attributes.specs.Laws.Place.{place_at, place_none}
+use Rattle.attributes.specs.Laws.Place.{placed_at, place_none}
 
 -- A part of a part.
 pub part-part : (a z s e : ℕ) (b : List ℕ) → z ≤ length b → e ≤ length (part a z b) → part s e (part a z b) ≡ part (a + s) (a + e) b
@@ -77,7 +77,7 @@ module _ {lim : Limits} {b : List ℕ} {n a z : ℕ} (v : EntityAt lim b n a z) 
     module _ (s e : ℕ) (q : Bool) (h : r ≡ PlaceAt s e q) where
       found : (s ≤ e) × (e ≤ length (part a z b)) × (whole below (part s e (part a z b)) ≡ true) ×
           (own_attr name (dec top (part a z b)) ≡ some (q, dec below (part s e (part a z b))))
-      found = place_at below (part a z b) (own_attr name (dec top (part a z b))) r s e q h p
+      found = placed_at below (part a z b) (own_attr name (dec top (part a z b))) r s e q h p
 
       same : part s e (part a z b) ≡ part (a + s) (a + e) b
       same = part-part a z s e b v.body.inside found.1

@@ -18,13 +18,13 @@ use Rattle.attributes.specs.declared.entity_attribute.EntityAttribute.{EntityAtt
 use Rattle.attributes.specs.declared.entity_attribute.EntityAttribute.TheVariants.{At as AttributeAt, Absent, Missing}
 use Rattle.attributes.specs.EntityAttribute.{AttributeIn}
 use Rattle.attributes.specs.Laws.EntityAttribute.{attribute-at, attribute-absent, attribute-missing}
-use Rattle.attributes.specs.Laws.Place.{place_at, place_none}
+use Rattle.attributes.specs.Laws.Place.{placed_at, place_none}
 use Rattle.attributes.specs.Laws.Ahead.{Ahead, ahead-end, ahead-first, ahead-next}
 
 -- A place by its cases.
 module _ (l : ℕ) (b : List ℕ) (o : Option (Bool × Ty)) (r : Place) (p : Placed l b o r) where
   pub placed-present : (s e : ℕ) (q : Bool) → r ≡ At s e q → true ≡ present o
-  placed-present s e q h = rw (place_at l b o r s e q h p).3 refl
+  placed-present s e q h = rw (placed_at l b o r s e q h p).3 refl
 
   pub placed-absent : r ≡ Nothing → false ≡ present o
   placed-absent h = rw (place_none l b o r h p) refl

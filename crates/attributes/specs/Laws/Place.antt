@@ -186,9 +186,9 @@ other-placed name l b w p q = elim (see l b w) [
 ]
 
 -- A place by its cases.
-pub place_at : (l : ℕ) (b : List ℕ) (o : Option (Bool × Ty)) (r : Place) (s e : ℕ) (q : Bool) → r ≡ At s e q → Placed l b o r
+pub placed_at : (l : ℕ) (b : List ℕ) (o : Option (Bool × Ty)) (r : Place) (s e : ℕ) (q : Bool) → r ≡ At s e q → Placed l b o r
     → (s ≤ e) × (e ≤ length b) × (whole l (part s e b) ≡ true) × (o ≡ some (q, dec l (part s e b)))
-place_at l b o r s e q h p = subst (λ (x : Place). Placed l b o x) h p
+placed_at l b o r s e q h p = subst (λ (x : Place). Placed l b o x) h p
 
 pub place_none : (l : ℕ) (b : List ℕ) (o : Option (Bool × Ty)) (r : Place) → r ≡ Nothing → Placed l b o r → o ≡ none
 place_none l b o r h p = subst (λ (x : Place). Placed l b o x) h p
