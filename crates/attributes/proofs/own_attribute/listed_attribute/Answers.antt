@@ -12,11 +12,11 @@ find-requires c =
     let u16-at = c.u16_at-n in
     listed-laid c.requires u16-at.result u16-at.ensures.0
 
--- ?? clauses placed,result_value
 pub returns-in_default : goal.returns-in_default
 returns-in_default c =
-    place-nothing c.requires c.u16_at-n.result c.u16_at-n.ensures.0 c.args.name c.find.result c.find.ensures
-    c.in_default.is
+    let both = place-nothing c.requires c.u16_at-n.result c.u16_at-n.ensures.0 c.args.name c.find.result c.find.ensures
+    c.in_default.is in
+    record { placed = both.0; result_value = both.1 }
 
 pub overflow_mul-e : goal.overflow_mul-e
 overflow_mul-e c =
@@ -64,11 +64,13 @@ bounds-e-2 c =
     let f = listed-fit c.requires c.u16_at-n.result c.u16_at-n.ensures.0 in
     omega (arith, p.room)
 
--- ?? clauses placed,result_value
 pub returns : goal.returns
 returns c =
     let p = place_found c.requires c.u16_at-n.result c.u16_at-n.ensures.0 c.args.name c.find.result c.find.ensures
     c.in-At.i c.in-At.off c.in-At.is in
     let f = listed-fit c.requires c.u16_at-n.result c.u16_at-n.ensures.0 in
     let bytes = Bytes-index c.args.t.now (λ i. omega (arith, c.type_inv.t i)) in
-    rw c.u16_at.ensures.0 ((omega arith, p.inside, p.body, p.is), sym (p.place bytes))
+    record {
+      placed = rw c.u16_at.ensures.0 (omega arith, p.inside, p.body, p.is);
+      result_value = rw c.u16_at.ensures.0 (sym (p.place bytes));
+    }

@@ -14,11 +14,11 @@ overflow_sub-levels c =     (is-record c.args.levels c.args.t.now c.requires c.i
 pub listed_attribute-requires : goal.listed_attribute-requires
 listed_attribute-requires c =     record-listed c.args.levels c.args.t.now c.requires c.if-k-eq-RECORD.true
 
--- ?? clauses placed,result_value
 pub returns-then-k-eq-RECORD : goal.returns-then-k-eq-RECORD
 returns-then-k-eq-RECORD c =
     let args = c.args in
-    record-placed args.name args.levels args.t.now c.requires c.listed_attribute.result c.if-k-eq-RECORD.true c.listed_attribute.ensures.?
+    let both = record-placed args.name args.levels args.t.now c.requires c.listed_attribute.result c.if-k-eq-RECORD.true (c.listed_attribute.ensures.placed, c.listed_attribute.ensures.result_value) in
+    record { placed = both.0; result_value = both.1 }
 
 pub overflow_sub-levels-then-k-eq-ACTION : goal.overflow_sub-levels-then-k-eq-ACTION
 overflow_sub-levels-then-k-eq-ACTION c =     (is-action c.args.levels c.args.t.now c.requires c.if-k-eq-ACTION.true).deep
@@ -26,11 +26,11 @@ overflow_sub-levels-then-k-eq-ACTION c =     (is-action c.args.levels c.args.t.n
 pub listed_attribute-requires-then-k-eq-ACTION : goal.listed_attribute-requires-then-k-eq-ACTION
 listed_attribute-requires-then-k-eq-ACTION c =     action-listed c.args.levels c.args.t.now c.requires c.if-k-eq-ACTION.true
 
--- ?? clauses placed,result_value
 pub returns-then-k-eq-ACTION : goal.returns-then-k-eq-ACTION
 returns-then-k-eq-ACTION c =
     let args = c.args in
-    action-placed args.name args.levels args.t.now c.requires c.listed_attribute-then-k-eq-ACTION.result c.if-k-eq-ACTION.true c.listed_attribute-then-k-eq-ACTION.ensures.?
+    let both = action-placed args.name args.levels args.t.now c.requires c.listed_attribute-then-k-eq-ACTION.result c.if-k-eq-ACTION.true (c.listed_attribute-then-k-eq-ACTION.ensures.placed, c.listed_attribute-then-k-eq-ACTION.ensures.result_value) in
+    record { placed = both.0; result_value = both.1 }
 
 pub returns : goal.returns
 returns c =
