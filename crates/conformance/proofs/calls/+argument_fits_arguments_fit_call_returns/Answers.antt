@@ -1,29 +1,24 @@
 use Rattle.forms.specs.Parts.{rd}
 use Rattle.schemas.specs.Laws.Finders.{function-at, function-not}
 use Rattle.conformance.specs.Laws.Calls.{call-unknown, call_none, call-other, call-arguments, fit-bool, fit-long, fit-string, fit-not, fit-call}
-use Rattle.conformance.proofs.OtherVerdicts.{no-yes}
-use Rattle.schemas.specs.SchemaBytes.{dec_s, args_of}
-use Rattle.cedar.specs.Conformance.{of_arguments}
+use Rattle.schemas.specs.SchemaBytes.{dec_s}
 use Rattle.forms.specs.Limits.{as_limits}
 use Rattle.conformance.specs.Walks.{arguments_of}
 use Rattle.conformance.specs.Counts.{counts_of}
 use Rattle.forms.specs.ValueBytes.{member_row, whole_v}
-use Rattle.conformance.specs.Laws.Arguments.{ArgumentsAhead, arguments-start, arguments-end, arguments-few, arguments-over, arguments-first, arguments-stop}
+use Rattle.conformance.specs.Laws.Arguments.{arguments-start, arguments-end, arguments-few, arguments-over, arguments-first, arguments-stop}
 use Rattle.conformance.specs.Laws.Arguments.{arguments-again}
 use Rattle.forms.specs.Laws.Ahead.{table-count, table-entries, ahead-room, ahead-inside, ahead-body}
 use Rattle.forms.specs.Laws.Values.{value-level, value-first, value_as}
 use mathlib.Core.Path.{◌∙◌}
-use borrow.Author.Rules.{rules}
-use Prim.Native.Nat.{◌+◌, ◌*◌}
 use native.Mathlib.Omega.{arith}
-use Prim.Native.Nat.{ℕ, ◌<◌}
 use Rattle.conformance.proofs.calls.+argument_fits_arguments_fit_call_returns.Goals as goal
 
 pub argument_fits-bounds-asked-0 : goal.argument_fits-bounds-asked-0
-argument_fits-bounds-asked-0 t c =     omega (arith, c.requires.in_bounds.0)
+argument_fits-bounds-asked-0 t c = omega (arith, c.requires.in_bounds.0)
 
 pub argument_fits-bounds-v-0 : goal.argument_fits-bounds-v-0
-argument_fits-bounds-v-0 t c =     value-first c.args.levels c.args.v.now c.requires.v_value
+argument_fits-bounds-v-0 t c = value-first c.args.levels c.args.v.now c.requires.v_value
 
 pub argument_fits-returns-then-j-ne-CALL : goal.argument_fits-returns-then-j-ne-CALL
 argument_fits-returns-then-j-ne-CALL t c =
@@ -32,10 +27,10 @@ argument_fits-returns-then-j-ne-CALL t c =
     fit-not _ _ args.asked.now args.levels args.v.now c.requires.in_bounds.1 c.requires.v_value m.0.0.1 m.0.1 m.1 c.if-j-ne-CALL.true
 
 pub argument_fits-u16_at-name-requires : goal.argument_fits-u16_at-name-requires
-argument_fits-u16_at-name-requires t c =     omega (arith, c.requires.in_bounds.0)
+argument_fits-u16_at-name-requires t c = omega (arith, c.requires.in_bounds.0)
 
 pub argument_fits-overflow_sub-levels : goal.argument_fits-overflow_sub-levels
-argument_fits-overflow_sub-levels t c =     omega (arith, value-level c.args.levels c.args.v.now c.requires.v_value)
+argument_fits-overflow_sub-levels t c = omega (arith, value-level c.args.levels c.args.v.now c.requires.v_value)
 
 pub argument_fits-call_returns-requires : goal.argument_fits-call_returns-requires
 argument_fits-call_returns-requires t c =
@@ -70,7 +65,7 @@ argument_fits-returns-else-j-ne-CALL t c =
     if1.false u16-at.result u16-at.ensures.0 call-returns-step.result call-returns-step.ensures
 
 pub arguments_fit-u16_at-n-requires : goal.arguments_fit-u16_at-n-requires
-arguments_fit-u16_at-n-requires t c =     omega (arith, table-count member_row (λ _. whole_v c.args.levels) tt 3 c.args.v.now c.requires.v_value)
+arguments_fit-u16_at-n-requires t c = omega (arith, table-count member_row (λ _. whole_v c.args.levels) tt 3 c.args.v.now c.requires.v_value)
 
 pub arguments_fit-slice_bounds-e-count : goal.arguments_fit-slice_bounds-e-count
 arguments_fit-slice_bounds-e-count t c =
@@ -137,7 +132,7 @@ arguments_fit-returns-in_default t c =
     let loop-test = c.loop-left-test in
     let loop = c.loop-left in
     arguments-stop loop.invariant loop-test.true if1.false u16-at2.result u16-at2.ensures.0 f.result f.ensures
-    (no-yes f.result c.in_default.is)
+    c.in_default.not-Holds
 
 pub arguments_fit-slice_bounds-e-count-in-loop-left : goal.arguments_fit-slice_bounds-e-count-in-loop-left
 arguments_fit-slice_bounds-e-count-in-loop-left t c =
@@ -193,10 +188,10 @@ arguments_fit-returns t c =
     arguments-end loop.invariant loop-test.false c.if-k-gt0.false
 
 pub call_returns-u16_at-name-requires : goal.call_returns-u16_at-name-requires
-call_returns-u16_at-name-requires t c =     omega (arith, table-count member_row (λ _. whole_v c.args.levels) tt 3 c.args.v.now c.requires.v_value)
+call_returns-u16_at-name-requires t c = omega (arith, table-count member_row (λ _. whole_v c.args.levels) tt 3 c.args.v.now c.requires.v_value)
 
 pub call_returns-find_function-requires : goal.call_returns-find_function-requires
-call_returns-find_function-requires t c =     c.requires.sectioned
+call_returns-find_function-requires t c = c.requires.sectioned
 
 pub call_returns-returns-in_default : goal.call_returns-returns-in_default
 call_returns-returns-in_default t c =

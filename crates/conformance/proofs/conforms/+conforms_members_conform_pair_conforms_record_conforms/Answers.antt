@@ -1,14 +1,10 @@
-use Rattle.conformance.specs.Laws.Records.{RecordAhead, record-start, record-end, record-skip, record-stop, record-again, pair-absent, pair-room}
+use Rattle.conformance.specs.Laws.Records.{record-start, record-end, record-skip, record-stop, record-again, pair-absent, pair-room}
 use Rattle.conformance.specs.Laws.Records.{pair_inside, pair-whole, pair_found}
 use Rattle.forms.specs.Laws.Attributes.{laid, past}
 use Rattle.conformance.specs.Laws.Required.{records-table}
-use Rattle.conformance.proofs.OtherVerdicts.{no-yes}
-use Rattle.forms.specs.Limits.{as_limits}
-use Rattle.schemas.specs.SchemaBytes.{dec_s}
-use Rattle.forms.specs.TypeBytes.{attr_row, whole, dec}
-use Rattle.cedar.specs.Conformance.{each_value, has_required, conforms as has, verdict}
-use Rattle.conformance.specs.Walks.{is_open, attributes_of, members_of, pairs_of, record_said}
-use Rattle.conformance.specs.Laws.Members.{MembersAhead, members-start, members-end, members-stop, members-again}
+use Rattle.forms.specs.TypeBytes.{attr_row, whole}
+use Rattle.cedar.specs.Conformance.{verdict}
+use Rattle.conformance.specs.Laws.Members.{members-start, members-end, members-stop, members-again}
 use Rattle.forms.specs.Laws.Ahead.{table-count, table-entries, ahead-room, ahead-inside, ahead-body}
 use Rattle.forms.specs.ValueBytes.{member_row, pair_row, whole_v}
 use Rattle.conformance.specs.Laws.Conforms.{taken-kind, kind-not, kind-atom-yes, set-members, record-pairs, record-parts, entity-names, uid-length}
@@ -16,21 +12,18 @@ use Rattle.conformance.specs.Laws.Conforms.{action-name, extension-call}
 use Rattle.forms.specs.Laws.Values.{value-level, value-first, value_as}
 use Rattle.forms.specs.Laws.Parts.{length_rest, rest_0}
 use Rattle.forms.specs.Laws.Views.{not-empty, is_set, is-entity, is-action, is-extension}
-use Rattle.conformance.specs.Counts.{counts_of}
 use Rattle.conformance.specs.Verdicts.{verdict_of}
 use mathlib.Core.Bool.{Bool}
 use mathlib.Core.Path.{refl, ap, ◌∙◌}
-use borrow.Author.Rules.{rules}
-use Prim.Native.Nat.{◌+◌, ◌*◌}
+use Prim.Native.Nat.{◌*◌}
 use native.Mathlib.Omega.{arith}
-use Prim.Native.Nat.{ℕ, ◌<◌}
 use Rattle.conformance.proofs.conforms.+conforms_members_conform_pair_conforms_record_conforms.Goals as goal
 
 pub conforms-bounds-t-0 : goal.conforms-bounds-t-0
-conforms-bounds-t-0 t c =     not-empty c.args.levels c.args.t.now c.requires.t_value
+conforms-bounds-t-0 t c = not-empty c.args.levels c.args.t.now c.requires.t_value
 
 pub conforms-bounds-v-0 : goal.conforms-bounds-v-0
-conforms-bounds-v-0 t c =     value-first c.args.levels c.args.v.now c.requires.v_value
+conforms-bounds-v-0 t c = value-first c.args.levels c.args.v.now c.requires.v_value
 
 pub conforms-returns-then-not-takes_kind : goal.conforms-returns-then-not-takes_kind
 conforms-returns-then-not-takes_kind t c =
@@ -39,13 +32,13 @@ conforms-returns-then-not-takes_kind t c =
     kind-not _ _ args.levels args.t.now args.v.now c.requires.t_value c.requires.v_value q.result q.ensures c.if-not-takes_kind.true-raw
 
 pub conforms-slice_bounds-members_conform-count : goal.conforms-slice_bounds-members_conform-count
-conforms-slice_bounds-members_conform-count t c =     omega (arith, not-empty c.args.levels c.args.t.now c.requires.t_value)
+conforms-slice_bounds-members_conform-count t c = omega (arith, not-empty c.args.levels c.args.t.now c.requires.t_value)
 
 pub conforms-slice_bounds-members_conform-start : goal.conforms-slice_bounds-members_conform-start
 conforms-slice_bounds-members_conform-start t c = conforms-slice_bounds-members_conform-count t c
 
 pub conforms-overflow_sub-levels : goal.conforms-overflow_sub-levels
-conforms-overflow_sub-levels t c =     omega (arith, value-level c.args.levels c.args.v.now c.requires.v_value)
+conforms-overflow_sub-levels t c = omega (arith, value-level c.args.levels c.args.v.now c.requires.v_value)
 
 pub conforms-members_conform-requires : goal.conforms-members_conform-requires
 conforms-members_conform-requires t c =
@@ -59,7 +52,7 @@ conforms-members_conform-requires t c =
     )
 
 pub conforms-overflow_sub-levels-in-8 : goal.conforms-overflow_sub-levels-in-8
-conforms-overflow_sub-levels-in-8 t c =     omega (arith, value-level c.args.levels c.args.v.now c.requires.v_value)
+conforms-overflow_sub-levels-in-8 t c = omega (arith, value-level c.args.levels c.args.v.now c.requires.v_value)
 
 pub conforms-record_conforms-requires : goal.conforms-record_conforms-requires
 conforms-record_conforms-requires t c =
@@ -74,13 +67,13 @@ conforms-record_conforms-requires t c =
     )
 
 pub conforms-slice_bounds-stands-count : goal.conforms-slice_bounds-stands-count
-conforms-slice_bounds-stands-count t c =     omega (arith, (is-entity c.args.levels c.args.t.now c.requires.t_value c.in-10.is).some)
+conforms-slice_bounds-stands-count t c = omega (arith, (is-entity c.args.levels c.args.t.now c.requires.t_value c.in-10.is).some)
 
 pub conforms-slice_bounds-stands-start : goal.conforms-slice_bounds-stands-start
 conforms-slice_bounds-stands-start t c = conforms-slice_bounds-stands-count t c
 
 pub conforms-u16_at-requires : goal.conforms-u16_at-requires
-conforms-u16_at-requires t c =     omega (arith, (is-entity c.args.levels c.args.t.now c.requires.t_value c.in-10.is).some)
+conforms-u16_at-requires t c = omega (arith, (is-entity c.args.levels c.args.t.now c.requires.t_value c.in-10.is).some)
 
 pub conforms-u16_at-requires-in-10 : goal.conforms-u16_at-requires-in-10
 conforms-u16_at-requires-in-10 t c =
@@ -110,13 +103,13 @@ conforms-u16_at-requires-in-11 t c =
     omega (arith, by-uid-length)
 
 pub conforms-u16_at-requires-in-11-2 : goal.conforms-u16_at-requires-in-11-2
-conforms-u16_at-requires-in-11-2 t c =     omega (arith, (is-action c.args.levels c.args.t.now c.requires.t_value c.in-11.is).some)
+conforms-u16_at-requires-in-11-2 t c = omega (arith, (is-action c.args.levels c.args.t.now c.requires.t_value c.in-11.is).some)
 
 pub conforms-u16_at-name-requires : goal.conforms-u16_at-name-requires
-conforms-u16_at-name-requires t c =     omega (arith, (is-extension c.args.levels c.args.t.now c.requires.t_value c.in-12.is).sized)
+conforms-u16_at-name-requires t c = omega (arith, (is-extension c.args.levels c.args.t.now c.requires.t_value c.in-12.is).sized)
 
 pub conforms-overflow_sub-levels-in-12 : goal.conforms-overflow_sub-levels-in-12
-conforms-overflow_sub-levels-in-12 t c =     omega (arith, value-level c.args.levels c.args.v.now c.requires.v_value)
+conforms-overflow_sub-levels-in-12 t c = omega (arith, value-level c.args.levels c.args.v.now c.requires.v_value)
 
 pub conforms-call_returns-requires : goal.conforms-call_returns-requires
 conforms-call_returns-requires t c =
@@ -189,7 +182,7 @@ conforms-returns-in_default t c =
     m.0.0.0.0.1 m.0.0.0.1 m.0.0.1 m.0.1 m.1
 
 pub members_conform-u16_at-n-requires : goal.members_conform-u16_at-n-requires
-members_conform-u16_at-n-requires t c =     omega (arith, table-count member_row (λ _. whole_v c.args.levels) tt 1 c.args.v.now c.requires.v_value)
+members_conform-u16_at-n-requires t c = omega (arith, table-count member_row (λ _. whole_v c.args.levels) tt 1 c.args.v.now c.requires.v_value)
 
 pub members_conform-slice_bounds-e-count : goal.members_conform-slice_bounds-e-count
 members_conform-slice_bounds-e-count t c =
@@ -241,7 +234,7 @@ members_conform-returns-in_default t c =
     let u16-at2 = c.u16_at-len in
     let loop-test = c.loop-left-test in
     let loop = c.loop-left in
-    members-stop loop.invariant loop-test.true u16-at2.result u16-at2.ensures.0 f.result f.ensures (no-yes f.result c.in_default.is)
+    members-stop loop.invariant loop-test.true u16-at2.result u16-at2.ensures.0 f.result f.ensures c.in_default.not-Holds
 
 pub members_conform-slice_bounds-e-count-in-loop-left : goal.members_conform-slice_bounds-e-count-in-loop-left
 members_conform-slice_bounds-e-count-in-loop-left t c =
@@ -274,7 +267,7 @@ pub members_conform-returns : goal.members_conform-returns
 members_conform-returns t c = members-end c.loop-left.invariant c.loop-left-test.false
 
 pub pair_conforms-find-requires : goal.pair_conforms-find-requires
-pair_conforms-find-requires t c =     laid c.requires.sound
+pair_conforms-find-requires t c = laid c.requires.sound
 
 pub pair_conforms-returns-in_default : goal.pair_conforms-returns-in_default
 pair_conforms-returns-in_default t c =
@@ -362,7 +355,7 @@ record_conforms-u16_at-m-requires t c =
     omega (arith, table-count attr_row (λ _. whole args.levels) 0 2 args.t.now (records-table args.levels args.t.now c.requires.t_value))
 
 pub record_conforms-u16_at-n-requires : goal.record_conforms-u16_at-n-requires
-record_conforms-u16_at-n-requires t c =     omega (arith, table-count pair_row (λ _. whole_v c.args.levels) 0 1 c.args.v.now c.requires.v_value)
+record_conforms-u16_at-n-requires t c = omega (arith, table-count pair_row (λ _. whole_v c.args.levels) 0 1 c.args.v.now c.requires.v_value)
 
 pub record_conforms-slice_bounds-f-count : goal.record_conforms-slice_bounds-f-count
 record_conforms-slice_bounds-f-count t c =
@@ -508,7 +501,7 @@ record_conforms-returns-in_default t c =
     let i = record-skip loop.invariant loop-test.true u16-at3.result k.result.entries k.result.bytes u16-at3.ensures.0 k.ensures.0
     k.ensures.1 in
     record-stop i loop-test.true u16-at3.result u16-at3.ensures.0 u16-at4.result u16-at4.ensures.0 p.result p.ensures
-    (no-yes p.result c.in_default.is)
+    c.in_default.not-Holds
 
 pub record_conforms-slice_bounds-e-count-in-loop-left : goal.record_conforms-slice_bounds-e-count-in-loop-left
 record_conforms-slice_bounds-e-count-in-loop-left t c =
@@ -543,7 +536,7 @@ record_conforms-loop-left-preserved t c =
     c.in-Holds.is
 
 pub record_conforms-has_required-requires : goal.record_conforms-has_required-requires
-record_conforms-has_required-requires t c =     record { level = c.args.levels; type = c.requires.t_value; value = c.requires.v_value }
+record_conforms-has_required-requires t c = record { level = c.args.levels; type = c.requires.t_value; value = c.requires.v_value }
 
 pub record_conforms-returns : goal.record_conforms-returns
 record_conforms-returns t c =

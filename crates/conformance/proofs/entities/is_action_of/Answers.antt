@@ -2,7 +2,6 @@ use Rattle.forms.specs.Laws.Parts.{and-not-l, and_yes}
 use Rattle.cedar.specs.Types.{is_action}
 use mathlib.Core.Path.{sym, ◌∙◌}
 use borrow.Author.Tests.{not-true, not-false}
-use borrow.Author.Rules.{rules}
 use Rattle.conformance.proofs.entities.is_action_of.Goals as goal
 
 pub returns-then-not-is_action : goal.returns-then-not-is_action

@@ -1,5 +1,4 @@
-use Rattle.conformance.specs.Laws.Names.{NamesAhead, names-start, names-here, names-again, names-end}
-use borrow.Author.Rules.{rules}
+use Rattle.conformance.specs.Laws.Names.{names-start, names-here, names-again, names-end}
 use Rattle.conformance.proofs.entities.stands.Goals as goal
 
 pub loop-left-init : goal.loop-left-init

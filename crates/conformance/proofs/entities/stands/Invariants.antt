@@ -1,5 +1,4 @@
-use Rattle.conformance.specs.Laws.Names.{NamesAhead, names-start, names-here, names-again, names-end}
-use borrow.Author.Rules.{rules}
+use Rattle.conformance.specs.Laws.Names.{NamesAhead}
 use Rattle.conformance.proofs.entities.stands.Given as goal
 
 abbrev pub invariant-loop-left : goal.invariant-loop-left

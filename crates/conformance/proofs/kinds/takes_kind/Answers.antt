@@ -1,3 +1,5 @@
+use Rattle.conformance.specs.Laws.Kinds.{takes-rest}
+use Rattle.conformance.specs.Kinds.{takes}
 use Prim.Native.Nat.{ℕ}
 use mathlib.Core.Path.{ap, sym}
 use Rattle.conformance.proofs.kinds.takes_kind.Goals as goal

@@ -1,11 +1,10 @@
-use Rattle.conformance.specs.Laws.Required.{RequiredAhead, records-type, records-value, records-attrs, records-pairs, required-start, required-end}
+use Rattle.conformance.specs.Laws.Required.{records-type, records-value, records-attrs, records-pairs, required-start, required-end}
 use Rattle.conformance.specs.Laws.Required.{required-skip, required-not, required-again}
 use Rattle.conformance.specs.Laws.Pairs.{pairs-laid, passed}
 use Rattle.forms.specs.Laws.Ahead.{ahead-room}
 use Rattle.forms.specs.Parts.{rd, rest}
 use Prim.Native.Nat.{◌<◌, ◌≤◌, ◌*◌, ◌-◌}
 use native.Mathlib.Omega.{arith}
-use borrow.Author.Rules.{rules}
 use Rattle.conformance.proofs.required.has_required.Goals as goal
 
 pub u16_at-m-requires : goal.u16_at-m-requires

@@ -5,7 +5,6 @@ use lib.Dec.{eqb}
 use Prim.Native.Nat.{ℕ}
 use mathlib.Core.Path.{refl, ap₂, sym, ◌∙◌}
 use native.Mathlib.Omega.{arith}
-use borrow.Author.Rules.{rules}
 use Rattle.conformance.proofs.required.is_met.Goals as goal
 
 pub returns-then-attribute-ne-REQUIRED : goal.returns-then-attribute-ne-REQUIRED
