@@ -28,4 +28,3 @@ pub mod Conforms
 pub mod Sequence
 pub mod JobForm
 pub mod Lines
-pub mod Laws

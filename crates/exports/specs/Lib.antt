@@ -1,4 +1,3 @@
 pub mod Steps
 pub mod Numbers
 pub mod Checks
-pub mod Laws

@@ -4,7 +4,7 @@ use Rattle.std.proofs.Math.Path.{refl}
 use Rattle.std.proofs.Common.{arith}
 use borrow.Author.Tests.{lt-ltb, le-ltb}
 use Rattle.std.proofs.Math.Dec.{nltb→le}
-use Rattle.cedar.specs.Laws.Tests.{cond_both}
+use Rattle.cedar.proofs.Laws.Tests.{cond_both}
 use Rattle.forms.specs.Parts.{rd}
 use Rattle.printing.specs.declared.batch.Head.{Head}
 use Rattle.printing.specs.declared.batch.Head.TheVariants.{Job, End, Cut, TooLong, Unreadable}

@@ -1,4 +1,3 @@
 pub mod SchemaBytes
 pub mod Offsets
 pub mod Entries
-pub mod Laws

@@ -10,13 +10,13 @@ use Rattle.cedar.specs.Outcome.{over}
 use Rattle.cedar.specs.Limits.{Limits, allowed}
 use Rattle.cedar.specs.Attribute.{entity_of}
 use Rattle.cedar.specs.Literal.{action_of}
-use Rattle.cedar.specs.Laws.Limits.{allowed-bytes}
+use Rattle.cedar.proofs.Laws.Limits.{allowed-bytes}
 use Rattle.forms.specs.Parts.{part, rest}
 use Rattle.forms.specs.TypeBytes.{dec}
 use Rattle.forms.specs.Laws.Parts.{rest-is, length_rest, length_part}
 use Rattle.schemas.specs.SchemaBytes.{dec_s}
 use Rattle.schemas.specs.Entries.{open_at, body_attrs}
-use Rattle.schemas.specs.Laws.Finders.{BodyAt, EntityAt, ActionAt}
+use Rattle.schemas.proofs.Laws.Finders.{BodyAt, EntityAt, ActionAt}
 use Rattle.writing.specs.Laws.Writing.{back, over-at, room_at}
 use Rattle.attributes.specs.declared.euid_literal.Literal.{Literal}
 use Rattle.attributes.specs.declared.euid_literal.Literal.TheVariants.{Action, Entity, Nothing}

@@ -6,7 +6,7 @@ use Rattle.cedar.specs.Types.{Ty, find}
 use Rattle.cedar.specs.Bytes.{Bytes}
 use Rattle.cedar.specs.TypeForm.{enc}
 use Rattle.cedar.specs.BodyPlace.{body_from, body_place}
-use Rattle.cedar.specs.Laws.BodyPlace.{same_place, from-none}
+use Rattle.cedar.proofs.Laws.BodyPlace.{same_place, from-none}
 use Rattle.forms.specs.Parts.{part, rest, rd, kind}
 use Rattle.forms.specs.TypeBytes.{whole, dec, dec_a, Sound}
 use Rattle.forms.specs.Search.{below, used, found_at, Laid}

@@ -4,14 +4,14 @@ use Rattle.std.proofs.Math.Path.{refl, sym}
 use Rattle.std.proofs.Common.{ap, ap₂, ◌∙◌, arith, drop-drop}
 use borrow.Author.Tests.{eq-eqb, ne_eqb}
 use Rattle.cedar.specs.Types.{Mode, strict, Atom, never, true', false', bool, long, string, anyset, anyent, Ty, atom, set, rec, act, ent, ext, Attrs, same}
-use Rattle.cedar.specs.Laws.Shape.{WF, Ordered}
+use Rattle.cedar.proofs.Laws.Shape.{WF, Ordered}
 use Rattle.cedar.specs.TypeForm.{atom_code, enc, one, kind_of}
 use Rattle.cedar.specs.Result.{Result, ok, err, bind}
 use Rattle.cedar.specs.Subtype.{sub}
 use Rattle.cedar.specs.Bound.{bound, join_record, join_set, lost}
 use Rattle.cedar.specs.Limits.{most_bytes}
-use Rattle.cedar.specs.Laws.DirectBound.{direct, direct_names}
-use Rattle.cedar.specs.Laws.TypeForm.{parse-iff}
+use Rattle.cedar.proofs.Laws.DirectBound.{direct, direct_names}
+use Rattle.cedar.proofs.Laws.TypeForm.{parse-iff}
 use Rattle.forms.specs.Parts.{part, rest, rd, kind}
 use Rattle.forms.specs.TypeBytes.{whole, dec, dec_a, names_by}
 use Rattle.forms.specs.Laws.Bytes.{Bytes-index}

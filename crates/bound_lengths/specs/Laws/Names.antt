@@ -5,12 +5,12 @@ use Rattle.std.proofs.Math.Decide.{dec_lt}
 use Rattle.std.proofs.lemmas.Bool.{lt-leb}
 use Rattle.cedar.specs.Types.{Mode, is_permissive, ent, eq_names}
 use Rattle.cedar.specs.TypeForm.{enc}
-use Rattle.cedar.specs.Laws.DirectBound.{direct_names}
+use Rattle.cedar.proofs.Laws.DirectBound.{direct_names}
 use Rattle.writing.specs.declared.form_lengths.FormLength.TheVariants.{Of, Not}
 use Rattle.writing.specs.FormLengths.{cap, form_length_of}
-use Rattle.cedar.specs.Laws.Shape.{Ascend}
+use Rattle.cedar.proofs.Laws.Shape.{Ascend}
 use Rattle.cedar.specs.Bound.{insert, union}
-use Rattle.cedar.specs.Laws.Names.{union-ascend}
+use Rattle.cedar.proofs.Laws.Names.{union-ascend}
 use Rattle.forms.specs.Parts.{rest, rd}
 use Rattle.forms.specs.TypeBytes.{names_up, names_by}
 use Rattle.forms.specs.Laws.Parts.{and_r, length_rest, rest_0}

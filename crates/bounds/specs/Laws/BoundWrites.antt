@@ -8,15 +8,15 @@ use Rattle.std.proofs.Math.ListN.{take}
 use Rattle.std.proofs.lemmas.Bool.{not-true, not-false}
 use Rattle.cedar.specs.Types.{Mode, strict, is_permissive, eq_names, anyset, Ty, atom, set, rec, act, ent, ext, Attrs}
 use Rattle.cedar.specs.Bytes.{u16, flag, enc_names}
-use Rattle.cedar.specs.Laws.Shape.{Ordered}
+use Rattle.cedar.proofs.Laws.Shape.{Ordered}
 use Rattle.cedar.specs.TypeForm.{count, enc, entries, bodies}
 use Rattle.cedar.specs.Result.{Result, ok, err, bind}
 use Rattle.cedar.specs.Outcome.{over}
 use Rattle.cedar.specs.Bound.{union, join_record, join_set}
-use Rattle.cedar.specs.Laws.DirectBound.{direct, direct_attrs, direct_names}
-use Rattle.cedar.specs.Laws.Join.{join_attrs-join}
-use Rattle.cedar.specs.Laws.Lost.{lost-count}
-use Rattle.cedar.specs.Laws.Direct.{direct_attrs-bound}
+use Rattle.cedar.proofs.Laws.DirectBound.{direct, direct_attrs, direct_names}
+use Rattle.cedar.proofs.Laws.Join.{join_attrs-join}
+use Rattle.cedar.proofs.Laws.Lost.{lost-count}
+use Rattle.cedar.proofs.Laws.Direct.{direct_attrs-bound}
 use Rattle.forms.specs.Parts.{part, rest, rd, kind}
 use Rattle.forms.specs.TypeBytes.{whole, dec, names_by}
 use Rattle.forms.specs.Laws.Parts.{part-is, length_part}

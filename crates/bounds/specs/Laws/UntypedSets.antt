@@ -10,7 +10,7 @@ use Rattle.cedar.specs.Types.{Mode, is_loose, anyset, Ty, atom, set}
 use Rattle.cedar.specs.TypeForm.{enc}
 use Rattle.cedar.specs.Result.{Result, ok, err, bind}
 use Rattle.cedar.specs.Bound.{join_set}
-use Rattle.cedar.specs.Laws.Lengths.{enc-pos}
+use Rattle.cedar.proofs.Laws.Lengths.{enc-pos}
 use Rattle.writing.specs.FormLengths.{form_of}
 use Rattle.writing.specs.Laws.FormLengths.{Cut}
 use Rattle.bounds.specs.Joins.{is_ok, KnownLength}

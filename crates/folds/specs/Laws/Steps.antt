@@ -5,19 +5,19 @@ use Rattle.std.proofs.Math.Seq.{take-append_seam, drop-append_seam}
 use Rattle.std.proofs.lemmas.Bool.{lt-leb}
 use Rattle.cedar.specs.Types.{Mode, Ty}
 use Rattle.cedar.specs.Bytes.{Bytes}
-use Rattle.cedar.specs.Laws.Shape.{Ordered}
+use Rattle.cedar.proofs.Laws.Shape.{Ordered}
 use Rattle.cedar.specs.Subtype.{sub}
 use Rattle.cedar.specs.TypeForm.{enc}
 use Rattle.cedar.specs.Limits.{Limits, most_bytes}
 use Rattle.cedar.specs.Result.{Result, ok}
 use Rattle.cedar.specs.Bound.{bound}
-use Rattle.cedar.specs.Laws.DirectBound.{direct}
+use Rattle.cedar.proofs.Laws.DirectBound.{direct}
 use Rattle.cedar.specs.Outcome.{over}
 use Rattle.cedar.specs.Calls.{step_fits}
-use Rattle.cedar.specs.Laws.TypeForm.{parse-iff}
-use Rattle.cedar.specs.Laws.Direct.{direct-bound, direct-right}
-use Rattle.cedar.specs.Laws.Join.{bound-WF}
-use Rattle.cedar.specs.Laws.JoinBytes.{bound-bytes}
+use Rattle.cedar.proofs.Laws.TypeForm.{parse-iff}
+use Rattle.cedar.proofs.Laws.Direct.{direct-bound, direct-right}
+use Rattle.cedar.proofs.Laws.Join.{bound-WF}
+use Rattle.cedar.proofs.Laws.JoinBytes.{bound-bytes}
 use Rattle.forms.specs.Parts.{part, rest}
 use Rattle.forms.specs.TypeBytes.{whole, dec}
 use Rattle.forms.specs.Laws.Parts.{part-is, length_part}

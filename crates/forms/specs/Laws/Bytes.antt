@@ -3,10 +3,10 @@ use Rattle.std.specs.Prelude.{ℕ, zero, suc, ◌<◌, ◌-◌, List, [], ◌∷
 use Rattle.cedar.specs.Bytes.{Bytes}
 use Rattle.cedar.specs.TypeForm.{enc}
 use Rattle.cedar.specs.ValueForm.{enc_value}
-use Rattle.cedar.specs.Laws.Bytes.{Bytes-take, Bytes-drop}
-use Rattle.cedar.specs.Laws.Shape.{WF, WFValue}
-use Rattle.cedar.specs.Laws.TypeForm.{parse-iff}
-use Rattle.cedar.specs.Laws.ValueForm.{parse_value-reads}
+use Rattle.cedar.proofs.Laws.Bytes.{Bytes-take, Bytes-drop}
+use Rattle.cedar.proofs.Laws.Shape.{WF, WFValue}
+use Rattle.cedar.proofs.Laws.TypeForm.{parse-iff}
+use Rattle.cedar.proofs.Laws.ValueForm.{parse_value-reads}
 use Rattle.forms.specs.Parts.{part}
 use Rattle.forms.specs.TypeBytes.{whole, dec}
 use Rattle.forms.specs.ValueBytes.{whole_v, dec_v}

@@ -2,8 +2,8 @@
 use Rattle.std.specs.Prelude.{◌≡◌, refl, List, [], ◌∷◌, true, false, ◌&&◌, ℕ, zero, suc, ◌+◌, ◌*◌, ◌-◌, ◌≤◌, ◌<◌, eqb, length}
 use Rattle.std.proofs.Common.{ap, sym, ◌∙◌, sub-one, mul-suc, arith, eq-eqb, ne_eqb}
 use Rattle.cedar.specs.Types.{Ty, names, eq_names}
-use Rattle.cedar.specs.Laws.Tests.{not-T→false}
-use Rattle.cedar.specs.Laws.Equality.{eq_names→eq}
+use Rattle.cedar.proofs.Laws.Tests.{not-T→false}
+use Rattle.cedar.proofs.Laws.Equality.{eq_names→eq}
 use Rattle.forms.specs.Parts.{rest, rd}
 use Rattle.forms.specs.Rows.{rows_of}
 use Rattle.forms.specs.TypeBytes.{names_by, dec_a}

@@ -8,8 +8,8 @@ use Rattle.cedar.specs.Levels.{depth, depths, depth_value, depth_values, depth_p
 use Rattle.cedar.specs.Bytes.{Bytes}
 use Rattle.cedar.specs.TypeForm.{enc, attrs_of}
 use Rattle.cedar.specs.ValueForm.{enc_value, value_kind, values_from, pairs_from}
-use Rattle.cedar.specs.Laws.TypeForm.{depth_pos}
-use Rattle.cedar.specs.Laws.Depth.{depth-length, depth_value-length, depth_value-pos}
+use Rattle.cedar.proofs.Laws.TypeForm.{depth_pos}
+use Rattle.cedar.proofs.Laws.Depth.{depth-length, depth_value-length, depth_value-pos}
 use Rattle.forms.specs.Parts.{part, rest, rd, kind}
 use Rattle.forms.specs.Rows.{body_row, rows_to, rows_of, none_left, table_fits}
 use Rattle.forms.specs.TypeBytes.{attr_row, whole, dec}

@@ -8,7 +8,7 @@ use Rattle.cedar.specs.Limits.{Limits, most_bytes}
 use Rattle.cedar.specs.Result.{Result, ok, err, bind}
 use Rattle.cedar.specs.Outcome.{over}
 use Rattle.cedar.specs.Attribute.{entity_of, lookup_names, keep_found, entity_names, all_names}
-use Rattle.cedar.specs.Laws.Lengths.{length-enc_names}
+use Rattle.cedar.proofs.Laws.Lengths.{length-enc_names}
 use Rattle.forms.specs.Parts.{part, rest, rd, kind}
 use Rattle.forms.specs.Rows.{table_end}
 use Rattle.forms.specs.TypeBytes.{whole, dec, names_by, attr_row}

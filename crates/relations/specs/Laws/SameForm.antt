@@ -6,10 +6,10 @@ use Rattle.cedar.specs.Bytes.{Bytes, enc_names, parse_names}
 use Rattle.cedar.specs.Types.{Mode, is_permissive, eq_names, same}
 use Rattle.cedar.specs.Subtype.{subset, sub_names}
 use Rattle.cedar.specs.TypeForm.{enc}
-use Rattle.cedar.specs.Laws.Tests.{T-ext}
-use Rattle.cedar.specs.Laws.Equality.{eq_names→eq, eq_names-refl, same→eq, same_refl}
-use Rattle.cedar.specs.Laws.Bytes.{Bytes-drop, parse_names-some}
-use Rattle.cedar.specs.Laws.TypeForm.{parse-reads}
+use Rattle.cedar.proofs.Laws.Tests.{T-ext}
+use Rattle.cedar.proofs.Laws.Equality.{eq_names→eq, eq_names-refl, same→eq, same_refl}
+use Rattle.cedar.proofs.Laws.Bytes.{Bytes-drop, parse_names-some}
+use Rattle.cedar.proofs.Laws.TypeForm.{parse-reads}
 use Rattle.forms.specs.Parts.{rest, rd}
 use Rattle.forms.specs.TypeBytes.{names_by, whole, dec}
 use Rattle.forms.specs.Laws.Parts.{rest-is, length_rest}

@@ -8,8 +8,8 @@ use Rattle.cedar.specs.Bytes.{Bytes}
 use Rattle.cedar.specs.Types.{Mode, Atom, atom, never, is, eq_names, same}
 use Rattle.cedar.specs.Subtype.{sub_names, sub, sub_attrs}
 use Rattle.cedar.specs.TypeForm.{kind_of}
-use Rattle.cedar.specs.Laws.Tests.{T→true, or_inl, or_inr}
-use Rattle.cedar.specs.Laws.Equality.{is-refl}
+use Rattle.cedar.proofs.Laws.Tests.{T→true, or_inl, or_inr}
+use Rattle.cedar.proofs.Laws.Equality.{is-refl}
 use Rattle.forms.specs.Parts.{part, rest, rd, kind}
 use Rattle.forms.specs.TypeBytes.{whole, dec, dec_a, names_by}
 use Rattle.forms.specs.Laws.Views.{is_set, is-record, is-entity, is-action, is-extension, is-atom}

@@ -8,8 +8,8 @@ use Rattle.cedar.specs.Types.{is_never, as_set, as_rec, as_ent, same, Mode, is_p
 use Rattle.cedar.specs.Types.{string, anyset, anyent, Ty, atom, set, rec, act, ent, ext, is, eq_flag, eq_names}
 use Rattle.cedar.specs.Subtype.{sub_atom, sub_flag, sub}
 use Rattle.cedar.specs.TypeForm.{one, kind_of, atom_code}
-use Rattle.cedar.specs.Laws.Tests.{T-ext, not-T→false, eqb-equal}
-use Rattle.cedar.specs.Laws.Equality.{is→eq, is-refl, same→eq}
+use Rattle.cedar.proofs.Laws.Tests.{T-ext, not-T→false, eqb-equal}
+use Rattle.cedar.proofs.Laws.Equality.{is→eq, is-refl, same→eq}
 use Rattle.relations.specs.Under.{kind_under, record_under}
 use Rattle.forms.specs.Codes.{code}
 

@@ -9,7 +9,7 @@ use Rattle.std.proofs.lemmas.Nat.{and_le_l, and_le_r}
 use Rattle.std.proofs.lemmas.Bool.{lt-leb}
 use Rattle.cedar.specs.Types.{maybe}
 use Rattle.cedar.specs.Text.{Range, tail, text_rows, followed, goes_on, is_text}
-use Rattle.cedar.specs.Laws.Text.{split, rows-rise, followed-row, followed-none}
+use Rattle.cedar.proofs.Laws.Text.{split, rows-rise, followed-row, followed-none}
 use Rattle.strings.specs.Steps.{text_from, is_in, second_range, Width, Passes, PassesWide, Plain}
 
 -- ---- Bytes in ranges

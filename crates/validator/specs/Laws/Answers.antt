@@ -18,8 +18,8 @@ use Rattle.cedar.specs.Conforms.{Conforms}
 use Rattle.cedar.specs.Outcome.{Outcome, refused, said, nothing, measured, typed, attribute, named, bytes_of, levels_of, result_after}
 use Rattle.cedar.specs.Calls.{ask, measure_type_call, disjoint_call, bound_call, lookup_call, own_attribute_call, may_have_call, conforms_by}
 use Rattle.cedar.specs.Sequence.{written, LooksUp}
-use Rattle.cedar.specs.Laws.TypeForm.{depth_pos}
-use Rattle.cedar.specs.Laws.Levels.{Told}
+use Rattle.cedar.proofs.Laws.TypeForm.{depth_pos}
+use Rattle.cedar.proofs.Laws.Levels.{Told}
 use Rattle.validator.specs.Answers.{answer_of, Answered, AnsweredIn}
 use Rattle.validator.specs.Handed.{told_of, Handed}
 use Rattle.validator.specs.declared.answers.Answer.{Answer}

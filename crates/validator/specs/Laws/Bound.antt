@@ -3,17 +3,17 @@ use Rattle.std.specs.Prelude.{ℕ, ◌<◌, List, true, ◌≡◌, refl, get_or}
 use Rattle.std.proofs.Math.Option.{none, some}
 use Rattle.std.proofs.Common.{sym, ap, ◌∙◌}
 use Rattle.cedar.specs.Types.{Mode, Ty, Schema}
-use Rattle.cedar.specs.Laws.Shape.{WF}
+use Rattle.cedar.proofs.Laws.Shape.{WF}
 use Rattle.cedar.specs.Limits.{Limits, allowed}
 use Rattle.cedar.specs.Whole.{whole_type, whole_schema}
 use Rattle.cedar.specs.Result.{ok}
 use Rattle.cedar.specs.Outcome.{refused}
 use Rattle.cedar.specs.Bound.{bound}
-use Rattle.cedar.specs.Laws.DirectBound.{direct}
+use Rattle.cedar.proofs.Laws.DirectBound.{direct}
 use Rattle.cedar.specs.Calls.{mode_of, write_type, bound_call}
-use Rattle.cedar.specs.Laws.Whole.{whole_type-reads}
-use Rattle.cedar.specs.Laws.Direct.{direct-bound}
-use Rattle.cedar.specs.Laws.Join.{bound-WF}
+use Rattle.cedar.proofs.Laws.Whole.{whole_type-reads}
+use Rattle.cedar.proofs.Laws.Direct.{direct-bound}
+use Rattle.cedar.proofs.Laws.Join.{bound-WF}
 use Rattle.forms.specs.TypeBytes.{dec}
 use Rattle.forms.specs.Laws.Bytes.{Bytes-index}
 

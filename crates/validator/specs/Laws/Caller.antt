@@ -10,7 +10,7 @@ use Rattle.cedar.specs.Conformance.{Counts}
 use Rattle.cedar.specs.Conforms.{Conforms}
 use Rattle.cedar.specs.Calls.{bound_call}
 use Rattle.cedar.specs.Sequence.{Listed, Step, standing, EachBytes, given_from, written, copied, after_step, after_steps, Kept}
-use Rattle.cedar.specs.Laws.Sequence.{run-keeps}
+use Rattle.cedar.proofs.Laws.Sequence.{run-keeps}
 use Rattle.validator.specs.Answers.{Answered}
 use Rattle.validator.specs.Laws.Answers.{copies, bound-copies}
 use Rattle.validator.specs.declared.answers.Answer.{Answer}

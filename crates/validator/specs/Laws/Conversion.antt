@@ -9,9 +9,9 @@ use Rattle.cedar.specs.Limits.{Limits, allowed}
 use Rattle.cedar.specs.Whole.{whole_type}
 use Rattle.cedar.specs.Result.{ok}
 use Rattle.cedar.specs.Outcome.{refused}
-use Rattle.cedar.specs.Laws.Shape.{WF}
-use Rattle.cedar.specs.Laws.Result.{ok-inj, err-ok}
-use Rattle.cedar.specs.Laws.Depth.{convert-WF}
+use Rattle.cedar.proofs.Laws.Shape.{WF}
+use Rattle.cedar.proofs.Laws.Result.{ok-inj, err-ok}
+use Rattle.cedar.proofs.Laws.Depth.{convert-WF}
 use Rattle.cedar.specs.Calls.{ask, write_type, convert_call}
 use Rattle.forms.specs.TypeBytes.{whole, dec}
 use Rattle.forms.specs.Laws.Bytes.{Bytes-index, dec-reads}

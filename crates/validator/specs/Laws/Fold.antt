@@ -12,7 +12,7 @@ use Rattle.cedar.specs.Whole.{whole_schema, whole_list}
 use Rattle.cedar.specs.Outcome.{Outcome, refused, typed, over}
 use Rattle.cedar.specs.Fold.{fold_types}
 use Rattle.cedar.specs.Calls.{mode_of, step_fits, write_type, fold_call}
-use Rattle.cedar.specs.Laws.Limits.{allowed-levels, allowed-bytes}
+use Rattle.cedar.proofs.Laws.Limits.{allowed-levels, allowed-bytes}
 use Rattle.forms.specs.Parts.{part}
 use Rattle.forms.specs.TypeBytes.{whole, dec}
 use Rattle.forms.specs.ListBytes.{list_fits, list_of}

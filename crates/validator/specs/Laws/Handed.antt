@@ -12,9 +12,9 @@ use Rattle.cedar.specs.Outcome.{Outcome, refused, nothing, attribute, bytes_of}
 use Rattle.cedar.specs.Attribute.{own_attr}
 use Rattle.cedar.specs.BodyPlace.{body_place, body_in}
 use Rattle.cedar.specs.Calls.{own_attribute_call}
-use Rattle.cedar.specs.Laws.Limits.{allowed-bytes, own-attribute-refused}
-use Rattle.cedar.specs.Laws.Whole.{whole_type-reads}
-use Rattle.cedar.specs.Laws.BodyPlace.{Stands, body-in-stands}
+use Rattle.cedar.proofs.Laws.Limits.{allowed-bytes, own-attribute-refused}
+use Rattle.cedar.proofs.Laws.Whole.{whole_type-reads}
+use Rattle.cedar.proofs.Laws.BodyPlace.{Stands, body-in-stands}
 use Rattle.forms.specs.Parts.{part}
 use Rattle.forms.specs.Laws.Bytes.{Bytes-index}
 use Rattle.attributes.specs.declared.own_attribute.Place.{Place}

@@ -13,8 +13,8 @@ use Rattle.cedar.specs.Whole.{whole_schema}
 use Rattle.cedar.specs.Outcome.{Outcome, nothing, over}
 use Rattle.cedar.specs.Literal.{literal}
 use Rattle.cedar.specs.Calls.{write_type, literal_call}
-use Rattle.cedar.specs.Laws.Limits.{allowed-bytes}
-use Rattle.cedar.specs.Laws.Result.{ok-inj}
+use Rattle.cedar.proofs.Laws.Limits.{allowed-bytes}
+use Rattle.cedar.proofs.Laws.Result.{ok-inj}
 use Rattle.schemas.specs.SchemaBytes.{dec_s}
 use Rattle.writing.specs.declared.form_lengths.FormLength.TheVariants.{Of}
 use Rattle.writing.specs.FormLengths.{form_length_of}

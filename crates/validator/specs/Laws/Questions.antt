@@ -10,7 +10,7 @@ use Rattle.cedar.specs.Result.{bad_limits}
 use Rattle.cedar.specs.Whole.{whole_type}
 use Rattle.cedar.specs.Outcome.{Outcome}
 use Rattle.cedar.specs.Calls.{ask}
-use Rattle.cedar.specs.Laws.Tests.{none_of}
+use Rattle.cedar.proofs.Laws.Tests.{none_of}
 use Rattle.forms.specs.TypeBytes.{whole, dec}
 use Rattle.forms.specs.Laws.Parts.{and_l, and_r}
 use Rattle.forms.specs.Laws.Sure.{sure-present, sure-yes}

@@ -5,16 +5,16 @@ use Rattle.std.proofs.Math.Option.{none, some}
 use Rattle.std.proofs.lemmas.Bool.{not-true, not-false}
 use Rattle.cedar.specs.Limits.{Limits, allowed}
 use Rattle.cedar.specs.Whole.{whole_schema}
-use Rattle.cedar.specs.Laws.Tests.{none_of}
+use Rattle.cedar.proofs.Laws.Tests.{none_of}
 use Rattle.forms.specs.Limits.{as_limits}
 use Rattle.forms.specs.declared.limits.Limits.{Limits as LimitsStruct}
 use Rattle.forms.specs.Laws.Parts.{and_yes}
 use Rattle.forms.specs.Laws.Sure.{sure-yes}
 use Rattle.schemas.specs.SchemaBytes.{whole_s, dec_s, limits_of, checked}
-use Rattle.schemas.specs.Laws.SchemaTwin.{whole-schema-twin}
-use Rattle.schemas.specs.Laws.Checks.{checked-broken, checked-whole, checked-limits}
+use Rattle.schemas.proofs.Laws.SchemaTwin.{whole-schema-twin}
+use Rattle.schemas.proofs.Laws.Checks.{checked-broken, checked-whole, checked-limits}
 use Rattle.schemas.specs.Entries.{Sectioned}
-use Rattle.schemas.specs.Laws.Finders.{kept}
+use Rattle.schemas.proofs.Laws.Finders.{kept}
 use Rattle.schemas.specs.declared.sections.Sections.{Sections}
 use Rattle.schemas.specs.declared.whole.Checked.{Checked}
 use Rattle.schemas.specs.declared.whole.Checked.TheVariants.{Whole, Broken}

@@ -9,7 +9,7 @@ use Rattle.cedar.specs.Limits.{Limits}
 use Rattle.cedar.specs.ValueForm.{value_kind}
 use Rattle.cedar.specs.Whole.{whole_value}
 use Rattle.cedar.specs.Conformance.{as_uid}
-use Rattle.cedar.specs.Laws.Tests.{none_of}
+use Rattle.cedar.proofs.Laws.Tests.{none_of}
 use Rattle.forms.specs.Parts.{rd, kind}
 use Rattle.forms.specs.ValueBytes.{whole_v, whole_v_as, dec_v, dec_v_as}
 use Rattle.forms.specs.Laws.Parts.{and_l, and_r}

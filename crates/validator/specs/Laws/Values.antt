@@ -6,7 +6,7 @@ use Rattle.std.proofs.lemmas.Bool.{not-true, not-false}
 use Rattle.cedar.specs.Types.{present}
 use Rattle.cedar.specs.Limits.{Limits}
 use Rattle.cedar.specs.Whole.{whole_value}
-use Rattle.cedar.specs.Laws.Tests.{none_of}
+use Rattle.cedar.proofs.Laws.Tests.{none_of}
 use Rattle.forms.specs.ValueBytes.{whole_v, dec_v}
 use Rattle.forms.specs.Laws.Parts.{and_r}
 use Rattle.forms.specs.Laws.Sure.{sure-present, sure-yes}

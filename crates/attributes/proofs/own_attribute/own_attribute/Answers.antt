@@ -1,5 +1,5 @@
 use mathlib.Core.Path.{sym}
-use Rattle.cedar.specs.Laws.BodyPlace.{body-none}
+use Rattle.cedar.proofs.Laws.BodyPlace.{body-none}
 use Rattle.forms.specs.TypeBytes.{dec}
 use Rattle.forms.specs.Laws.Views.{not-empty, is-record, is-action}
 use Rattle.attributes.specs.Laws.Place.{record-listed, action-listed, record-placed, action-placed, other-placed}

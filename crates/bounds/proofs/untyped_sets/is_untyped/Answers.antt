@@ -1,8 +1,8 @@
 use mathlib.Core.Path.{ap, sym, ◌∙◌}
 use mathlib.Core.Bool.{not}
 use borrow.Author.Tests.{not-true, not-false}
-use Rattle.cedar.specs.Laws.DirectBound.{direct}
-use Rattle.cedar.specs.Laws.Loose.{loose-permissive}
+use Rattle.cedar.proofs.Laws.DirectBound.{direct}
+use Rattle.cedar.proofs.Laws.Loose.{loose-permissive}
 use Rattle.forms.specs.TypeBytes.{dec}
 use Rattle.forms.specs.Modes.{as_mode}
 use Rattle.bounds.specs.Laws.UntypedSets.{strict-typed, length-tells}

@@ -3,7 +3,7 @@ use mathlib.Core.Path.{sym, ◌∙◌, ap}
 use Prim.Native.Nat.{ℕ}
 use Rattle.schemas.specs.SchemaBytes.{checked}
 use Rattle.exports.specs.Checks.{check_number, limits_in}
-use Rattle.exports.specs.Laws.Checks.{check-kept}
+use Rattle.exports.proofs.Laws.Checks.{check-kept}
 use borrow.Author.Rules.{rules}
 use Rattle.entries.proofs.checked_calls.kept.Statement.{statement}
 use Rattle.entries.proofs.checked_calls.kept.Tie as tie

@@ -1,8 +1,8 @@
 -- `exports::calls::tirncheav_all_attributes` meets its contract. Assumes nothing.
 use Rattle.exports.specs.Checks.{within}
 use lib.ListN.{length}
-use Rattle.exports.specs.Laws.Numbers.{numbered-in}
-use Rattle.exports.specs.Laws.Brief.{brief, names-call-short}
+use Rattle.exports.proofs.Laws.Numbers.{numbered-in}
+use Rattle.exports.proofs.Laws.Brief.{brief, names-call-short}
 use borrow.Author.Rules.{rules}
 use Rattle.exports.proofs.calls.tirncheav_all_attributes.Statement.{statement}
 use Rattle.exports.proofs.calls.tirncheav_all_attributes.Tie as tie

@@ -2,7 +2,7 @@
 use Rattle.exports.specs.Checks.{within}
 use mathlib.Core.Path.{ap, ◌∙◌}
 use Rattle.exports.specs.Numbers.{answer_number}
-use Rattle.exports.specs.Laws.Brief.{brief, disjoint-short}
+use Rattle.exports.proofs.Laws.Brief.{brief, disjoint-short}
 use borrow.Author.Rules.{rules}
 use Rattle.exports.proofs.calls.tirncheav_are_types_disjoint.Statement.{statement}
 use Rattle.exports.proofs.calls.tirncheav_are_types_disjoint.Tie as tie

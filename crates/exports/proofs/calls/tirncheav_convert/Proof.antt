@@ -1,8 +1,8 @@
 -- `exports::calls::tirncheav_convert` meets its contract. Assumes nothing.
 use Rattle.exports.specs.Checks.{within}
 use lib.ListN.{length}
-use Rattle.exports.specs.Laws.Numbers.{numbered}
-use Rattle.exports.specs.Laws.Brief.{brief, convert-short}
+use Rattle.exports.proofs.Laws.Numbers.{numbered}
+use Rattle.exports.proofs.Laws.Brief.{brief, convert-short}
 use borrow.Author.Rules.{rules}
 use Rattle.exports.proofs.calls.tirncheav_convert.Statement.{statement}
 use Rattle.exports.proofs.calls.tirncheav_convert.Tie as tie

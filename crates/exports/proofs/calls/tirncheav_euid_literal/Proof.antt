@@ -1,8 +1,8 @@
 -- `exports::calls::tirncheav_euid_literal` meets its contract. Assumes nothing.
 use Rattle.exports.specs.Checks.{within}
 use lib.ListN.{length}
-use Rattle.exports.specs.Laws.Numbers.{numbered}
-use Rattle.exports.specs.Laws.Brief.{brief, literal-short}
+use Rattle.exports.proofs.Laws.Numbers.{numbered}
+use Rattle.exports.proofs.Laws.Brief.{brief, literal-short}
 use borrow.Author.Rules.{rules}
 use Rattle.exports.proofs.calls.tirncheav_euid_literal.Statement.{statement}
 use Rattle.exports.proofs.calls.tirncheav_euid_literal.Tie as tie

@@ -2,7 +2,7 @@
 use Rattle.exports.specs.Checks.{within}
 use mathlib.Core.Path.{ap, ◌∙◌}
 use Rattle.exports.specs.Numbers.{answer_number}
-use Rattle.exports.specs.Laws.Brief.{brief, consistent-short}
+use Rattle.exports.proofs.Laws.Brief.{brief, consistent-short}
 use borrow.Author.Rules.{rules}
 use Rattle.exports.proofs.calls.tirncheav_is_consistent_with.Statement.{statement}
 use Rattle.exports.proofs.calls.tirncheav_is_consistent_with.Tie as tie

@@ -2,7 +2,7 @@
 use Rattle.exports.specs.Checks.{within}
 use mathlib.Core.Path.{ap, ◌∙◌}
 use Rattle.exports.specs.Numbers.{answer_number}
-use Rattle.exports.specs.Laws.Brief.{brief, subtype-short}
+use Rattle.exports.proofs.Laws.Brief.{brief, subtype-short}
 use borrow.Author.Rules.{rules}
 use Rattle.exports.proofs.calls.tirncheav_is_subtype.Statement.{statement}
 use Rattle.exports.proofs.calls.tirncheav_is_subtype.Tie as tie

@@ -1,8 +1,8 @@
 -- `exports::calls::tirncheav_lookup_attribute_type` meets its contract. Assumes nothing.
 use Rattle.exports.specs.Checks.{within}
 use lib.ListN.{length}
-use Rattle.exports.specs.Laws.Numbers.{numbered-in}
-use Rattle.exports.specs.Laws.Brief.{brief, lookup-short}
+use Rattle.exports.proofs.Laws.Numbers.{numbered-in}
+use Rattle.exports.proofs.Laws.Brief.{brief, lookup-short}
 use borrow.Author.Rules.{rules}
 use Rattle.exports.proofs.calls.tirncheav_lookup_attribute_type.Statement.{statement}
 use Rattle.exports.proofs.calls.tirncheav_lookup_attribute_type.Tie as tie

@@ -4,7 +4,7 @@ use native.Mathlib.Omega.{arith}
 use Rattle.forms.specs.Laws.Bytes.{Bytes-index}
 use Rattle.exports.specs.Checks.{within}
 use Rattle.exports.specs.Numbers.{answer_number}
-use Rattle.exports.specs.Laws.Brief.{brief, measure-type-short}
+use Rattle.exports.proofs.Laws.Brief.{brief, measure-type-short}
 use borrow.Author.Rules.{rules}
 use Rattle.exports.proofs.calls.tirncheav_measure_type.Statement.{statement}
 use Rattle.exports.proofs.calls.tirncheav_measure_type.Tie as tie

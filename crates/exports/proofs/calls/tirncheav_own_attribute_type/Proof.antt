@@ -3,7 +3,7 @@ use Rattle.exports.specs.Checks.{within}
 use native.Mathlib.Omega.{arith}
 use mathlib.Core.Path.{ap, ◌∙◌}
 use Rattle.exports.specs.Numbers.{part_number}
-use Rattle.exports.specs.Laws.Numbers.{narrow}
+use Rattle.exports.proofs.Laws.Numbers.{narrow}
 use borrow.Author.Rules.{rules}
 use Rattle.exports.proofs.calls.tirncheav_own_attribute_type.Statement.{statement}
 use Rattle.exports.proofs.calls.tirncheav_own_attribute_type.Tie as tie

@@ -1,8 +1,8 @@
 -- `exports::calls::tirncheav_reduce_to_least_upper_bound` meets its contract. Assumes nothing.
 use Rattle.exports.specs.Checks.{within}
 use lib.ListN.{length}
-use Rattle.exports.specs.Laws.Numbers.{numbered-in}
-use Rattle.exports.specs.Laws.Brief.{brief, fold-short}
+use Rattle.exports.proofs.Laws.Numbers.{numbered-in}
+use Rattle.exports.proofs.Laws.Brief.{brief, fold-short}
 use borrow.Author.Rules.{rules}
 use Rattle.exports.proofs.calls.tirncheav_reduce_to_least_upper_bound.Statement.{statement}
 use Rattle.exports.proofs.calls.tirncheav_reduce_to_least_upper_bound.Tie as tie

@@ -3,7 +3,7 @@ use Rattle.cedar.specs.Conformance.{shorter}
 use Rattle.exports.specs.Checks.{within}
 use mathlib.Core.Path.{ap, ◌∙◌}
 use Rattle.exports.specs.Numbers.{answer_number}
-use Rattle.exports.specs.Laws.Brief.{brief, conforms-short}
+use Rattle.exports.proofs.Laws.Brief.{brief, conforms-short}
 use borrow.Author.Rules.{rules}
 use Rattle.exports.proofs.calls.tirncheav_typecheck_restricted_expr.Statement.{statement}
 use Rattle.exports.proofs.calls.tirncheav_typecheck_restricted_expr.Tie as tie

@@ -7,8 +7,8 @@ use Rattle.schemas.specs.SchemaBytes.{limits_of}
 use Rattle.validator.specs.Laws.Schemas.{checked-own, checked_under}
 use Rattle.exports.specs.Checks.{limits_in}
 use lib.ListN.{length}
-use Rattle.exports.specs.Laws.Numbers.{numbered-in}
-use Rattle.exports.specs.Laws.Brief.{brief, names-call-short}
+use Rattle.exports.proofs.Laws.Numbers.{numbered-in}
+use Rattle.exports.proofs.Laws.Brief.{brief, names-call-short}
 use borrow.Author.Rules.{rules}
 use Rattle.exports.proofs.checked_calls.tirncheav_all_attributes_checked.Statement.{
   statement,

@@ -10,7 +10,7 @@ use Rattle.exports.specs.Checks.{limits_in}
 use native.Mathlib.Omega.{arith}
 use mathlib.Core.Path.{◌≡◌, ap, ◌∙◌}
 use Rattle.exports.specs.Numbers.{part_number}
-use Rattle.exports.specs.Laws.Numbers.{narrow}
+use Rattle.exports.proofs.Laws.Numbers.{narrow}
 use borrow.Author.Rules.{rules}
 use Rattle.exports.proofs.checked_calls.tirncheav_own_attribute_type_checked.Statement.{
   statement,

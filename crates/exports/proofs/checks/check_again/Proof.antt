@@ -1,6 +1,6 @@
 -- `exports::checks::check_again` meets its contract. Assumes nothing.
 use Rattle.exports.specs.Checks.{limits_in}
-use Rattle.exports.specs.Laws.Checks.{again-own, again-is}
+use Rattle.exports.proofs.Laws.Checks.{again-own, again-is}
 use borrow.Author.Rules.{rules}
 use Rattle.exports.proofs.checks.check_again.Statement.{statement}
 use Rattle.exports.proofs.checks.check_again.Tie as tie

@@ -1,7 +1,7 @@
 -- `exports::checks::pack` meets its contract. Assumes nothing.
 use native.Mathlib.Omega.{arith}
 use mathlib.Core.Path.{refl}
-use Rattle.cedar.specs.Laws.Limits.{allowed-levels, allowed-bytes}
+use Rattle.cedar.proofs.Laws.Limits.{allowed-levels, allowed-bytes}
 use Rattle.forms.specs.Limits.{as_limits}
 use Rattle.exports.proofs.checks.pack.Statement.{statement}
 use Rattle.exports.proofs.checks.pack.Tie as tie

@@ -2,7 +2,7 @@
 use mathlib.Core.Path.{ap, sym, ◌∙◌}
 use borrow.Author.Tests.{not-true, not-false}
 use Rattle.exports.specs.Checks.{packed_of}
-use Rattle.exports.specs.Laws.Checks.{near, number-refused, number-packed}
+use Rattle.exports.proofs.Laws.Checks.{near, number-refused, number-packed}
 use borrow.Author.Rules.{rules}
 use Rattle.exports.proofs.checks.tirncheav_check_schema.Statement.{statement}
 use Rattle.exports.proofs.checks.tirncheav_check_schema.Tie as tie

@@ -1,5 +1,5 @@
 use mathlib.Core.Path.{◌∙◌}
-use Rattle.exports.specs.Laws.Checks.{unpack-broken, unpack-room, unpack-whole}
+use Rattle.exports.proofs.Laws.Checks.{unpack-broken, unpack-room, unpack-whole}
 use borrow.Author.Rules.{rules}
 use Rattle.exports.proofs.checks.unpack.Statement.{statement}
 use Rattle.exports.proofs.checks.unpack.Tie as tie

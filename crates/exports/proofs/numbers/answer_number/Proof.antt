@@ -2,7 +2,7 @@
 use mathlib.Core.Path.{ap, sym, ◌∙◌}
 use native.Mathlib.Omega.{arith}
 use Rattle.exports.specs.Numbers.{answer_number}
-use Rattle.exports.specs.Laws.Numbers.{measured-brief, typed-brief, attribute-brief, named-brief, refused-number, required-number, optional-number}
+use Rattle.exports.proofs.Laws.Numbers.{measured-brief, typed-brief, attribute-brief, named-brief, refused-number, required-number, optional-number}
 use borrow.Author.Rules.{rules}
 use Rattle.exports.proofs.numbers.answer_number.Statement.{statement}
 use Rattle.exports.proofs.numbers.answer_number.Tie as tie

@@ -1,6 +1,6 @@
 -- `exports::numbers::part_number` meets its contract. Assumes nothing.
 use native.Mathlib.Omega.{arith}
-use Rattle.exports.specs.Laws.Numbers.{at-narrow, part-refused-number, part-required-number, part-optional-number}
+use Rattle.exports.proofs.Laws.Numbers.{at-narrow, part-refused-number, part-required-number, part-optional-number}
 use borrow.Author.Rules.{rules}
 use Rattle.exports.proofs.numbers.part_number.Statement.{statement}
 use Rattle.exports.proofs.numbers.part_number.Tie as tie

@@ -3,7 +3,7 @@ use lib.ListN.{length}
 use native.Mathlib.Omega.{arith}
 use Rattle.cedar.specs.Limits.{Limits}
 use Rattle.cedar.specs.Calls.{names_call}
-use Rattle.cedar.specs.Laws.Limits.{allowed-bytes, names-refused}
+use Rattle.cedar.proofs.Laws.Limits.{allowed-bytes, names-refused}
 use Rattle.forms.specs.Limits.{as_limits}
 use Rattle.schemas.specs.SchemaBytes.{limits_of}
 use Rattle.validator.specs.Laws.Schemas.{kept-refused, kept-allowed, kept-missing, kept-sections, kept_under}

@@ -1,7 +1,7 @@
 -- `validator::convert::convert` meets its contract. Assumes nothing.
 use mathlib.Core.Path.{sym, ◌∙◌}
 use borrow.Author.Tests.{not-true, not-false}
-use Rattle.cedar.specs.Laws.Limits.{convert-refused}
+use Rattle.cedar.proofs.Laws.Limits.{convert-refused}
 use Rattle.forms.specs.Limits.{as_limits}
 use lib.ListN.{length}
 use Rattle.validator.specs.Laws.Writing.{refuses}

@@ -1,6 +1,6 @@
 -- `validator::convert::convert_under` meets its contract. Assumes nothing.
 use Rattle.forms.specs.Limits.{as_limits}
-use Rattle.cedar.specs.Laws.Limits.{allowed-bytes}
+use Rattle.cedar.proofs.Laws.Limits.{allowed-bytes}
 use native.Mathlib.Omega.{arith}
 use lib.ListN.{length}
 use Rattle.cedar.specs.Calls.{convert_call}

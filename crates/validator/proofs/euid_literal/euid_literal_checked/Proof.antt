@@ -3,7 +3,7 @@ use lib.ListN.{length}
 use Rattle.cedar.specs.Calls.{literal_call}
 use Rattle.validator.specs.Answers.{Answered}
 use Rattle.cedar.specs.Limits.{Limits}
-use Rattle.cedar.specs.Laws.Limits.{literal-refused}
+use Rattle.cedar.proofs.Laws.Limits.{literal-refused}
 use Rattle.forms.specs.Limits.{as_limits}
 use Rattle.schemas.specs.SchemaBytes.{limits_of}
 use Rattle.validator.specs.Laws.Schemas.{kept-refused, kept-allowed, kept-missing, kept-sections, kept_under}

@@ -1,7 +1,7 @@
 -- `validator::is_consistent_with::is_consistent_with` meets its contract. Assumes nothing.
 use mathlib.Core.Path.{sym, ap, ◌∙◌}
 use borrow.Author.Tests.{not-true, not-false}
-use Rattle.cedar.specs.Laws.Limits.{consistent-refused}
+use Rattle.cedar.proofs.Laws.Limits.{consistent-refused}
 use Rattle.forms.specs.Limits.{as_limits}
 use Rattle.validator.specs.Answers.{answer_of}
 use borrow.Author.Rules.{rules}

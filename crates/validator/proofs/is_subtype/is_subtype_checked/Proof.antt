@@ -2,7 +2,7 @@
 use mathlib.Core.Path.{◌≡◌, sym, ap, subst, ◌∙◌}
 use borrow.Author.Tests.{not-false}
 use Rattle.cedar.specs.Calls.{subtype_call}
-use Rattle.cedar.specs.Laws.Limits.{subtype-refused}
+use Rattle.cedar.proofs.Laws.Limits.{subtype-refused}
 use Rattle.forms.specs.Limits.{as_limits}
 use Rattle.forms.specs.declared.limits.Limits.{Limits as LimitsStruct}
 use Rattle.schemas.specs.SchemaBytes.{limits_of}

@@ -1,12 +1,12 @@
 -- `validator::least_upper_bound::least_upper_bound` meets its contract. Assumes nothing.
-use Rattle.cedar.specs.Laws.Limits.{allowed-bytes}
+use Rattle.cedar.proofs.Laws.Limits.{allowed-bytes}
 use Rattle.forms.specs.Limits.{as_limits}
 use mathlib.Core.Path.{refl}
 use Prim.Native.Nat.{ℕ, ◌<◌}
 use native.Mathlib.Omega.{arith}
 use lib.ListN.{length, get_or}
 use Rattle.cedar.specs.Calls.{bound_call}
-use Rattle.cedar.specs.Laws.DirectBound.{direct}
+use Rattle.cedar.proofs.Laws.DirectBound.{direct}
 use Rattle.forms.specs.TypeBytes.{dec}
 use Rattle.forms.specs.Modes.{as_mode}
 use Rattle.forms.specs.Laws.Modes.{mode-known, mode-none}

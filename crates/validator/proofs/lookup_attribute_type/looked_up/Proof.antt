@@ -1,6 +1,6 @@
 -- `validator::lookup_attribute_type::looked_up` meets its contract. Assumes nothing.
 use Rattle.forms.specs.Limits.{as_limits}
-use Rattle.cedar.specs.Laws.Limits.{allowed-levels}
+use Rattle.cedar.proofs.Laws.Limits.{allowed-levels}
 use Rattle.validator.specs.Laws.Lookup.{lookup-whole, small, lookup-no-type, lookup-nothing, lookup-too-long, lookup-over, lookup-room, lookup-writes}
 use native.Mathlib.Omega.{arith}
 use lib.ListN.{length}

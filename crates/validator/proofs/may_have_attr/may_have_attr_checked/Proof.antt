@@ -3,7 +3,7 @@ use mathlib.Core.Path.{◌≡◌, sym, ap}
 use Rattle.cedar.specs.Calls.{may_have_call}
 use Rattle.validator.specs.Answers.{answer_of}
 use Rattle.cedar.specs.Limits.{Limits}
-use Rattle.cedar.specs.Laws.Limits.{may-have-refused}
+use Rattle.cedar.proofs.Laws.Limits.{may-have-refused}
 use Rattle.forms.specs.Limits.{as_limits}
 use Rattle.schemas.specs.SchemaBytes.{limits_of}
 use Rattle.validator.specs.Laws.Schemas.{kept-refused, kept-allowed, kept-missing, kept-sections, kept_under}

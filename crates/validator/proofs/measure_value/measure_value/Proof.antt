@@ -1,7 +1,7 @@
 -- `validator::measure_value::measure_value` meets its contract. Assumes nothing.
 use mathlib.Core.Path.{sym, ap, ◌∙◌}
 use borrow.Author.Tests.{not-true, not-false}
-use Rattle.cedar.specs.Laws.Limits.{measure-value-refused}
+use Rattle.cedar.proofs.Laws.Limits.{measure-value-refused}
 use Rattle.forms.specs.Limits.{as_limits}
 use Rattle.validator.specs.Answers.{answer_of}
 use Rattle.validator.specs.Laws.Values.{value-missing, value_there, value-whole}

@@ -5,7 +5,7 @@ use Rattle.cedar.specs.BodyPlace.{body_in}
 use Rattle.cedar.specs.Calls.{own_attribute_call}
 use Rattle.validator.specs.Handed.{part_of}
 use Rattle.cedar.specs.Limits.{Limits}
-use Rattle.cedar.specs.Laws.Limits.{own-attribute-refused}
+use Rattle.cedar.proofs.Laws.Limits.{own-attribute-refused}
 use Rattle.forms.specs.Limits.{as_limits}
 use Rattle.schemas.specs.SchemaBytes.{limits_of}
 use Rattle.validator.specs.Laws.Schemas.{kept-refused, kept-allowed, kept-missing, kept-sections, kept_under}

@@ -3,7 +3,7 @@ use mathlib.Core.Path.{sym, subst, ◌∙◌}
 use lib.ListN.{length}
 use borrow.Author.Tests.{not-false}
 use Rattle.cedar.specs.Calls.{fold_call}
-use Rattle.cedar.specs.Laws.Limits.{allowed-bytes, fold-refused}
+use Rattle.cedar.proofs.Laws.Limits.{allowed-bytes, fold-refused}
 use Rattle.forms.specs.Limits.{as_limits}
 use Rattle.forms.specs.declared.limits.Limits.{Limits as LimitsStruct}
 use Rattle.schemas.specs.SchemaBytes.{limits_of}

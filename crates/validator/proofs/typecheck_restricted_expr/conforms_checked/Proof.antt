@@ -3,7 +3,7 @@ use mathlib.Core.Path.{◌≡◌, sym, ap}
 use Rattle.cedar.specs.Calls.{conforms_by}
 use Rattle.validator.specs.Answers.{answer_of}
 use Rattle.cedar.specs.Limits.{Limits}
-use Rattle.cedar.specs.Laws.Limits.{conforms-refused}
+use Rattle.cedar.proofs.Laws.Limits.{conforms-refused}
 use Rattle.forms.specs.Limits.{as_limits}
 use Rattle.schemas.specs.SchemaBytes.{limits_of}
 use Rattle.conformance.specs.Counts.{counts_of}

@@ -2,7 +2,7 @@ use mathlib.Core.Path.{refl, sym, ap, ◌∙◌}
 use Rattle.forms.specs.declared.limits.Limits.{Limits}
 use Rattle.schemas.specs.SchemaBytes.{checked}
 use Rattle.schemas.specs.Offsets.{offsets_of}
-use Rattle.schemas.specs.Laws.Offsets.{own-limits}
+use Rattle.schemas.proofs.Laws.Offsets.{own-limits}
 use Rattle.schemas.specs.declared.offsets.Offsets.{Offsets}
 use Rattle.reader.specs.Own.{offsets}
 use Rattle.reader.proofs.validator_schema.ValidatorSchema.new.Goals as goal

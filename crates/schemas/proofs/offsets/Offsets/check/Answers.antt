@@ -1,4 +1,4 @@
-use Rattle.schemas.specs.Laws.Offsets.{check-broken, check-room, check-whole}
+use Rattle.schemas.proofs.Laws.Offsets.{check-broken, check-room, check-whole}
 use Rattle.schemas.proofs.offsets.Offsets.check.Goals as goal
 
 pub returns-then-self-eq0 : goal.returns-then-self-eq0

@@ -1,5 +1,5 @@
 use mathlib.Core.Path.{◌∙◌}
-use Rattle.schemas.specs.Laws.Offsets.{of-whole, of-broken}
+use Rattle.schemas.proofs.Laws.Offsets.{of-whole, of-broken}
 use Rattle.schemas.proofs.offsets.Offsets.of.Goals as goal
 
 pub returns-in-Whole : goal.returns-in-Whole
