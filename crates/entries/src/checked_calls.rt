@@ -22,25 +22,25 @@ fn kept(schema: &[u8]) -> u64
     tirncheav_check_schema(Limits::LEVELS, Limits::BYTES, schema)
 }
 
-fn ask_check(schema: &[u8]) {
+fn ask_check(rt: &HostRuntime, schema: &[u8]) {
     let n = kept(schema);
-    print_number(b"check_schema", n);
+    print_number(rt, b"check_schema", n);
 }
 
-fn ask_subtype(schema: &[u8]) {
+fn ask_subtype(rt: &HostRuntime, schema: &[u8]) {
     let check = kept(schema);
     let n = tirncheav_is_subtype_checked(schema, check, 1, &Form::ENTITY_2, &Form::BOTH);
-    print_number(b"is_subtype_checked", n);
+    print_number(rt, b"is_subtype_checked", n);
 }
 
-fn ask_bound(schema: &[u8], t0: &[u8], t1: &[u8]) {
+fn ask_bound(rt: &HostRuntime, schema: &[u8], t0: &[u8], t1: &[u8]) {
     let check = kept(schema);
     let mut out = result();
     let n = tirncheav_least_upper_bound_checked(schema, check, 1, t0, t1, &mut out);
-    print_result(b"least_upper_bound_checked", n, &out);
+    print_result(rt, b"least_upper_bound_checked", n, &out);
 }
 
-fn ask_fold(schema: &[u8]) {
+fn ask_fold(rt: &HostRuntime, schema: &[u8]) {
     let check = kept(schema);
     let mut out = result();
     let mut work = workspace();
@@ -52,10 +52,10 @@ fn ask_fold(schema: &[u8]) {
         &mut out,
         &mut work,
     );
-    print_both(b"reduce_to_least_upper_bound_checked", n, &out, &work);
+    print_both(rt, b"reduce_to_least_upper_bound_checked", n, &out, &work);
 }
 
-fn ask_lookup(schema: &[u8]) {
+fn ask_lookup(rt: &HostRuntime, schema: &[u8]) {
     let check = kept(schema);
     let mut out = result();
     let mut work = workspace();
@@ -67,74 +67,74 @@ fn ask_lookup(schema: &[u8]) {
         &mut out,
         &mut work,
     );
-    print_both(b"lookup_attribute_type_checked", n, &out, &work);
+    print_both(rt, b"lookup_attribute_type_checked", n, &out, &work);
 }
 
-fn ask_own(schema: &[u8]) {
+fn ask_own(rt: &HostRuntime, schema: &[u8]) {
     let check = kept(schema);
     let n = tirncheav_own_attribute_type_checked(schema, check, 1, &Form::RECORD);
-    print_number(b"own_attribute_type_checked", n);
+    print_number(rt, b"own_attribute_type_checked", n);
 }
 
-fn ask_may_have(schema: &[u8]) {
+fn ask_may_have(rt: &HostRuntime, schema: &[u8]) {
     let check = kept(schema);
     let n = tirncheav_may_have_attr_checked(schema, check, 1, &Form::ENTITY_2);
-    print_number(b"may_have_attr_checked", n);
+    print_number(rt, b"may_have_attr_checked", n);
 }
 
-fn ask_names(schema: &[u8]) {
+fn ask_names(rt: &HostRuntime, schema: &[u8]) {
     let check = kept(schema);
     let mut out = result();
     let mut work = workspace();
     let n = tirncheav_all_attributes_checked(schema, check, &Form::BOTH, &mut out, &mut work);
-    print_both(b"all_attributes_checked", n, &out, &work);
+    print_both(rt, b"all_attributes_checked", n, &out, &work);
 }
 
-fn ask_conforms(schema: &[u8], t: &[u8], v: &[u8]) {
+fn ask_conforms(rt: &HostRuntime, schema: &[u8], t: &[u8], v: &[u8]) {
     let check = kept(schema);
     let n = tirncheav_typecheck_restricted_expr_checked(schema, check, t, v);
-    print_number(b"typecheck_restricted_expr_checked", n);
+    print_number(rt, b"typecheck_restricted_expr_checked", n);
 }
 
-fn ask_full(schema: &[u8], t: &[u8], v: &[u8]) {
+fn ask_full(rt: &HostRuntime, schema: &[u8], t: &[u8], v: &[u8]) {
     let check = kept(schema);
     let n = tirncheav_typecheck_restricted_expr_exact_checked(schema, check, t, v);
-    print_number(b"typecheck_restricted_expr_exact_checked", n);
+    print_number(rt, b"typecheck_restricted_expr_exact_checked", n);
 }
 
-fn ask_literal(schema: &[u8]) {
+fn ask_literal(rt: &HostRuntime, schema: &[u8]) {
     let check = kept(schema);
     let mut out = result();
     let n = tirncheav_euid_literal_checked(schema, check, &Form::UID_3, &mut out);
-    print_result(b"euid_literal_checked", n, &out);
+    print_result(rt, b"euid_literal_checked", n, &out);
 }
 
 // Each of them once; the bound twice, as without a check.
-pub(crate) fn ask_all_checked(schema: &[u8]) {
-    ask_check(schema);
-    ask_subtype(schema);
-    ask_bound(schema, &Form::ENTITY_2, &Form::ENTITY_4);
-    ask_bound(schema, &Form::LONG, &Form::BROKEN);
-    ask_fold(schema);
-    ask_lookup(schema);
-    ask_own(schema);
-    ask_may_have(schema);
-    ask_names(schema);
-    ask_conforms(schema, &Form::ENTITY_2, &Form::UID_2);
-    ask_full(schema, &Form::ENTITY_2, &Form::UID_2);
-    ask_literal(schema);
+pub(crate) fn ask_all_checked(rt: &HostRuntime, schema: &[u8]) {
+    ask_check(rt, schema);
+    ask_subtype(rt, schema);
+    ask_bound(rt, schema, &Form::ENTITY_2, &Form::ENTITY_4);
+    ask_bound(rt, schema, &Form::LONG, &Form::BROKEN);
+    ask_fold(rt, schema);
+    ask_lookup(rt, schema);
+    ask_own(rt, schema);
+    ask_may_have(rt, schema);
+    ask_names(rt, schema);
+    ask_conforms(rt, schema, &Form::ENTITY_2, &Form::UID_2);
+    ask_full(rt, schema, &Form::ENTITY_2, &Form::UID_2);
+    ask_literal(rt, schema);
 }
 
 // The two conformances of a call with an argument too many.
-pub(crate) fn ask_counted_checked(schema: &[u8]) {
-    ask_conforms(schema, &Form::EXTENSION, &Form::CALL);
-    ask_full(schema, &Form::EXTENSION, &Form::CALL);
+pub(crate) fn ask_counted_checked(rt: &HostRuntime, schema: &[u8]) {
+    ask_conforms(rt, schema, &Form::EXTENSION, &Form::CALL);
+    ask_full(rt, schema, &Form::EXTENSION, &Form::CALL);
 }
 
 // The entries that read nothing of a whole schema, under one that is not whole.
-pub(crate) fn ask_broken(schema: &[u8]) {
-    ask_check(schema);
-    ask_subtype(schema);
-    ask_bound(schema, &Form::ENTITY_2, &Form::ENTITY_4);
-    ask_own(schema);
+pub(crate) fn ask_broken(rt: &HostRuntime, schema: &[u8]) {
+    ask_check(rt, schema);
+    ask_subtype(rt, schema);
+    ask_bound(rt, schema, &Form::ENTITY_2, &Form::ENTITY_4);
+    ask_own(rt, schema);
 }

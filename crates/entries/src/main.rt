@@ -10,13 +10,13 @@ use checked_calls::{ask_all_checked, ask_broken, ask_counted_checked};
 use forms::limits::Limits;
 use trial::Form;
 
-fn main() {
-    ask_all(&Form::SCHEMA);
-    ask_all_checked(&Form::SCHEMA);
-    ask_broken(&Form::BROKEN);
-    ask_counted(&Form::FUNCTION);
-    ask_counted_checked(&Form::FUNCTION);
-    ask_measured(Limits::FEWEST_LEVELS - 1, Limits::BYTES);
-    ask_measured(Limits::LEVELS, Limits::MOST_BYTES + 1);
-    ask_measured(Limits::FEWEST_LEVELS, Limits::FEWEST_BYTES);
+fn main(rt: HostRuntime) {
+    ask_all(&rt, &Form::SCHEMA);
+    ask_all_checked(&rt, &Form::SCHEMA);
+    ask_broken(&rt, &Form::BROKEN);
+    ask_counted(&rt, &Form::FUNCTION);
+    ask_counted_checked(&rt, &Form::FUNCTION);
+    ask_measured(&rt, Limits::FEWEST_LEVELS - 1, Limits::BYTES);
+    ask_measured(&rt, Limits::LEVELS, Limits::MOST_BYTES + 1);
+    ask_measured(&rt, Limits::FEWEST_LEVELS, Limits::FEWEST_BYTES);
 }

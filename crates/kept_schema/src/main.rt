@@ -11,23 +11,23 @@ use reader::validator_schema::ValidatorSchema;
 use trial::Form;
 
 // The block that is kept and its check, as plain parameters.
-fn ask_kept(limits: Limits, block: &[u8]) {
+fn ask_kept(rt: &HostRuntime, limits: Limits, block: &[u8]) {
     let kept = ValidatorSchema::new(limits, block);
-    ask_all(kept.block(), kept.check());
+    ask_all(rt, kept.block(), kept.check());
 }
 
 // The schema under limits of so many levels and bytes.
-fn ask_under(levels: usize, bytes: usize) {
+fn ask_under(rt: &HostRuntime, levels: usize, bytes: usize) {
     let limits = Limits { levels, bytes };
-    ask_kept(limits, &Form::SCHEMA);
+    ask_kept(rt, limits, &Form::SCHEMA);
 }
 
-fn main() {
-    ask_kept(Limits::standard(), &Form::SCHEMA);
-    ask_under(Limits::FEWEST_LEVELS, Limits::BYTES);
-    ask_under(Limits::MOST_LEVELS, Limits::MOST_BYTES);
-    ask_under(Limits::FEWEST_LEVELS - 1, Limits::BYTES);
-    ask_under(Limits::LEVELS, Limits::FEWEST_BYTES - 1);
-    ask_kept(Limits::standard(), &Form::BROKEN);
-    ask_kept(Limits::standard(), &Form::FUNCTION);
+fn main(rt: HostRuntime) {
+    ask_kept(&rt, Limits::standard(), &Form::SCHEMA);
+    ask_under(&rt, Limits::FEWEST_LEVELS, Limits::BYTES);
+    ask_under(&rt, Limits::MOST_LEVELS, Limits::MOST_BYTES);
+    ask_under(&rt, Limits::FEWEST_LEVELS - 1, Limits::BYTES);
+    ask_under(&rt, Limits::LEVELS, Limits::FEWEST_BYTES - 1);
+    ask_kept(&rt, Limits::standard(), &Form::BROKEN);
+    ask_kept(&rt, Limits::standard(), &Form::FUNCTION);
 }

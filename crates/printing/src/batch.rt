@@ -45,49 +45,49 @@ fn head_of(bytes: &[u8; Batch::HEAD], n: usize) -> Head
 }
 
 // Reads the next head.
-fn read_head() -> Head
+fn read_head(rt: &HostRuntime) -> Head
     ensures { head_within result }
 {
     let mut bytes = [0u8; Batch::HEAD];
-    let Input::Bytes(n) = read_input(&mut bytes) else {
+    let Input::Bytes(n) = read_input(rt, &mut bytes) else {
         return Head::Unreadable;
     };
     head_of(&bytes, n)
 }
 
 // Reads a job that fills buf and prints its lines; false where the batch ends here.
-fn print_read(buf: &mut [u8]) -> bool {
-    let Input::Bytes(n) = read_input(buf) else {
+fn print_read(rt: &HostRuntime, buf: &mut [u8]) -> bool {
+    let Input::Bytes(n) = read_input(rt, buf) else {
         return false;
     };
     if n < buf.len() {
-        return stop(b"standard input: a job is cut short\n");
+        return stop(rt, b"standard input: a job is cut short\n");
     }
-    if !print_job(buf) {
+    if !print_job(rt, buf) {
         return false;
     }
-    write_output(b".\n")
+    write_output(rt, b".\n")
 }
 
 // Reads and prints the next job; false where the batch ends here.
-fn print_next(buffer: &mut [u8]) -> bool
+fn print_next(rt: &HostRuntime, buffer: &mut [u8]) -> bool
     requires { length buffer.old ≡ 65536 }
 {
-    match read_head() {
-        Head::Job(n) => print_read(&mut buffer[..n]),
+    match read_head(rt) {
+        Head::Job(n) => print_read(rt, &mut buffer[..n]),
         Head::End => false,
-        Head::Cut => stop(b"standard input: a length is cut short\n"),
-        Head::TooLong => stop(b"standard input: a job is too long\n"),
+        Head::Cut => stop(rt, b"standard input: a length is cut short\n"),
+        Head::TooLong => stop(rt, b"standard input: a job is too long\n"),
         Head::Unreadable => false,
     }
 }
 
 // Prints the lines of every job of the batch, in turn. The turns are more than any run takes.
-pub fn print_batch() {
+pub fn print_batch(rt: &HostRuntime) {
     let mut buffer = [0u8; Batch::JOB];
     let mut turns = u64::MAX;
     while 0 < turns {
-        if !print_next(&mut buffer) {
+        if !print_next(rt, &mut buffer) {
             return;
         }
         turns -= 1;

@@ -73,6 +73,7 @@ fn ask(
 
 // Prints the line of a call whose buffers are lent.
 fn print_lent(
+    rt: &HostRuntime,
     call: Call,
     schema: &[u8],
     first: &[u8],
@@ -81,15 +82,15 @@ fn print_lent(
     work: &mut [u8],
 ) {
     let answer = ask(call, schema, first, second, out, work);
-    print_left(answer, out, work);
+    print_left(rt, answer, out, work);
 }
 
 // Prints the line of a call of the second entry of lookup.
-fn print_own(limits: Limits, schema: &[u8], attribute: u16, form: &[u8]) {
+fn print_own(rt: &HostRuntime, limits: Limits, schema: &[u8], attribute: u16, form: &[u8]) {
     let mut told = Calls::UNTOUCHED;
     let part = own_attribute_type(limits, schema, attribute, form, &mut told);
     let place = own_attribute_part(limits, schema, attribute, form);
-    print_part(told, place, part);
+    print_part(rt, told, place, part);
 }
 
 // A buffer before a call.
@@ -100,7 +101,7 @@ fn untouched() -> [u8; Form::LARGEST]
 }
 
 // Prints the line of a call.
-pub(crate) fn print_answer(call: Call, schema: &[u8], first: &[u8], second: &[u8])
+pub(crate) fn print_answer(rt: &HostRuntime, call: Call, schema: &[u8], first: &[u8], second: &[u8])
     requires { (call.room < 65536) × (call.workspace < 65536) }
 {
     let operation = call.operation;
@@ -109,7 +110,7 @@ pub(crate) fn print_answer(call: Call, schema: &[u8], first: &[u8], second: &[u8
             levels: call.levels,
             bytes: call.bytes,
         };
-        print_own(limits, schema, call.attribute, first);
+        print_own(rt, limits, schema, call.attribute, first);
         return;
     }
     let mut result = untouched();
@@ -117,6 +118,7 @@ pub(crate) fn print_answer(call: Call, schema: &[u8], first: &[u8], second: &[u8
     let room = call.room;
     let workspace = call.workspace;
     print_lent(
+        rt,
         call,
         schema,
         first,

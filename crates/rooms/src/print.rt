@@ -6,32 +6,32 @@ use validator::answers::Answer;
 use validator::own_attribute_type::{OwnPart, Told};
 
 // Prints what an entry answered and left in its buffers.
-pub(crate) fn print_left(answer: Answer, res: &[u8], work: &[u8]) {
-    print_answer(answer);
-    print_bytes(res);
-    print_bytes(work);
-    write_output(b"\n");
+pub(crate) fn print_left(rt: &HostRuntime, answer: Answer, res: &[u8], work: &[u8]) {
+    print_answer(rt, answer);
+    print_bytes(rt, res);
+    print_bytes(rt, work);
+    write_output(rt, b"\n");
 }
 
 // Prints where a part starts and ends.
-fn print_place(word: &[u8], place: OwnPart) {
+fn print_place(rt: &HostRuntime, word: &[u8], place: OwnPart) {
     let OwnPart::At(start, end, _) = place else {
         return;
     };
-    print_counted(word, start);
-    print_counted(b"..", end);
+    print_counted(rt, word, start);
+    print_counted(rt, b"..", end);
 }
 
 // Prints what the second entry of lookup told, where the part stands, and the part that it handed back.
-pub(crate) fn print_part(told: u8, place: OwnPart, part: &[u8]) {
+pub(crate) fn print_part(rt: &HostRuntime, told: u8, place: OwnPart, part: &[u8]) {
     match told {
         Told::NOTHING => {
-            write_output(b"0 none");
+            write_output(rt, b"0 none");
         }
-        Told::REQUIRED => print_place(b"0 r:", place),
-        Told::OPTIONAL => print_place(b"0 o:", place),
-        n => print_refusal(n),
+        Told::REQUIRED => print_place(rt, b"0 r:", place),
+        Told::OPTIONAL => print_place(rt, b"0 o:", place),
+        n => print_refusal(rt, n),
     }
-    print_bytes(part);
-    write_output(b"\n");
+    print_bytes(rt, part);
+    write_output(rt, b"\n");
 }

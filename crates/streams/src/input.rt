@@ -2,8 +2,9 @@
 ghost use Rattle.streams.specs.Within.{input_within, got_within};
 ghost use Rattle.std.specs.Prelude.{length};
 
+use crate::error::fail;
 use crate::output::may_try_again;
-use libc::STDIN_FILENO;
+use std::io::Read;
 
 // The bytes that came, or a failure.
 #[derive(Clone, Copy)]
@@ -22,26 +23,24 @@ enum Got {
 
 // One read. A read that a signal cut short, or for which nothing was there yet, brings no bytes; where it fails, says so on standard
 // error.
-fn read_some(buf: &mut [u8]) -> Got
+fn read_some(rt: &HostRuntime, buf: &mut [u8]) -> Got
     ensures { got_within result (length buf.old) }
 {
-    let got = libc::read(STDIN_FILENO, buf);
-    if got < 0 {
-        if may_try_again() {
-            return Got::Bytes(0);
+    match rt.stdin().read(buf) {
+        Ok(0) => Got::End,
+        Ok(n) => Got::Bytes(n),
+        Err(error) => {
+            if may_try_again(error) {
+                return Got::Bytes(0);
+            }
+            fail(rt, "standard input", error);
+            Got::Failed
         }
-        os::fail(b"standard input");
-        return Got::Failed;
     }
-    let n = io::count(got, buf);
-    if n == 0 {
-        return Got::End;
-    }
-    Got::Bytes(n)
 }
 
 // Reads until the end of the input or until buf is full. The turns are more than any run takes.
-pub fn read_input(buf: &mut [u8]) -> Input
+pub fn read_input(rt: &HostRuntime, buf: &mut [u8]) -> Input
     ensures { input_within result (length buf.new) }
 {
     let mut at = 0;
@@ -51,7 +50,7 @@ pub fn read_input(buf: &mut [u8]) -> Input
             return Input::Unreadable;
         }
         turns -= 1;
-        match read_some(&mut buf[at..]) {
+        match read_some(rt, &mut buf[at..]) {
             Got::Bytes(n) => {
                 at += n;
             }

@@ -2,7 +2,9 @@
 ghost use Rattle.streams.specs.Within.{put_within};
 ghost use Rattle.std.specs.Prelude.{length};
 
-use libc::STDOUT_FILENO;
+use crate::error::fail;
+use std::io::{Error, ErrorKind, Write};
+use std::thread::yield_now;
 
 // What one write took.
 #[derive(Clone, Copy)]
@@ -12,35 +14,36 @@ enum Put {
 }
 
 // Whether the call that just failed is worth another try: a signal came first, or the pipe was full or empty for now.
-pub(crate) fn may_try_again() -> bool {
-    let error = os::errno();
-    if error == libc::EINTR {
-        return true;
+pub(crate) fn may_try_again(error: Error) -> bool {
+    match error.kind() {
+        ErrorKind::Interrupted => true,
+        ErrorKind::WouldBlock => {
+            yield_now();
+            true
+        }
+        _ => false,
     }
-    if error == libc::EAGAIN {
-        libc::sched_yield();
-        return true;
-    }
-    false
 }
 
-// One write.
-fn write_some(buf: &[u8]) -> Put
+// One write; where it fails, says so on standard error.
+fn write_some(rt: &HostRuntime, buf: &[u8]) -> Put
     ensures { put_within result (length buf.now) }
 {
-    let put = libc::write(STDOUT_FILENO, buf);
-    if put < 0 {
-        if may_try_again() {
-            return Put::Bytes(0);
+    match rt.stdout().write(buf) {
+        Ok(n) => Put::Bytes(n),
+        Err(error) => {
+            if may_try_again(error) {
+                return Put::Bytes(0);
+            }
+            fail(rt, "standard output", error);
+            Put::Failed
         }
-        return Put::Failed;
     }
-    Put::Bytes(io::count(put, buf))
 }
 
 // Writes all of buf, in as many writes as it takes; where that fails, says so on standard error and answers false. The turns are more
 // than any run takes.
-pub fn write_output(buf: &[u8]) -> bool {
+pub fn write_output(rt: &HostRuntime, buf: &[u8]) -> bool {
     let mut left = buf;
     let mut turns = u64::MAX;
     while 0 < left.len() {
@@ -48,8 +51,7 @@ pub fn write_output(buf: &[u8]) -> bool {
             return false;
         }
         turns -= 1;
-        let Put::Bytes(n) = write_some(left) else {
-            os::fail(b"standard output");
+        let Put::Bytes(n) = write_some(rt, left) else {
             return false;
         };
         left = &left[n..];

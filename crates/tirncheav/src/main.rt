@@ -6,10 +6,10 @@ use printing::print_job;
 use streams::{Input, read_input};
 
 // One byte more than a job may have is read, so that a longer one is known to be bad.
-fn main() {
+fn main(rt: HostRuntime) {
     let mut buffer = [0u8; Limits::BLOCK_BYTES + 1];
-    let Input::Bytes(n) = read_input(&mut buffer) else {
+    let Input::Bytes(n) = read_input(&rt, &mut buffer) else {
         return;
     };
-    print_job(&buffer[..n]);
+    print_job(&rt, &buffer[..n]);
 }
