@@ -1,7 +1,7 @@
 -- Name lists: the names of attribute entries, and those that are kept. Assumes nothing.
 use Rattle.std.specs.Prelude.{ℕ, ◌+◌, ◌*◌, ◌-◌, ◌≤◌, ◌<◌, List, [], ◌∷◌, ◌++◌, Bool, true, false, ◌≡◌, refl, length}
 use Rattle.std.proofs.Common.{arith, append_assoc, append-nil, ap, sym, ◌∙◌, length-append}
-use Rattle.std.proofs.Math.Option.{Option, none, some}
+use Rattle.std.proofs.Math.Option.{Option, none}
 use Rattle.cedar.specs.Types.{Ty, Schema, maybe, names}
 use Rattle.cedar.specs.Bytes.{u16, enc_names}
 use Rattle.cedar.specs.Limits.{Limits, most_bytes}
@@ -22,7 +22,6 @@ use Rattle.writing.specs.Written.{Written}
 use Rattle.writing.specs.Laws.Writing.{back, length_over, over-at, Writing, writing-at, writing-end, writing_more}
 use Rattle.lookups.specs.declared.lookup_attribute_type.Looked.{Looked}
 use Rattle.lookups.specs.declared.lookup_attribute_type.Looked.TheVariants as looks
-use Rattle.lookups.specs.declared.all_attributes.Names.{Names}
 use Rattle.lookups.specs.declared.all_attributes.Names.TheVariants.{Of, TooLong}
 use Rattle.lookups.specs.Lookup.{LookedUp}
 use Rattle.lookups.specs.Names.{is_too_long, kept_name, Entered, NamedBy}

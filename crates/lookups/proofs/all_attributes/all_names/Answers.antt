@@ -11,20 +11,19 @@ use Rattle.schemas.specs.SchemaBytes.{dec_s}
 use Rattle.lookups.specs.Names.{NamedBy}
 use Rattle.lookups.specs.Laws.Lookup.{entity-named}
 use Rattle.lookups.specs.Laws.Names.{entity-all, record-all, action-all, record-entered, action-entered, other-all}
-use borrow.Author.Rules.{rules}
 use Rattle.lookups.proofs.all_attributes.all_names.Goals as goal
 
 pub bounds-t-0 : goal.bounds-t-0
-bounds-t-0 c =     not-empty c.args.at.limits.levels c.args.t.now c.requires.asked.good
+bounds-t-0 c = not-empty c.args.at.limits.levels c.args.t.now c.requires.asked.good
 
 pub slice_bounds-entity_names-count : goal.slice_bounds-entity_names-count
-slice_bounds-entity_names-count c =     omega (arith, (is-entity c.args.at.limits.levels c.args.t.now c.requires.asked.good c.in-10.is).sized)
+slice_bounds-entity_names-count c = omega (arith, (is-entity c.args.at.limits.levels c.args.t.now c.requires.asked.good c.in-10.is).sized)
 
 pub slice_bounds-entity_names-start : goal.slice_bounds-entity_names-start
 slice_bounds-entity_names-start c = slice_bounds-entity_names-count c
 
 pub u16_at-requires : goal.u16_at-requires
-u16_at-requires c =     omega (arith, (is-entity c.args.at.limits.levels c.args.t.now c.requires.asked.good c.in-10.is).some)
+u16_at-requires c = omega (arith, (is-entity c.args.at.limits.levels c.args.t.now c.requires.asked.good c.in-10.is).some)
 
 pub entity_names-requires : goal.entity_names-requires
 entity_names-requires c =
@@ -36,10 +35,10 @@ entity_names-requires c =
     record { sectioned = c.requires.sectioned; named = by-entity-named; at_in_bounds = c.requires.asked.room; at_in_bounds_2 = c.requires.at_in_bounds }
 
 pub entries_at-requires : goal.entries_at-requires
-entries_at-requires c =     (omega arith, (is-record c.args.at.limits.levels c.args.t.now c.requires.asked.good c.in-8.is).fit)
+entries_at-requires c = (omega arith, (is-record c.args.at.limits.levels c.args.t.now c.requires.asked.good c.in-8.is).fit)
 
 pub u16_at-requires-in-8 : goal.u16_at-requires-in-8
-u16_at-requires-in-8 c =     omega (arith, (is-record c.args.at.limits.levels c.args.t.now c.requires.asked.good c.in-8.is).some)
+u16_at-requires-in-8 c = omega (arith, (is-record c.args.at.limits.levels c.args.t.now c.requires.asked.good c.in-8.is).some)
 
 pub write_names-requires : goal.write_names-requires
 write_names-requires c =
@@ -51,10 +50,10 @@ write_names-requires c =
     (omega (arith, c.requires.asked.few, c.requires.at_in_bounds.0)) c.requires.at_in_bounds.1 u16-at2.result _ c.in-8.is u16-at2.ensures.0 entries_at.ensures
 
 pub entries_at-requires-in-11 : goal.entries_at-requires-in-11
-entries_at-requires-in-11 c =     (omega arith, (is-action c.args.at.limits.levels c.args.t.now c.requires.asked.good c.in-11.is).fit)
+entries_at-requires-in-11 c = (omega arith, (is-action c.args.at.limits.levels c.args.t.now c.requires.asked.good c.in-11.is).fit)
 
 pub u16_at-requires-in-11 : goal.u16_at-requires-in-11
-u16_at-requires-in-11 c =     omega (arith, (is-action c.args.at.limits.levels c.args.t.now c.requires.asked.good c.in-11.is).some)
+u16_at-requires-in-11 c = omega (arith, (is-action c.args.at.limits.levels c.args.t.now c.requires.asked.good c.in-11.is).some)
 
 pub write_names-requires-in-11 : goal.write_names-requires-in-11
 write_names-requires-in-11 c =

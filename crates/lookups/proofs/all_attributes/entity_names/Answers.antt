@@ -9,7 +9,6 @@ use Rattle.cedar.specs.Calls.{step_fits}
 use Rattle.attributes.specs.Laws.EntityAttribute.{entries_from, entries-missing}
 use Rattle.lookups.specs.Names.{NamedBy}
 use Rattle.lookups.specs.Laws.Names.{no-types, no-entry, entry-entered, entry-keeps}
-use borrow.Author.Rules.{rules}
 use Rattle.lookups.proofs.all_attributes.entity_names.Goals as goal
 
 pub returns-then-n-eq0 : goal.returns-then-n-eq0

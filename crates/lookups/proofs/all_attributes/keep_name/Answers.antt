@@ -1,5 +1,4 @@
 use Rattle.lookups.specs.Laws.Names.{kept-found}
-use borrow.Author.Rules.{rules}
 use Rattle.lookups.proofs.all_attributes.keep_name.Goals as goal
 
 pub returns-in-Found : goal.returns-in-Found

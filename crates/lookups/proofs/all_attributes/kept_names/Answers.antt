@@ -1,16 +1,15 @@
-use borrow.Author.Rules.{rules}
 use native.Mathlib.Omega.{arith}
 use Prim.Native.Nat.{ℕ}
-use mathlib.Core.Path.{◌≡◌, refl, subst, ◌∙◌}
+use mathlib.Core.Path.{refl, subst, ◌∙◌}
 use lib.ListN.{length}
 use Rattle.forms.specs.Limits.{as_limits}
-use Rattle.cedar.specs.Attribute.{lookup_names, keep_found}
+use Rattle.cedar.specs.Attribute.{lookup_names}
 use Rattle.cedar.specs.Calls.{step_fits}
 use Rattle.forms.specs.TypeBytes.{names_by}
 use Rattle.forms.specs.Laws.Parts.{length_rest}
 use Rattle.schemas.specs.SchemaBytes.{dec_s}
 use Rattle.lookups.specs.Lookup.{LookedUp}
-use Rattle.lookups.specs.Laws.Names.{kept_small, Keeping, keeping_start, keeping-length, keeping-end, keeping-too-long, keeping-next}
+use Rattle.lookups.specs.Laws.Names.{kept_small, keeping_start, keeping-length, keeping-end, keeping-too-long, keeping-next}
 use Rattle.lookups.proofs.all_attributes.kept_names.Goals as goal
 
 pub loop-left-init : goal.loop-left-init
@@ -28,23 +27,6 @@ pub look_up_types-found-requires : goal.look_up_types-found-requires
 look_up_types-found-requires c =
     let loop = c.loop-left in
     record { sectioned = c.requires.sectioned; named = c.requires.named; at_in_bounds = omega (arith, loop.invariant.2, c.requires.at_in_bounds) }
-
-pub shape_of-last-then-too_long : goal.shape_of-last-then-too_long
-shape_of-last-then-too_long c =
-    let look-up-types = c.look_up_types-found in
-    let loop = c.loop-left in
-    look-up-types.auto.1.1.1.1.1.0 ∙ loop.invariant.2
-
-pub shape_of-work-then-too_long : goal.shape_of-work-then-too_long
-shape_of-work-then-too_long c =
-    let look-up-types = c.look_up_types-found in
-    let loop = c.loop-left in
-    look-up-types.auto.1.1.1.1.1.1.0 ∙ loop.invariant.1
-
-pub shape_of-kept-then-too_long : goal.shape_of-kept-then-too_long
-shape_of-kept-then-too_long c =
-    let loop = c.loop-left in
-    keeping-length loop.invariant.0
 
 pub returns-then-too_long : goal.returns-then-too_long
 returns-then-too_long c =
@@ -79,7 +61,7 @@ pub keep_name-pos-requires : goal.keep_name-pos-requires
 keep_name-pos-requires c =
     let u16-at = c.u16_at-name in
     let loop = c.loop-left in
-    record { name_bound = u16-at.ensures.1; in_bounds = omega (arith, loop.invariant.0.room, keeping-length loop.invariant.0, length_rest loop.pos loop.auto) }
+    record { name_bound = u16-at.ensures.1; in_bounds = omega (arith, loop.invariant.0.room, keeping-length loop.invariant.0, length_rest loop.pos loop.kept) }
 
 pub overflow_add-pos : goal.overflow_add-pos
 overflow_add-pos c =
@@ -118,16 +100,7 @@ loop-left-preserved c =
     args.schema.now) u16-at.result (names_by 2 args.n args.types.now))
     look-up-types.new.last look-up-types.result) loop.invariant.1 look-up-types.ensures) too_long.result
     too_long.ensures if1.false keep-name.new.out keep-name.result keep-name.ensures in
-    (by-keeping-next, look-up-types.auto.1.1.1.1.1.1.0 ∙ loop.invariant.1, look-up-types.auto.1.1.1.1.1.0 ∙ loop.invariant.2)
-
-pub shape_of-last : goal.shape_of-last
-shape_of-last c =     c.loop-left.invariant.2
-
-pub shape_of-work : goal.shape_of-work
-shape_of-work c = c.loop-left.invariant.1
-
-pub shape_of-kept : goal.shape_of-kept
-shape_of-kept c = keeping-length c.loop-left.invariant.0
+    (by-keeping-next, look-up-types.auto.work ∙ loop.invariant.1, look-up-types.auto.last ∙ loop.invariant.2)
 
 pub returns : goal.returns
 returns c = keeping-end c.loop-left.invariant.0 c.loop-left-test.false

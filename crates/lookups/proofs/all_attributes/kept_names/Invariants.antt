@@ -1,16 +1,12 @@
-use borrow.Author.Rules.{rules}
-use native.Mathlib.Omega.{arith}
 use Prim.Native.Nat.{ℕ}
-use mathlib.Core.Path.{◌≡◌, refl, subst, ◌∙◌}
+use mathlib.Core.Path.{◌≡◌}
 use lib.ListN.{length}
 use Rattle.forms.specs.Limits.{as_limits}
 use Rattle.cedar.specs.Attribute.{lookup_names, keep_found}
 use Rattle.cedar.specs.Calls.{step_fits}
 use Rattle.forms.specs.TypeBytes.{names_by}
-use Rattle.forms.specs.Laws.Parts.{length_rest}
 use Rattle.schemas.specs.SchemaBytes.{dec_s}
-use Rattle.lookups.specs.Lookup.{LookedUp}
-use Rattle.lookups.specs.Laws.Names.{kept_small, Keeping, keeping_start, keeping-length, keeping-end, keeping-too-long, keeping-next}
+use Rattle.lookups.specs.Laws.Names.{Keeping}
 use Rattle.lookups.proofs.all_attributes.kept_names.Given as goal
 
 abbrev pub invariant-loop-left : goal.invariant-loop-left

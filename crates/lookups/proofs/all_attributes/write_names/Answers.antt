@@ -1,9 +1,7 @@
 use native.Mathlib.Omega.{arith}
-use Prim.Native.Nat.{◌*◌, ◌≤◌}
-use lib.ListN.{length}
 use Rattle.cedar.specs.Bytes.{enc_names}
 use Rattle.forms.specs.Laws.Parts.{length_rest}
-use Rattle.writing.specs.Laws.Writing.{Writing, writing_start, writing-length}
+use Rattle.writing.specs.Laws.Writing.{writing_start, writing-length}
 use Rattle.forms.specs.TypeBytes.{names_by}
 use Rattle.lookups.specs.Laws.Names.{entry-bytes, names-end, names-room, names_more}
 use Rattle.lookups.proofs.all_attributes.write_names.Goals as goal
@@ -33,7 +31,7 @@ pub put_name-requires : goal.put_name-requires
 put_name-requires c =
     let loop-test = c.loop-left-test in
     let loop = c.loop-left in
-    (omega (arith, names-room loop.left loop.e.now loop.invariant.0 loop-test.true, length_rest loop.pos loop.auto), c.u16_at.ensures.1)
+    (omega (arith, names-room loop.left loop.e.now loop.invariant.0 loop-test.true, length_rest loop.pos loop.kept), c.u16_at.ensures.1)
 
 pub overflow_add-pos : goal.overflow_add-pos
 overflow_add-pos c =
@@ -58,9 +56,6 @@ loop-left-preserved c =
     let by-names-more = names_more loop.left loop.e.now loop.invariant.0 loop-test.true u16-at.result u16-at.ensures.0 put-name.new.out
     put-name.ensures in
     (by-names-more, omega (arith, loop.invariant.1, length_rest 5 loop.e.now))
-
-pub shape_of-kept : goal.shape_of-kept
-shape_of-kept c = writing-length c.loop-left.invariant.0
 
 pub returns : goal.returns
 returns c = names-end c.loop-left.left c.loop-left.e.now c.loop-left.invariant.0 c.loop-left-test.false

@@ -1,11 +1,8 @@
-use native.Mathlib.Omega.{arith}
 use Prim.Native.Nat.{◌*◌, ◌≤◌}
 use lib.ListN.{length}
 use Rattle.cedar.specs.Bytes.{enc_names}
-use Rattle.forms.specs.Laws.Parts.{length_rest}
-use Rattle.writing.specs.Laws.Writing.{Writing, writing_start, writing-length}
+use Rattle.writing.specs.Laws.Writing.{Writing}
 use Rattle.forms.specs.TypeBytes.{names_by}
-use Rattle.lookups.specs.Laws.Names.{entry-bytes, names-end, names-room, names_more}
 use Rattle.lookups.proofs.all_attributes.write_names.Given as goal
 
 abbrev pub invariant-loop-left : goal.invariant-loop-left

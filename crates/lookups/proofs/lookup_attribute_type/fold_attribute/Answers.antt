@@ -1,45 +1,30 @@
-use Rattle.cedar.specs.Laws.Limits.{allowed-levels}
+use Rattle.cedar.proofs.Laws.Limits.{allowed-levels}
 use Rattle.attributes.specs.Laws.EntityAttribute.{attribute-at}
 use Rattle.lookups.proofs.NotFound.{attribute-none}
 use Rattle.lookups.specs.Lookup.{below}
-use Rattle.lookups.specs.Laws.Lookup.{Folding, folding-start, folding-end, folding-lacks, folding-unbounded, folding-too-long, folding-next}
+use Rattle.lookups.specs.Laws.Lookup.{folding-start, folding-end, folding-lacks, folding-unbounded, folding-too-long, folding-next}
 use Rattle.folds.specs.Steps.{Stepped}
 use Rattle.cedar.specs.Types.{permissive}
-use Rattle.schemas.specs.SchemaBytes.{dec_s}
-use Rattle.forms.specs.TypeBytes.{dec, names_by}
+use Rattle.forms.specs.TypeBytes.{dec}
 use Rattle.forms.specs.Parts.{part}
-use Rattle.cedar.specs.Calls.{step_fits}
-use Rattle.cedar.specs.Attribute.{fold_attr}
 use Rattle.cedar.specs.Bound.{bound}
 use Rattle.forms.specs.Limits.{as_limits}
-use lib.ListN.{length}
-use mathlib.Core.Path.{◌≡◌, refl, subst, ◌∙◌}
+use mathlib.Core.Path.{refl, subst, ◌∙◌}
 use Prim.Native.Nat.{ℕ, ◌-◌}
-use borrow.Author.Rules.{rules}
 use native.Mathlib.Omega.{arith}
 use Rattle.lookups.proofs.lookup_attribute_type.fold_attribute.Goals as goal
 
 pub overflow_sub-parts : goal.overflow_sub-parts
-overflow_sub-parts c =     omega (arith, (allowed-levels (as_limits c.args.at.limits) c.requires.sectioned.fair).0)
+overflow_sub-parts c = omega (arith, (allowed-levels (as_limits c.args.at.limits) c.requires.sectioned.fair).0)
 
 pub loop-left-init : goal.loop-left-init
-loop-left-init c =     (folding-start _ _ _ _ _ _ _ _ _ c.requires.held c.requires.named, refl, refl)
+loop-left-init c = (folding-start _ _ _ _ _ _ _ _ _ c.requires.held c.requires.named, refl, refl)
 
 pub u16_at-requires : goal.u16_at-requires
 u16_at-requires c = omega (arith, c.loop-left.invariant.0.ahead.sized)
 
 pub entity_attribute-requires : goal.entity_attribute-requires
-entity_attribute-requires c =     c.requires.sectioned
-
-pub shape_of-last-in_default : goal.shape_of-last-in_default
-shape_of-last-in_default c =
-    let loop = c.loop-left in
-    loop.invariant.2
-
-pub shape_of-work-in_default : goal.shape_of-work-in_default
-shape_of-work-in_default c =
-    let loop = c.loop-left in
-    loop.invariant.1
+entity_attribute-requires c = c.requires.sectioned
 
 pub returns-in_default : goal.returns-in_default
 returns-in_default c =
@@ -50,7 +35,7 @@ returns-in_default c =
     let args = c.args in
     let attribute-none-schema = attribute-none (as_limits args.at.limits) args.schema.now u16-at.result args.name entity-attribute.result
     entity-attribute.ensures
-    c.in_default.is in
+    c.in_default.not-At in
     folding-lacks loop.invariant.0 loop-test.true u16-at.result u16-at.ensures.0 attribute-none-schema
 
 pub slice_bounds-t-count : goal.slice_bounds-t-count
@@ -87,18 +72,6 @@ join_step-requires c =
     c.in-At.end c.in-At.also c.in-At.is in
     record { held = loop.invariant.0.held; t_value = here.0.2 }
 
-pub shape_of-last-in-Not : goal.shape_of-last-in-Not
-shape_of-last-in-Not c =
-    let join_step = c.join_step in
-    let loop = c.loop-left in
-    join_step.auto.1.0 ∙ loop.invariant.2
-
-pub shape_of-work-in-Not : goal.shape_of-work-in-Not
-shape_of-work-in-Not c =
-    let join_step = c.join_step in
-    let loop = c.loop-left in
-    join_step.auto.1.1.1.1.1.1.0 ∙ loop.invariant.1
-
 pub returns-in-Not : goal.returns-in-Not
 returns-in-Not c =
     let join_step = c.join_step in
@@ -116,18 +89,6 @@ returns-in-Not c =
     (subst (λ (w : ℕ). Stepped (below (as_limits args.at.limits)) (bound permissive (dec (args.at.limits.levels - 1) (part 0 loop.len
     loop.last)) (dec (args.at.limits.levels - 1) part-given)) w join_step.new.last
     join_step.result) loop.invariant.1 join_step.ensures) c.in-Not.field-0 c.in-Not.is
-
-pub shape_of-last-in-TooLong : goal.shape_of-last-in-TooLong
-shape_of-last-in-TooLong c =
-    let join_step = c.join_step in
-    let loop = c.loop-left in
-    join_step.auto.1.0 ∙ loop.invariant.2
-
-pub shape_of-work-in-TooLong : goal.shape_of-work-in-TooLong
-shape_of-work-in-TooLong c =
-    let join_step = c.join_step in
-    let loop = c.loop-left in
-    join_step.auto.1.1.1.1.1.1.0 ∙ loop.invariant.1
 
 pub returns-in-TooLong : goal.returns-in-TooLong
 returns-in-TooLong c =
@@ -150,12 +111,12 @@ returns-in-TooLong c =
 pub slice_bounds-e-count : goal.slice_bounds-e-count
 slice_bounds-e-count c =
     let loop = c.loop-left in
-    omega (arith, loop.inv.0.ahead.sized)
+    omega (arith, loop.invariant.0.ahead.sized)
 
 pub slice_bounds-e-start : goal.slice_bounds-e-start
 slice_bounds-e-start c =
     let loop = c.loop-left in
-    omega (arith, loop.inv.0.ahead.sized)
+    omega (arith, loop.invariant.0.ahead.sized)
 
 pub loop-left-preserved : goal.loop-left-preserved
 loop-left-preserved c =
@@ -175,13 +136,7 @@ loop-left-preserved c =
     (subst (λ (w : ℕ). Stepped (below (as_limits args.at.limits)) (bound permissive (dec (args.at.limits.levels - 1) (part 0 loop.len
     loop.last)) (dec (args.at.limits.levels - 1) part-given)) w join_step.new.last
     join_step.result) loop.invariant.1 join_step.ensures) c.in-To.m c.in-To.is both.result both.ensures in
-    (by-folding-next, join_step.auto.1.1.1.1.1.1.0 ∙ loop.invariant.1, join_step.auto.1.0 ∙ loop.invariant.2)
-
-pub shape_of-last : goal.shape_of-last
-shape_of-last c =     c.loop-left.invariant.2
-
-pub shape_of-work : goal.shape_of-work
-shape_of-work c = c.loop-left.invariant.1
+    (by-folding-next, join_step.auto.work ∙ loop.invariant.1, join_step.auto.last ∙ loop.invariant.2)
 
 pub returns : goal.returns
 returns c = folding-end c.loop-left.invariant.0 c.loop-left-test.false

@@ -1,22 +1,13 @@
-use Rattle.cedar.specs.Laws.Limits.{allowed-levels}
-use Rattle.attributes.specs.Laws.EntityAttribute.{attribute-at}
-use Rattle.lookups.proofs.NotFound.{attribute-none}
-use Rattle.lookups.specs.Lookup.{below}
-use Rattle.lookups.specs.Laws.Lookup.{Folding, folding-start, folding-end, folding-lacks, folding-unbounded, folding-too-long, folding-next}
-use Rattle.folds.specs.Steps.{Stepped}
-use Rattle.cedar.specs.Types.{permissive}
+use Rattle.lookups.specs.Laws.Lookup.{Folding}
 use Rattle.schemas.specs.SchemaBytes.{dec_s}
 use Rattle.forms.specs.TypeBytes.{dec, names_by}
 use Rattle.forms.specs.Parts.{part}
 use Rattle.cedar.specs.Calls.{step_fits}
 use Rattle.cedar.specs.Attribute.{fold_attr}
-use Rattle.cedar.specs.Bound.{bound}
 use Rattle.forms.specs.Limits.{as_limits}
 use lib.ListN.{length}
-use mathlib.Core.Path.{◌≡◌, refl, subst, ◌∙◌}
-use Prim.Native.Nat.{ℕ, ◌-◌}
-use borrow.Author.Rules.{rules}
-use native.Mathlib.Omega.{arith}
+use mathlib.Core.Path.{◌≡◌}
+use Prim.Native.Nat.{◌-◌}
 use Rattle.lookups.proofs.lookup_attribute_type.fold_attribute.Given as goal
 
 abbrev pub invariant-loop-left : goal.invariant-loop-left

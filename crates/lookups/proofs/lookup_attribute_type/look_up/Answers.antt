@@ -1,4 +1,4 @@
-use Rattle.cedar.specs.Laws.Limits.{allowed-bytes}
+use Rattle.cedar.proofs.Laws.Limits.{allowed-bytes}
 use Rattle.forms.specs.Laws.Bytes.{Bytes-index, Bytes-part, enc-dec}
 use Prim.Native.Nat.{◌-◌, ◌≤◌}
 use Rattle.forms.specs.Parts.{part}
@@ -17,14 +17,13 @@ use Rattle.forms.specs.TypeBytes.{dec}
 use Rattle.forms.specs.Laws.Parts.{length_part}
 use Rattle.forms.specs.Laws.Views.{not-empty, is-entity}
 use Rattle.schemas.specs.SchemaBytes.{dec_s}
-use Rattle.attributes.specs.Laws.Place.{place_at, place_none}
+use Rattle.attributes.specs.Laws.Place.{placed_at, place_none}
 use Rattle.lookups.specs.Lookup.{LookedUp}
 use Rattle.lookups.specs.Laws.Lookup.{held-copy, entity-lookup, entity-named, own-none, own-found}
-use borrow.Author.Rules.{rules}
 use Rattle.lookups.proofs.lookup_attribute_type.look_up.Goals as goal
 
 pub bounds-t-0 : goal.bounds-t-0
-bounds-t-0 c =     not-empty c.args.at.limits.levels c.args.t.now c.requires.asked.good
+bounds-t-0 c = not-empty c.args.at.limits.levels c.args.t.now c.requires.asked.good
 
 pub slice_bounds-look_up_types-count : goal.slice_bounds-look_up_types-count
 slice_bounds-look_up_types-count c =
@@ -75,7 +74,7 @@ pub slice_bounds-copy-count : goal.slice_bounds-copy-count
 slice_bounds-copy-count c =
     let own-attribute = c.own_attribute in
     let args = c.args in
-    let by-place-at = place_at (args.at.limits.levels - 1) args.t.now (own_attr args.name (dec args.at.limits.levels args.t.now))
+    let by-place-at = placed_at (args.at.limits.levels - 1) args.t.now (own_attr args.name (dec args.at.limits.levels args.t.now))
     own-attribute.result c.in-At.start
     c.in-At.end c.in-At.required c.in-At.is own-attribute.ensures.placed in
     omega (arith, by-place-at.0, by-place-at.1)
@@ -87,7 +86,7 @@ pub slice_bounds-copy-end : goal.slice_bounds-copy-end
 slice_bounds-copy-end c =
     let own-attribute = c.own_attribute in
     let args = c.args in
-    let by-place-at = place_at (args.at.limits.levels - 1) args.t.now (own_attr args.name (dec args.at.limits.levels args.t.now))
+    let by-place-at = placed_at (args.at.limits.levels - 1) args.t.now (own_attr args.name (dec args.at.limits.levels args.t.now))
     own-attribute.result c.in-At.start
     c.in-At.end c.in-At.required c.in-At.is own-attribute.ensures.placed in
     omega (arith, by-place-at.0, by-place-at.1)
@@ -96,7 +95,7 @@ pub copy-requires : goal.copy-requires
 copy-requires c =
     let own-attribute = c.own_attribute in
     let args = c.args in
-    let by-place-at = place_at (args.at.limits.levels - 1) args.t.now (own_attr args.name (dec args.at.limits.levels args.t.now))
+    let by-place-at = placed_at (args.at.limits.levels - 1) args.t.now (own_attr args.name (dec args.at.limits.levels args.t.now))
     own-attribute.result c.in-At.start
     c.in-At.end c.in-At.required c.in-At.is own-attribute.ensures.placed in
     let by-length-part = length_part c.in-At.start c.in-At.end args.t.now by-place-at.1 in
@@ -113,7 +112,7 @@ pub overflow_sub-result : goal.overflow_sub-result
 overflow_sub-result c =
     let own-attribute = c.own_attribute in
     let args = c.args in
-    let by-place-at = place_at (args.at.limits.levels - 1) args.t.now (own_attr args.name (dec args.at.limits.levels args.t.now))
+    let by-place-at = placed_at (args.at.limits.levels - 1) args.t.now (own_attr args.name (dec args.at.limits.levels args.t.now))
     own-attribute.result c.in-At.start
     c.in-At.end c.in-At.required c.in-At.is own-attribute.ensures.placed in
     omega (arith, by-place-at.0)
@@ -124,7 +123,7 @@ returns c =
     let own-attribute = c.own_attribute in
     let if1 = c.if-t-eq-ENTITY in
     let args = c.args in
-    let by-place-at = place_at (args.at.limits.levels - 1) args.t.now (own_attr args.name (dec args.at.limits.levels args.t.now))
+    let by-place-at = placed_at (args.at.limits.levels - 1) args.t.now (own_attr args.name (dec args.at.limits.levels args.t.now))
     own-attribute.result c.in-At.start
     c.in-At.end c.in-At.required c.in-At.is own-attribute.ensures.placed in
     let by-Bytes-part = Bytes-part c.in-At.start c.in-At.end args.t.now
@@ -133,7 +132,7 @@ returns c =
     by-place-at.2 in
     let by-held-copy = held-copy (as_limits args.at.limits) (allowed-bytes (as_limits args.at.limits) c.requires.sectioned.fair).1 args.t.now
     args.last.now copy.new.out c.in-At.start c.in-At.end by-place-at.0
-    by-place-at.1 (omega (arith, by-place-at.1, c.requires.asked.few)) c.requires.asked.room copy.auto.1.0 by-place-at.2 by-enc-dec copy.ensures in
+    by-place-at.1 (omega (arith, by-place-at.1, c.requires.asked.few)) c.requires.asked.room copy.auto.out by-place-at.2 by-enc-dec copy.ensures in
     own-found (step_fits (as_limits args.at.limits) (length args.work.now)) (dec_s (as_limits args.at.limits) args.schema.now) args.name
     args.at.limits.levels args.t.now c.requires.asked.good if1.false
     (as_limits args.at.limits) c.in-At.required _ by-place-at.3 copy.new.out by-held-copy

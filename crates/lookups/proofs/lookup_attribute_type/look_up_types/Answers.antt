@@ -1,4 +1,4 @@
-use Rattle.cedar.specs.Laws.Limits.{allowed-bytes}
+use Rattle.cedar.proofs.Laws.Limits.{allowed-bytes}
 use Rattle.forms.specs.Laws.Bytes.{Bytes-index, Bytes-part, enc-dec}
 use native.Mathlib.Omega.{arith}
 use Prim.Native.Nat.{ℕ, ◌-◌}
@@ -20,7 +20,6 @@ use Rattle.lookups.specs.Lookup.{LookedUp}
 use Rattle.attributes.specs.Laws.EntityAttribute.{attribute-at}
 use Rattle.lookups.proofs.NotFound.{attribute-none}
 use Rattle.lookups.specs.Laws.Lookup.{held-copy, types-none, types-lack, types-fold, types-rest}
-use borrow.Author.Rules.{rules}
 use Rattle.lookups.proofs.lookup_attribute_type.look_up_types.Goals as goal
 
 pub returns-then-n-eq0 : goal.returns-then-n-eq0
@@ -37,7 +36,7 @@ returns-in_default c =
     let args = c.args in
     let attribute-none-schema = attribute-none (as_limits args.at.limits) args.schema.now u16-at.result args.name entity-attribute.result
     entity-attribute.ensures
-    c.in_default.is in
+    c.in_default.not-At in
     types-lack (step_fits (as_limits args.at.limits) (length args.work.now)) (dec_s (as_limits args.at.limits) args.schema.now) args.name
     args.n args.types.now if1.false
     u16-at.result u16-at.ensures.0 attribute-none-schema
@@ -101,7 +100,7 @@ fold_attribute-requires c =
     args.schema.now) by-Bytes-part by-attribute-at.0.2 in
     let by-held-copy = held-copy (as_limits args.at.limits) (allowed-bytes (as_limits args.at.limits) c.requires.sectioned.fair).1
     args.schema.now args.last.now copy.new.out c.in-At.start c.in-At.end
-    by-attribute-at.0.0 by-attribute-at.0.1 by-attribute-at.1 c.requires.at_in_bounds copy.auto.1.0 by-attribute-at.0.2 by-enc-dec
+    by-attribute-at.0.0 by-attribute-at.0.1 by-attribute-at.1 c.requires.at_in_bounds copy.auto.out by-attribute-at.0.2 by-enc-dec
     copy.ensures in
     record { sectioned = c.requires.sectioned; named = types-rest args.n args.types.now c.requires.named; held = by-held-copy.1 }
 
@@ -123,7 +122,7 @@ returns c =
     args.schema.now) by-Bytes-part by-attribute-at.0.2 in
     let by-held-copy = held-copy (as_limits args.at.limits) (allowed-bytes (as_limits args.at.limits) c.requires.sectioned.fair).1
     args.schema.now args.last.now copy.new.out c.in-At.start c.in-At.end
-    by-attribute-at.0.0 by-attribute-at.0.1 by-attribute-at.1 c.requires.at_in_bounds copy.auto.1.0 by-attribute-at.0.2 by-enc-dec
+    by-attribute-at.0.0 by-attribute-at.0.1 by-attribute-at.1 c.requires.at_in_bounds copy.auto.out by-attribute-at.0.2 by-enc-dec
     copy.ensures in
     subst (λ (o : Result (Option (Bool × Ty))). LookedUp (as_limits args.at.limits) o fold-attribute.new.last
     fold-attribute.result)
