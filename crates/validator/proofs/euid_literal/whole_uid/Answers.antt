@@ -1,0 +1,22 @@
+use Rattle.forms.specs.Limits.{as_limits}
+use Rattle.validator.specs.Laws.Uids.{uid-not-whole, value-some, uid-by-kind}
+use borrow.Author.Rules.{rules}
+use Rattle.validator.proofs.euid_literal.whole_uid.Goals as goal
+
+pub returns-then-not-whole_value : goal.returns-then-not-whole_value
+returns-then-not-whole_value c =
+    let whole-value = c.whole_value in
+    let args = c.args in
+    uid-not-whole (as_limits args.limits) args.v.now whole-value.result whole-value.ensures c.if-not-whole_value.true-raw
+
+pub bounds-v-0 : goal.bounds-v-0
+bounds-v-0 c =
+    let whole-value = c.whole_value in
+    let args = c.args in
+    value-some (as_limits args.limits) args.v.now whole-value.result whole-value.ensures c.if-not-whole_value.false-raw
+
+pub returns : goal.returns
+returns c =
+    let whole-value = c.whole_value in
+    let args = c.args in
+    uid-by-kind (as_limits args.limits) args.v.now whole-value.result whole-value.ensures c.if-not-whole_value.false-raw

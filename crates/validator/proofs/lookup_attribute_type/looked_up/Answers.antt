@@ -1,0 +1,117 @@
+use Rattle.forms.specs.Limits.{as_limits}
+use Rattle.cedar.proofs.Laws.Limits.{allowed-levels}
+use Rattle.validator.specs.Laws.Lookup.{lookup-whole, small, lookup-no-type, lookup-nothing, lookup-too-long, lookup-over, lookup-room, lookup-writes}
+use native.Mathlib.Omega.{arith}
+use lib.ListN.{length}
+use Rattle.validator.specs.Laws.Questions.{type-missing, type-there, type-whole, type-few}
+use Rattle.validator.specs.Laws.Schemas.{sectioned-there}
+use borrow.Author.Rules.{rules}
+use Rattle.validator.proofs.lookup_attribute_type.looked_up.Goals as goal
+
+pub returns-then-not-whole_type : goal.returns-then-not-whole_type
+returns-then-not-whole_type c =
+    let args = c.args in
+    let by-checked-there = sectioned-there args.schema.now args.at c.requires.sectioned in
+    let by-type-missing = type-missing (as_limits args.at.limits) args.t.now c.whole_type.result
+    c.whole_type.ensures c.if-not-whole_type.true-raw in
+    lookup-no-type (as_limits args.at.limits) c.requires.sectioned.fair args.schema.now args.attr args.t.now args.out.now (length
+    args.work.now) _ by-checked-there by-type-missing
+
+pub look_up-requires : goal.look_up-requires
+look_up-requires c =
+    let args = c.args in record { sectioned = c.requires.sectioned; asked = record {
+        good = type-whole (as_limits args.at.limits) args.t.now c.whole_type.result c.whole_type.ensures
+            c.if-not-whole_type.false-raw;
+        few = type-few (as_limits args.at.limits) args.t.now c.whole_type.result c.whole_type.ensures
+            c.if-not-whole_type.false-raw;
+        room = c.requires.at_in_bounds;
+      } }
+
+pub returns-then-not-answer_fits : goal.returns-then-not-answer_fits
+returns-then-not-answer_fits c =
+    let args = c.args in
+    let by-checked-there = sectioned-there args.schema.now args.at c.requires.sectioned in
+    let by-type-there = type-there (as_limits args.at.limits) args.t.now c.whole_type.result c.whole_type.ensures
+    c.if-not-whole_type.false-raw in
+    lookup-over (as_limits args.at.limits) c.requires.sectioned.fair args.schema.now args.attr args.t.now args.out.now (length
+    args.work.now) _ by-checked-there _ by-type-there
+    c.look_up.new.last c.look_up.result c.look_up.ensures c.in-Found.required
+    c.in-Found.n c.in-Found.is (omega (arith, c.look_up.auto.last, c.requires.at_in_bounds))
+    c.answer_fits.result
+    c.answer_fits.ensures c.if-not-answer_fits.true-raw
+
+pub slice_bounds-form-end : goal.slice_bounds-form-end
+slice_bounds-form-end c =
+    let args = c.args in
+    let by-checked-there = sectioned-there args.schema.now args.at c.requires.sectioned in
+    let by-type-there = type-there (as_limits args.at.limits) args.t.now c.whole_type.result c.whole_type.ensures
+    c.if-not-whole_type.false-raw in
+    omega (
+      arith,
+      small (as_limits args.at.limits) c.requires.sectioned.fair args.schema.now args.attr args.t.now args.out.now (length
+          args.work.now) _ by-checked-there _ by-type-there
+          c.look_up.new.last c.look_up.result c.look_up.ensures c.in-Found.required
+          c.in-Found.n c.in-Found.is (omega (arith, c.look_up.auto.last, c.requires.at_in_bounds)),
+      c.look_up.auto.last,
+    )
+
+pub copy-requires : goal.copy-requires
+copy-requires c =
+    let args = c.args in
+    let by-checked-there = sectioned-there args.schema.now args.at c.requires.sectioned in
+    let by-type-there = type-there (as_limits args.at.limits) args.t.now c.whole_type.result c.whole_type.ensures
+    c.if-not-whole_type.false-raw in
+    lookup-room (as_limits args.at.limits) c.requires.sectioned.fair args.schema.now args.attr args.t.now args.out.now (length
+    args.work.now) _ by-checked-there _ by-type-there
+    c.look_up.new.last c.look_up.result c.look_up.ensures c.in-Found.required
+    c.in-Found.n c.in-Found.is (omega (arith, c.look_up.auto.last, c.requires.at_in_bounds))
+    c.answer_fits.result
+    c.answer_fits.ensures c.if-not-answer_fits.false-raw
+
+pub overflow_sub-limits : goal.overflow_sub-limits
+overflow_sub-limits c =     omega (arith, (allowed-levels (as_limits c.args.at.limits) c.requires.sectioned.fair).0)
+
+pub type_levels-requires : goal.type_levels-requires
+type_levels-requires c =
+    let args = c.args in
+    let by-checked-there = sectioned-there args.schema.now args.at c.requires.sectioned in
+    let by-type-there = type-there (as_limits args.at.limits) args.t.now c.whole_type.result c.whole_type.ensures
+    c.if-not-whole_type.false-raw in
+    lookup-whole (as_limits args.at.limits) c.requires.sectioned.fair args.schema.now args.attr args.t.now args.out.now (length
+    args.work.now) _ by-checked-there _ by-type-there
+    c.look_up.new.last c.look_up.result c.look_up.ensures c.in-Found.required
+    c.in-Found.n c.in-Found.is (omega (arith, c.look_up.auto.last, c.requires.at_in_bounds))
+
+pub returns-else-not-answer_fits : goal.returns-else-not-answer_fits
+returns-else-not-answer_fits c =
+    let args = c.args in
+    let by-checked-there = sectioned-there args.schema.now args.at c.requires.sectioned in
+    let by-type-there = type-there (as_limits args.at.limits) args.t.now c.whole_type.result c.whole_type.ensures
+    c.if-not-whole_type.false-raw in
+    lookup-writes (as_limits args.at.limits) c.requires.sectioned.fair args.schema.now args.attr args.t.now args.out.now (length
+    args.work.now) _ by-checked-there _ by-type-there
+    c.look_up.new.last c.look_up.result c.look_up.ensures c.in-Found.required
+    c.in-Found.n c.in-Found.is (omega (arith, c.look_up.auto.last, c.requires.at_in_bounds))
+    c.answer_fits.result
+    c.answer_fits.ensures c.if-not-answer_fits.false-raw c.copy.new.out c.copy.ensures
+    c.type_levels.result c.type_levels.ensures
+
+pub returns-in-Nothing : goal.returns-in-Nothing
+returns-in-Nothing c =
+    let args = c.args in
+    let by-checked-there = sectioned-there args.schema.now args.at c.requires.sectioned in
+    let by-type-there = type-there (as_limits args.at.limits) args.t.now c.whole_type.result c.whole_type.ensures
+    c.if-not-whole_type.false-raw in
+    lookup-nothing (as_limits args.at.limits) c.requires.sectioned.fair args.schema.now args.attr args.t.now args.out.now (length
+    args.work.now) _ by-checked-there _ by-type-there
+    c.look_up.new.last c.look_up.result c.look_up.ensures c.in-Nothing.is
+
+pub returns-in-TooLong : goal.returns-in-TooLong
+returns-in-TooLong c =
+    let args = c.args in
+    let by-checked-there = sectioned-there args.schema.now args.at c.requires.sectioned in
+    let by-type-there = type-there (as_limits args.at.limits) args.t.now c.whole_type.result c.whole_type.ensures
+    c.if-not-whole_type.false-raw in
+    lookup-too-long (as_limits args.at.limits) c.requires.sectioned.fair args.schema.now args.attr args.t.now args.out.now (length
+    args.work.now) _ by-checked-there _ by-type-there
+    c.look_up.new.last c.look_up.result c.look_up.ensures c.in-TooLong.is

@@ -1,0 +1,13 @@
+use native.Mathlib.Omega.{arith}
+use mathlib.Core.Path.{◌≡◌, refl}
+use mathlib.Core.List.{◌++◌}
+use Prim.Native.Nat.{◌≤◌, ◌-◌}
+use lib.ListN.{length, drop, replicate, length-set}
+use Rattle.validator.specs.Laws.Workspaces.{clear-more, clear-end}
+use Rattle.validator.proofs.workspaces.clear.Given as goal
+
+abbrev pub invariant-loop-i : goal.invariant-loop-i
+invariant-loop-i l = (l.work ≡ replicate l.i 0 ++ drop l.i l.initial.work) × (length l.work ≡ length l.initial.work) × (l.i ≤ length l.initial.work)
+
+abbrev pub decreases-loop-i : goal.decreases-loop-i
+decreases-loop-i l = length l.initial.work - l.i
