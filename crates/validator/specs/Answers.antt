@@ -1,5 +1,5 @@
 -- What the entries' contracts say: the answer of an outcome, and every byte that was lent. Assumes nothing: these are definitions.
-use Rattle.std.specs.Prelude.{ℕ, List, Bool, true, false, ◌≡◌, length, replicate}
+use Rattle.std.specs.Prelude.{ℕ, List, true, false, ◌≡◌, length, replicate}
 use Rattle.cedar.specs.Bytes.{enc_names}
 use Rattle.cedar.specs.TypeForm.{enc}
 use Rattle.cedar.specs.Levels.{depth}

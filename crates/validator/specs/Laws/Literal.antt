@@ -1,5 +1,5 @@
 -- The outcome of `euid_literal`, question by question. Assumes nothing.
-use Rattle.std.specs.Prelude.{ℕ, suc, ◌-◌, ◌≤◌, min, List, Bool, true, false, not, ◌≡◌, refl, leb, length}
+use Rattle.std.specs.Prelude.{ℕ, suc, ◌≤◌, min, List, Bool, true, false, not, ◌≡◌, refl, leb, length}
 use Rattle.std.proofs.Common.{arith, ap, sym, subst, ◌∙◌, leb-true}
 use Rattle.std.proofs.Math.Option.{Option, none, some}
 use Rattle.std.proofs.lemmas.Bool.{not-false}
@@ -11,7 +11,6 @@ use Rattle.cedar.specs.Limits.{Limits, most_bytes, allowed}
 use Rattle.cedar.specs.Result.{ok}
 use Rattle.cedar.specs.Whole.{whole_schema}
 use Rattle.cedar.specs.Outcome.{Outcome, nothing, over}
-use Rattle.cedar.specs.Literal.{literal}
 use Rattle.cedar.specs.Calls.{write_type, literal_call}
 use Rattle.cedar.proofs.Laws.Limits.{allowed-bytes}
 use Rattle.cedar.proofs.Laws.Result.{ok-inj}

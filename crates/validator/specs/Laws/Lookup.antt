@@ -9,7 +9,7 @@ use Rattle.cedar.specs.TypeForm.{enc}
 use Rattle.cedar.specs.Limits.{Limits, allowed}
 use Rattle.cedar.specs.Result.{Result, ok, err}
 use Rattle.cedar.specs.Whole.{whole_type, whole_schema}
-use Rattle.cedar.specs.Outcome.{Outcome, nothing, attribute, over}
+use Rattle.cedar.specs.Outcome.{Outcome, attribute, over}
 use Rattle.cedar.specs.Attribute.{lookup}
 use Rattle.cedar.specs.Calls.{step_fits, write_attribute, lookup_call}
 use Rattle.forms.specs.Parts.{part}

@@ -1,7 +1,7 @@
 -- The calls that measure, question by question. Assumes nothing.
 use Rattle.std.specs.Prelude.{ℕ, ◌<◌, List, Bool, true, false, ◌≡◌, refl, length, get_or}
 use Rattle.std.proofs.Math.Option.{none, some}
-use Rattle.std.proofs.Common.{ap₂, ap, sym, ◌∙◌}
+use Rattle.std.proofs.Common.{ap₂, ap, sym}
 use Rattle.cedar.specs.Levels.{depth, depth_value}
 use Rattle.cedar.specs.Limits.{Limits, allowed}
 use Rattle.cedar.specs.Whole.{whole_type, whole_value}

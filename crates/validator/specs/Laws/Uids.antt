@@ -3,7 +3,7 @@ use Rattle.std.specs.Prelude.{ℕ, zero, suc, ◌<◌, List, Bool, true, false, 
 use Rattle.std.proofs.Common.{arith, ap, sym, ◌∙◌, eqb-true, ltb-true, eq-eqb}
 use Rattle.std.proofs.Math.Option.{Option, none, some}
 use Rattle.std.proofs.lemmas.Bool.{not-true, not-false}
-use Rattle.cedar.specs.Types.{Value, uid, present}
+use Rattle.cedar.specs.Types.{Value, present}
 use Rattle.cedar.specs.Bytes.{◌>>=◌}
 use Rattle.cedar.specs.Limits.{Limits}
 use Rattle.cedar.specs.ValueForm.{value_kind}

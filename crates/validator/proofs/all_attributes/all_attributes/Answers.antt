@@ -3,7 +3,6 @@ use Rattle.cedar.specs.Calls.{names_call}
 use Rattle.validator.specs.Answers.{AnsweredIn}
 use Rattle.cedar.specs.Limits.{Limits}
 use Rattle.validator.specs.Laws.Schemas.{checked-own, checked_under}
-use borrow.Author.Rules.{rules}
 use Rattle.validator.proofs.all_attributes.all_attributes.Goals as goal
 
 pub all_attributes_checked-requires : goal.all_attributes_checked-requires

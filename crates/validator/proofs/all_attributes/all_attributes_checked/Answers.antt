@@ -1,5 +1,4 @@
 use Rattle.validator.specs.Laws.Workspaces.{cleared-after}
-use borrow.Author.Rules.{rules}
 use Rattle.validator.proofs.all_attributes.all_attributes_checked.Goals as goal
 
 pub returns : goal.returns

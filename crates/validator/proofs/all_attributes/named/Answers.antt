@@ -4,7 +4,6 @@ use lib.ListN.{length}
 use Rattle.validator.specs.Laws.Questions.{type-missing, type-there, type-whole, type-few}
 use Rattle.validator.specs.Laws.Schemas.{sectioned-there}
 use Rattle.validator.specs.Laws.Names.{names-no-type, names-too-long, names-over, names-small, names-fit, names-write}
-use borrow.Author.Rules.{rules}
 use Rattle.validator.proofs.all_attributes.named.Goals as goal
 
 pub returns-then-not-whole_type : goal.returns-then-not-whole_type
@@ -18,13 +17,17 @@ returns-then-not-whole_type c =
 
 pub all_names-requires : goal.all_names-requires
 all_names-requires c =
-    let args = c.args in record { sectioned = c.requires.sectioned; asked = record {
-          good = type-whole (as_limits args.at.limits) args.t.now c.whole_type.result c.whole_type.ensures
-              c.if-not-whole_type.false-raw;
-          few = type-few (as_limits args.at.limits) args.t.now c.whole_type.result c.whole_type.ensures
-              c.if-not-whole_type.false-raw;
-          room = c.requires.at_in_bounds;
-        }; at_in_bounds = c.requires.at_in_bounds_2 }
+    let args = c.args in record {
+      sectioned = c.requires.sectioned;
+      asked = record {
+        good = type-whole (as_limits args.at.limits) args.t.now c.whole_type.result c.whole_type.ensures
+            c.if-not-whole_type.false-raw;
+        few = type-few (as_limits args.at.limits) args.t.now c.whole_type.result c.whole_type.ensures
+            c.if-not-whole_type.false-raw;
+        room = c.requires.at_in_bounds;
+      };
+      at_in_bounds = c.requires.at_in_bounds_2;
+    }
 
 pub returns-in_default : goal.returns-in_default
 returns-in_default c =

@@ -9,7 +9,6 @@ use Rattle.validator.specs.Laws.Schemas.{kept-refused, kept-allowed, kept-missin
 use Rattle.validator.specs.Answers.{Answered}
 use Rattle.validator.specs.Laws.Names.{names-no-schema}
 use Rattle.validator.specs.Laws.Writing.{refuses}
-use borrow.Author.Rules.{rules}
 use Rattle.validator.proofs.all_attributes.named_under.Goals as goal
 
 pub returns-then-not-are_allowed : goal.returns-then-not-are_allowed

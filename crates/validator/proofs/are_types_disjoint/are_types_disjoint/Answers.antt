@@ -3,7 +3,6 @@ use borrow.Author.Tests.{not-true, not-false}
 use Rattle.cedar.proofs.Laws.Limits.{disjoint-refused}
 use Rattle.forms.specs.Limits.{as_limits}
 use Rattle.validator.specs.Answers.{answer_of}
-use borrow.Author.Rules.{rules}
 use Rattle.validator.proofs.are_types_disjoint.are_types_disjoint.Goals as goal
 
 pub returns-then-not-are_allowed : goal.returns-then-not-are_allowed
@@ -13,4 +12,4 @@ returns-then-not-are_allowed c =
     sym (ap answer_of (disjoint-refused (as_limits args.limits) bad args.t0.now args.t1.now))
 
 pub disjoint_under-requires : goal.disjoint_under-requires
-disjoint_under-requires c =     sym c.are_allowed.ensures ∙ not-false c.are_allowed.result c.if-not-are_allowed.false-raw
+disjoint_under-requires c = sym c.are_allowed.ensures ∙ not-false c.are_allowed.result c.if-not-are_allowed.false-raw

@@ -9,7 +9,6 @@ use Rattle.cedar.specs.Calls.{ask}
 use Rattle.forms.specs.TypeBytes.{dec}
 use Rattle.validator.specs.Answers.{answer_of}
 use Rattle.validator.specs.Laws.Questions.{ask-no, ask-on, missing, type-there, type-whole, within-limits}
-use borrow.Author.Rules.{rules}
 use Rattle.validator.proofs.are_types_disjoint.disjoint_under.Goals as goal
 
 pub returns-then-not-whole_type : goal.returns-then-not-whole_type
@@ -39,8 +38,11 @@ pub are_types_disjoint-requires : goal.are_types_disjoint-requires
 are_types_disjoint-requires c =
     let if1 = c.if-not-whole_type in
     let by-type-whole = type-whole (as_limits c.args.limits) c.args.t0.now c.whole_type.result
-    c.whole_type.ensures if1.false-raw in record { t0_value = by-type-whole; t1_value = type-whole (as_limits c.args.limits) c.args.t1.now c.whole_type-2.result
-          c.whole_type-2.ensures c.if-not-whole_type-2.false-raw }
+    c.whole_type.ensures if1.false-raw in record {
+      t0_value = by-type-whole;
+      t1_value = type-whole (as_limits c.args.limits) c.args.t1.now c.whole_type-2.result
+          c.whole_type-2.ensures c.if-not-whole_type-2.false-raw;
+    }
 
 pub returns : goal.returns
 returns c =

@@ -2,40 +2,11 @@ use Rattle.forms.specs.Limits.{as_limits}
 use Rattle.cedar.proofs.Laws.Limits.{allowed-bytes}
 use native.Mathlib.Omega.{arith}
 use lib.ListN.{length}
-use Rattle.cedar.specs.Calls.{convert_call}
 use Rattle.forms.specs.TypeBytes.{dec}
 use Rattle.conversions.specs.CoreTypes.{core}
-use Rattle.validator.specs.Laws.Writing.{type-is, type-not, refuses, writes-not, writes-over, writes-ready, wrote, Wrote, wrote-small, wrote-whole, wrote-levels}
+use Rattle.validator.specs.Laws.Writing.{type-is, type-not, refuses, writes-not, writes-over, writes-ready, wrote, wrote-small, wrote-whole, wrote-levels}
 use Rattle.validator.specs.Laws.Conversion.{convert-not, convert-whole, core-within}
-use borrow.Author.Rules.{rules}
 use Rattle.validator.proofs.convert.convert_under.Goals as goal
-
--- The core type was written.
-
--- ?? HELPER
-core-wrote : (c : tie.After-write-core) →
-    let n = c.before.before.before.before.before.n in
-    let start = c.before.before.before.before.before.before.before.before.before.before.before.before in
-    let args = start.args in
-    Wrote (as_limits args.limits) (convert_call (as_limits args.limits) args.t.now (length args.out.now))
-    args.out.now c.write-core.new.1.1.0 n.given.0.0
-core-wrote c =
-    let if2 = c.before.before.if2 in
-    let answer-fits = c.before.before.before.answer-fits in
-    let n = c.before.before.before.before.before.n in
-    let after-core-length = c.before.before.before.before.before.before.before in
-    let core-length = after-core-length.core-length in
-    let if1 = after-core-length.before.if1 in
-    let whole-type = after-core-length.before.before.whole-type in
-    let known = after-core-length.before.before.before.before.shared-slice-known in
-    let start = after-core-length.before.before.before.before.before in
-    let args = start.args in
-    let by-type-is = type-is (as_limits args.limits) args.t.now whole-type.result whole-type.ensures if1.false in
-    let by-convert-whole = convert-whole (as_limits args.limits) start.requires args.t.now (length args.out.now) by-type-is.0 in
-    wrote (as_limits args.limits) (allowed-bytes (as_limits args.limits) start.requires).1 (core (dec args.limits.levels args.t.now))
-    args.out.now _ by-convert-whole core-length.result core-length.ensures n.given.0.0 n.given.1
-    answer-fits.result answer-fits.ensures if2.false c.write-core.new.1.1.0 c.write-core.result c.write-core.ensures
-    (core-within (as_limits args.limits) args.t.now (λ i. (known.given i).fits) by-type-is.1)
 
 pub returns-then-not-whole_type : goal.returns-then-not-whole_type
 returns-then-not-whole_type c =
@@ -70,18 +41,45 @@ write_core-requires c =
     let if1 = c.if-not-whole_type in
     let whole-type = c.whole_type in
     let args = c.args in
-    let by-type-is = type-is (as_limits args.limits) args.t.now whole-type.result whole-type.ensures if1.false-raw in record { t_value = by-type-is.1; ready = writes-ready (as_limits args.limits) (allowed-bytes (as_limits args.limits) c.requires).1 (core (dec args.limits.levels args.t.now))
+    let by-type-is = type-is (as_limits args.limits) args.t.now whole-type.result whole-type.ensures if1.false-raw in record {
+      t_value = by-type-is.1;
+      ready = writes-ready (as_limits args.limits) (allowed-bytes (as_limits args.limits) c.requires).1 (core (dec args.limits.levels args.t.now))
           args.out.now _ (convert-whole (as_limits args.limits) c.requires args.t.now (length args.out.now) by-type-is.0)
-          core-length.result core-length.ensures c.in-Of.n c.in-Of.is answer-fits.result answer-fits.ensures c.if-not-answer_fits.false-raw }
+          core-length.result core-length.ensures c.in-Of.n c.in-Of.is answer-fits.result answer-fits.ensures c.if-not-answer_fits.false-raw;
+    }
 
 pub slice_bounds-form-end : goal.slice_bounds-form-end
-slice_bounds-form-end c = omega (arith, wrote-small (core-wrote c))
+slice_bounds-form-end c =
+    let args = c.args in
+    let by-type-is = type-is (as_limits args.limits) args.t.now c.whole_type.result c.whole_type.ensures c.if-not-whole_type.false-raw in
+    let by-convert-whole = convert-whole (as_limits args.limits) c.requires args.t.now (length args.out.now) by-type-is.0 in
+    let was-written = wrote (as_limits args.limits) (allowed-bytes (as_limits args.limits) c.requires).1 (core (dec args.limits.levels args.t.now))
+    args.out.now _ by-convert-whole c.core_length.result c.core_length.ensures c.in-Of.n c.in-Of.is
+    c.answer_fits.result c.answer_fits.ensures c.if-not-answer_fits.false-raw c.write_core.new.out c.write_core.result c.write_core.ensures
+    (core-within (as_limits args.limits) args.t.now (λ i. (c.type_inv.t i).fits) by-type-is.1) in
+    omega (arith, wrote-small was-written)
 
 pub type_levels-requires : goal.type_levels-requires
-type_levels-requires c = wrote-whole (core-wrote c)
+type_levels-requires c =
+    let args = c.args in
+    let by-type-is = type-is (as_limits args.limits) args.t.now c.whole_type.result c.whole_type.ensures c.if-not-whole_type.false-raw in
+    let by-convert-whole = convert-whole (as_limits args.limits) c.requires args.t.now (length args.out.now) by-type-is.0 in
+    let was-written = wrote (as_limits args.limits) (allowed-bytes (as_limits args.limits) c.requires).1 (core (dec args.limits.levels args.t.now))
+    args.out.now _ by-convert-whole c.core_length.result c.core_length.ensures c.in-Of.n c.in-Of.is
+    c.answer_fits.result c.answer_fits.ensures c.if-not-answer_fits.false-raw c.write_core.new.out c.write_core.result c.write_core.ensures
+    (core-within (as_limits args.limits) args.t.now (λ i. (c.type_inv.t i).fits) by-type-is.1) in
+    wrote-whole was-written
 
 pub returns-else-not-answer_fits : goal.returns-else-not-answer_fits
-returns-else-not-answer_fits c = wrote-levels (core-wrote c) c.type_levels.result c.type_levels.ensures
+returns-else-not-answer_fits c =
+    let args = c.args in
+    let by-type-is = type-is (as_limits args.limits) args.t.now c.whole_type.result c.whole_type.ensures c.if-not-whole_type.false-raw in
+    let by-convert-whole = convert-whole (as_limits args.limits) c.requires args.t.now (length args.out.now) by-type-is.0 in
+    let was-written = wrote (as_limits args.limits) (allowed-bytes (as_limits args.limits) c.requires).1 (core (dec args.limits.levels args.t.now))
+    args.out.now _ by-convert-whole c.core_length.result c.core_length.ensures c.in-Of.n c.in-Of.is
+    c.answer_fits.result c.answer_fits.ensures c.if-not-answer_fits.false-raw c.write_core.new.out c.write_core.result c.write_core.ensures
+    (core-within (as_limits args.limits) args.t.now (λ i. (c.type_inv.t i).fits) by-type-is.1) in
+    wrote-levels was-written c.type_levels.result c.type_levels.ensures
 
 pub returns-in-Not : goal.returns-in-Not
 returns-in-Not c =

@@ -3,7 +3,6 @@ use Rattle.cedar.specs.Calls.{literal_call}
 use Rattle.validator.specs.Answers.{Answered}
 use Rattle.cedar.specs.Limits.{Limits}
 use Rattle.validator.specs.Laws.Schemas.{checked-own, checked_under}
-use borrow.Author.Rules.{rules}
 use Rattle.validator.proofs.euid_literal.euid_literal.Goals as goal
 
 pub euid_literal_checked-requires : goal.euid_literal_checked-requires

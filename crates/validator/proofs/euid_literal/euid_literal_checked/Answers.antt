@@ -8,7 +8,6 @@ use Rattle.schemas.specs.SchemaBytes.{limits_of}
 use Rattle.validator.specs.Laws.Schemas.{kept-refused, kept-allowed, kept-missing, kept-sections, kept_under}
 use Rattle.validator.specs.Laws.Literal.{literal-no-schema}
 use Rattle.validator.specs.Laws.Writing.{refuses}
-use borrow.Author.Rules.{rules}
 use Rattle.validator.proofs.euid_literal.euid_literal_checked.Goals as goal
 
 pub returns-then-not-are_allowed : goal.returns-then-not-are_allowed

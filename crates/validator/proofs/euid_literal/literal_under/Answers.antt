@@ -4,7 +4,6 @@ use Rattle.forms.specs.Laws.Bytes.{Bytes-index}
 use Rattle.validator.specs.Laws.Schemas.{sectioned-there}
 use Rattle.validator.specs.Laws.Uids.{uid-missing, uid-there, uid-read}
 use Rattle.validator.specs.Laws.Literal.{literal-no-uid, literal-nothing, literal-over, literal-room, literal-writes}
-use borrow.Author.Rules.{rules}
 use Rattle.validator.proofs.euid_literal.literal_under.Goals as goal
 
 pub returns-then-not-whole_uid : goal.returns-then-not-whole_uid
@@ -32,7 +31,7 @@ u16_at-requires c =
     )
 
 pub find_literal-found-requires : goal.find_literal-found-requires
-find_literal-found-requires c =     c.requires
+find_literal-found-requires c = c.requires
 
 pub literal_length-n-requires : goal.literal_length-n-requires
 literal_length-n-requires c = c.find_literal-found.ensures.laid
@@ -79,7 +78,7 @@ write_literal-requires c =
     record { laid = c.find_literal-found.ensures.laid; entity_bound = c.u16_at-entity.ensures.1; found_in_bounds = by-literal-room }
 
 pub literal_levels-requires : goal.literal_levels-requires
-literal_levels-requires c =     c.find_literal-found.ensures.stands
+literal_levels-requires c = c.find_literal-found.ensures.stands
 
 pub returns : goal.returns
 returns c =

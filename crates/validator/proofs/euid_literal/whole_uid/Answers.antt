@@ -1,6 +1,5 @@
 use Rattle.forms.specs.Limits.{as_limits}
 use Rattle.validator.specs.Laws.Uids.{uid-not-whole, value-some, uid-by-kind}
-use borrow.Author.Rules.{rules}
 use Rattle.validator.proofs.euid_literal.whole_uid.Goals as goal
 
 pub returns-then-not-whole_value : goal.returns-then-not-whole_value

@@ -10,7 +10,6 @@ use Rattle.cedar.specs.Calls.{ask}
 use Rattle.forms.specs.TypeBytes.{dec}
 use Rattle.validator.specs.Answers.{answer_of}
 use Rattle.validator.specs.Laws.Questions.{ask-no, ask-on, missing, guard-no, guard-yes, type-there, type-whole, within-limits}
-use borrow.Author.Rules.{rules}
 use Rattle.validator.proofs.is_consistent_with.consistent_under.Goals as goal
 
 pub returns-then-not-whole_type : goal.returns-then-not-whole_type
@@ -65,8 +64,11 @@ pub is_consistent_with-requires : goal.is_consistent_with-requires
 is_consistent_with-requires c =
     let if2 = c.if-not-whole_type-2 in
     let by-type-whole = type-whole (as_limits c.args.limits) c.args.t0.now c.whole_type.result
-    c.whole_type.ensures c.if-not-whole_type.false-raw in record { t0_value = by-type-whole; t1_value = type-whole (as_limits c.args.limits) c.args.t1.now c.whole_type-2.result
-          c.whole_type-2.ensures if2.false-raw }
+    c.whole_type.ensures c.if-not-whole_type.false-raw in record {
+      t0_value = by-type-whole;
+      t1_value = type-whole (as_limits c.args.limits) c.args.t1.now c.whole_type-2.result
+          c.whole_type-2.ensures if2.false-raw;
+    }
 
 pub returns : goal.returns
 returns c =

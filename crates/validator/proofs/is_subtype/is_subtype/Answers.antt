@@ -3,7 +3,6 @@ use Rattle.cedar.specs.Calls.{subtype_call}
 use Rattle.validator.specs.Answers.{answer_of}
 use Rattle.cedar.specs.Limits.{Limits}
 use Rattle.validator.specs.Laws.Schemas.{checked-own, checked_under}
-use borrow.Author.Rules.{rules}
 use Rattle.validator.proofs.is_subtype.is_subtype.Goals as goal
 
 pub is_subtype_checked-requires : goal.is_subtype_checked-requires

@@ -7,7 +7,6 @@ use Rattle.forms.specs.declared.limits.Limits.{Limits as LimitsStruct}
 use Rattle.schemas.specs.SchemaBytes.{limits_of}
 use Rattle.validator.specs.Laws.Schemas.{kept-refused, kept-check}
 use Rattle.validator.specs.Answers.{answer_of}
-use borrow.Author.Rules.{rules}
 use Rattle.validator.proofs.is_subtype.is_subtype_checked.Goals as goal
 
 pub returns-then-not-are_allowed : goal.returns-then-not-are_allowed
@@ -20,8 +19,11 @@ returns-then-not-are_allowed c =
 pub is_subtype_under-requires : goal.is_subtype_under-requires
 is_subtype_under-requires c =
     let args = c.args in
-    let fair = sym c.are_allowed.ensures ∙ not-false c.are_allowed.result c.if-not-are_allowed.false-raw in record { limits_value = fair; check_value = kept-check args.schema.now args.check c.requires c.limits-limits.result c.limits-limits.ensures c.are_allowed.result
-          c.are_allowed.ensures }
+    let fair = sym c.are_allowed.ensures ∙ not-false c.are_allowed.result c.if-not-are_allowed.false-raw in record {
+      limits_value = fair;
+      check_value = kept-check args.schema.now args.check c.requires c.limits-limits.result c.limits-limits.ensures c.are_allowed.result
+          c.are_allowed.ensures;
+    }
 
 pub returns : goal.returns
 returns c =

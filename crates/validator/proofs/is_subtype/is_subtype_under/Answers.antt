@@ -3,7 +3,6 @@ use Rattle.forms.specs.Laws.Modes.{mode-known, mode-none}
 use Rattle.validator.specs.Laws.Questions.{type-missing, type-there, type-whole}
 use Rattle.validator.specs.Laws.Schemas.{checked-missing, checked-there}
 use Rattle.validator.specs.Laws.Subtype.{subtype-mode, subtype-schema, subtype-first, subtype-second, subtype-said}
-use borrow.Author.Rules.{rules}
 use Rattle.validator.proofs.is_subtype.is_subtype_under.Goals as goal
 
 pub returns-in_default : goal.returns-in_default
@@ -47,8 +46,11 @@ returns-then-not-whole_type-2 c =
 pub is_subtype-requires : goal.is_subtype-requires
 is_subtype-requires c =
     let by-type-whole = type-whole (as_limits c.args.limits) c.args.t0.now c.whole_type.result
-    c.whole_type.ensures c.if-not-whole_type.false-raw in record { t0_value = by-type-whole; t1_value = type-whole (as_limits c.args.limits) c.args.t1.now c.whole_type-2.result
-          c.whole_type-2.ensures c.if-not-whole_type-2.false-raw }
+    c.whole_type.ensures c.if-not-whole_type.false-raw in record {
+      t0_value = by-type-whole;
+      t1_value = type-whole (as_limits c.args.limits) c.args.t1.now c.whole_type-2.result
+          c.whole_type-2.ensures c.if-not-whole_type-2.false-raw;
+    }
 
 pub returns : goal.returns
 returns c =

@@ -3,7 +3,6 @@ use Rattle.cedar.specs.Calls.{bound_call}
 use Rattle.validator.specs.Answers.{Answered}
 use Rattle.cedar.specs.Limits.{Limits}
 use Rattle.validator.specs.Laws.Schemas.{checked-own, checked_under}
-use borrow.Author.Rules.{rules}
 use Rattle.validator.proofs.least_upper_bound.least_upper_bound.Goals as goal
 
 pub least_upper_bound_checked-requires : goal.least_upper_bound_checked-requires

@@ -9,7 +9,6 @@ use Rattle.schemas.specs.SchemaBytes.{limits_of}
 use Rattle.validator.specs.Laws.Schemas.{kept-refused, kept-check}
 use Rattle.validator.specs.Answers.{Answered}
 use Rattle.validator.specs.Laws.Writing.{refuses}
-use borrow.Author.Rules.{rules}
 use Rattle.validator.proofs.least_upper_bound.least_upper_bound_checked.Goals as goal
 
 pub returns-then-not-are_allowed : goal.returns-then-not-are_allowed
@@ -23,8 +22,11 @@ returns-then-not-are_allowed c =
 pub least_upper_bound_under-requires : goal.least_upper_bound_under-requires
 least_upper_bound_under-requires c =
     let args = c.args in
-    let fair = sym c.are_allowed.ensures ∙ not-false c.are_allowed.result c.if-not-are_allowed.false-raw in record { limits_value = fair; check_value = kept-check args.schema.now args.check c.requires c.limits-limits.result c.limits-limits.ensures c.are_allowed.result
-          c.are_allowed.ensures }
+    let fair = sym c.are_allowed.ensures ∙ not-false c.are_allowed.result c.if-not-are_allowed.false-raw in record {
+      limits_value = fair;
+      check_value = kept-check args.schema.now args.check c.requires c.limits-limits.result c.limits-limits.ensures c.are_allowed.result
+          c.are_allowed.ensures;
+    }
 
 pub returns : goal.returns
 returns c =

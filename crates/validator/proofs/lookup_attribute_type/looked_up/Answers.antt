@@ -5,7 +5,6 @@ use native.Mathlib.Omega.{arith}
 use lib.ListN.{length}
 use Rattle.validator.specs.Laws.Questions.{type-missing, type-there, type-whole, type-few}
 use Rattle.validator.specs.Laws.Schemas.{sectioned-there}
-use borrow.Author.Rules.{rules}
 use Rattle.validator.proofs.lookup_attribute_type.looked_up.Goals as goal
 
 pub returns-then-not-whole_type : goal.returns-then-not-whole_type
@@ -19,13 +18,16 @@ returns-then-not-whole_type c =
 
 pub look_up-requires : goal.look_up-requires
 look_up-requires c =
-    let args = c.args in record { sectioned = c.requires.sectioned; asked = record {
+    let args = c.args in record {
+      sectioned = c.requires.sectioned;
+      asked = record {
         good = type-whole (as_limits args.at.limits) args.t.now c.whole_type.result c.whole_type.ensures
             c.if-not-whole_type.false-raw;
         few = type-few (as_limits args.at.limits) args.t.now c.whole_type.result c.whole_type.ensures
             c.if-not-whole_type.false-raw;
         room = c.requires.at_in_bounds;
-      } }
+      };
+    }
 
 pub returns-then-not-answer_fits : goal.returns-then-not-answer_fits
 returns-then-not-answer_fits c =
@@ -69,7 +71,7 @@ copy-requires c =
     c.answer_fits.ensures c.if-not-answer_fits.false-raw
 
 pub overflow_sub-limits : goal.overflow_sub-limits
-overflow_sub-limits c =     omega (arith, (allowed-levels (as_limits c.args.at.limits) c.requires.sectioned.fair).0)
+overflow_sub-limits c = omega (arith, (allowed-levels (as_limits c.args.at.limits) c.requires.sectioned.fair).0)
 
 pub type_levels-requires : goal.type_levels-requires
 type_levels-requires c =

@@ -8,7 +8,6 @@ use Rattle.validator.specs.Laws.Schemas.{kept-refused, kept-allowed, kept-missin
 use Rattle.validator.specs.Answers.{Answered}
 use Rattle.validator.specs.Laws.Lookup.{lookup-no-schema}
 use Rattle.validator.specs.Laws.Writing.{refuses}
-use borrow.Author.Rules.{rules}
 use Rattle.validator.proofs.lookup_attribute_type.looked_up_under.Goals as goal
 
 pub returns-then-not-are_allowed : goal.returns-then-not-are_allowed

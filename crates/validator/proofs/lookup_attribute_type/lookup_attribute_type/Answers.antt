@@ -3,7 +3,6 @@ use Rattle.cedar.specs.Calls.{lookup_call}
 use Rattle.validator.specs.Answers.{AnsweredIn}
 use Rattle.cedar.specs.Limits.{Limits}
 use Rattle.validator.specs.Laws.Schemas.{checked-own, checked_under}
-use borrow.Author.Rules.{rules}
 use Rattle.validator.proofs.lookup_attribute_type.lookup_attribute_type.Goals as goal
 
 pub lookup_attribute_type_checked-requires : goal.lookup_attribute_type_checked-requires

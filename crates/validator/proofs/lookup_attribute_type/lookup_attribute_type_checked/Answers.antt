@@ -1,5 +1,4 @@
 use Rattle.validator.specs.Laws.Workspaces.{cleared-after}
-use borrow.Author.Rules.{rules}
 use Rattle.validator.proofs.lookup_attribute_type.lookup_attribute_type_checked.Goals as goal
 
 pub returns : goal.returns

@@ -3,7 +3,6 @@ use Rattle.cedar.specs.Calls.{may_have_call}
 use Rattle.validator.specs.Answers.{answer_of}
 use Rattle.cedar.specs.Limits.{Limits}
 use Rattle.validator.specs.Laws.Schemas.{checked-own, checked_under}
-use borrow.Author.Rules.{rules}
 use Rattle.validator.proofs.may_have_attr.may_have_attr.Goals as goal
 
 pub may_have_attr_checked-requires : goal.may_have_attr_checked-requires

@@ -7,7 +7,6 @@ use Rattle.forms.specs.Limits.{as_limits}
 use Rattle.schemas.specs.SchemaBytes.{limits_of}
 use Rattle.validator.specs.Laws.Schemas.{kept-refused, kept-allowed, kept-missing, kept-sections, kept_under}
 use Rattle.validator.specs.Laws.MayHave.{may-have-no-schema}
-use borrow.Author.Rules.{rules}
 use Rattle.validator.proofs.may_have_attr.may_have_attr_checked.Goals as goal
 
 pub returns-then-not-are_allowed : goal.returns-then-not-are_allowed

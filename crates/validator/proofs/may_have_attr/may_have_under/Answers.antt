@@ -2,7 +2,6 @@ use Rattle.forms.specs.Limits.{as_limits}
 use Rattle.validator.specs.Laws.Questions.{type-missing, type-there, type-whole}
 use Rattle.validator.specs.Laws.Schemas.{sectioned-there}
 use Rattle.validator.specs.Laws.MayHave.{may-have-no-type, may-have-said}
-use borrow.Author.Rules.{rules}
 use Rattle.validator.proofs.may_have_attr.may_have_under.Goals as goal
 
 pub returns-then-not-whole_type : goal.returns-then-not-whole_type

@@ -5,7 +5,6 @@ use Rattle.forms.specs.Limits.{as_limits}
 use Rattle.validator.specs.Answers.{answer_of}
 use Rattle.validator.specs.Laws.Questions.{type-missing, type-there, type-whole}
 use Rattle.validator.specs.Laws.Measure.{measure-no-type, measure-whole-type}
-use borrow.Author.Rules.{rules}
 use Rattle.validator.proofs.measure_type.measure_type.Goals as goal
 
 pub returns-then-not-are_allowed : goal.returns-then-not-are_allowed

@@ -5,7 +5,6 @@ use Rattle.forms.specs.Limits.{as_limits}
 use Rattle.validator.specs.Answers.{answer_of}
 use Rattle.validator.specs.Laws.Values.{value-missing, value_there, value-whole}
 use Rattle.validator.specs.Laws.Measure.{measure-no-value, measure-no-text, measure-whole-value}
-use borrow.Author.Rules.{rules}
 use Rattle.validator.proofs.measure_value.measure_value.Goals as goal
 
 pub returns-then-not-are_allowed : goal.returns-then-not-are_allowed

@@ -4,7 +4,6 @@ use Rattle.cedar.specs.Calls.{own_attribute_call}
 use Rattle.validator.specs.Handed.{part_of}
 use Rattle.cedar.specs.Limits.{Limits}
 use Rattle.validator.specs.Laws.Schemas.{checked-own, checked_under}
-use borrow.Author.Rules.{rules}
 use Rattle.validator.proofs.own_attribute_type.own_attribute_part.Goals as goal
 
 pub own_attribute_part_checked-requires : goal.own_attribute_part_checked-requires

@@ -3,7 +3,6 @@ use Rattle.cedar.specs.Calls.{own_attribute_call}
 use Rattle.validator.specs.Handed.{Handed}
 use Rattle.cedar.specs.Limits.{Limits}
 use Rattle.validator.specs.Laws.Schemas.{checked-own, checked_under}
-use borrow.Author.Rules.{rules}
 use Rattle.validator.proofs.own_attribute_type.own_attribute_type.Goals as goal
 
 pub own_attribute_type_checked-requires : goal.own_attribute_type_checked-requires

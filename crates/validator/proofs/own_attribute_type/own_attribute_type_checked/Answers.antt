@@ -3,7 +3,6 @@ use Rattle.schemas.specs.SchemaBytes.{limits_of}
 use native.Mathlib.Omega.{arith}
 use mathlib.Core.Path.{refl}
 use Rattle.validator.specs.Laws.Handed.{here-refused, here-nothing, here_found, here-required, here-optional}
-use borrow.Author.Rules.{rules}
 use Rattle.validator.proofs.own_attribute_type.own_attribute_type_checked.Goals as goal
 
 pub slice_bounds-result-count : goal.slice_bounds-result-count

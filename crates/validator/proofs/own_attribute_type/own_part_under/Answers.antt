@@ -6,7 +6,6 @@ use Rattle.attributes.specs.Laws.Place.{placed_at, place_none}
 use Rattle.validator.specs.Laws.Questions.{type-missing, type-there, type-whole}
 use Rattle.validator.specs.Laws.Schemas.{sectioned-there}
 use Rattle.validator.specs.Laws.Handed.{part-no-type, part-nothing, part_at}
-use borrow.Author.Rules.{rules}
 use Rattle.validator.proofs.own_attribute_type.own_part_under.Goals as goal
 
 pub returns-then-not-whole_type : goal.returns-then-not-whole_type
@@ -38,7 +37,7 @@ returns c =
     let there = sectioned-there args.schema.now args.at c.requires in
     let whole = type-there (as_limits args.at.limits) args.t.now c.whole_type.result c.whole_type.ensures
     c.if-not-whole_type.false-raw in
-    let placed = place_at (args.at.limits.levels - 1) args.t.now (own_attr args.attr (dec args.at.limits.levels args.t.now))
+    let placed = placed_at (args.at.limits.levels - 1) args.t.now (own_attr args.attr (dec args.at.limits.levels args.t.now))
     c.own_attribute.result c.in-At.start c.in-At.end c.in-At.required c.in-At.is
     c.own_attribute.ensures.placed in
     part_at (as_limits args.at.limits) c.requires.fair args.schema.now args.attr args.t.now _ there _ whole c.in-At.required _ placed.3

@@ -3,7 +3,6 @@ use Rattle.cedar.specs.Calls.{fold_call}
 use Rattle.validator.specs.Answers.{AnsweredIn}
 use Rattle.cedar.specs.Limits.{Limits}
 use Rattle.validator.specs.Laws.Schemas.{checked-own, checked_under}
-use borrow.Author.Rules.{rules}
 use Rattle.validator.proofs.reduce_to_least_upper_bound.reduce_to_least_upper_bound.Goals as goal
 
 pub reduce_to_least_upper_bound_checked-requires : goal.reduce_to_least_upper_bound_checked-requires

@@ -1,5 +1,4 @@
 use Rattle.validator.specs.Laws.Workspaces.{cleared-after}
-use borrow.Author.Rules.{rules}
 use Rattle.validator.proofs.reduce_to_least_upper_bound.reduce_to_least_upper_bound_checked.Goals as goal
 
 pub returns : goal.returns

@@ -11,7 +11,6 @@ use Rattle.cedar.specs.Fold.{fold_types}
 use Rattle.cedar.specs.Whole.{whole_list}
 use lib.ListN.{length}
 use native.Mathlib.Omega.{arith}
-use borrow.Author.Rules.{rules}
 use Rattle.validator.proofs.reduce_to_least_upper_bound.reduced.Goals as goal
 
 pub returns-in_default : goal.returns-in_default

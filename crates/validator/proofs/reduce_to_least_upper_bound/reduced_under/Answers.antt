@@ -9,7 +9,6 @@ use Rattle.schemas.specs.SchemaBytes.{limits_of}
 use Rattle.validator.specs.Laws.Schemas.{kept-refused, kept-check}
 use Rattle.validator.specs.Answers.{Answered}
 use Rattle.validator.specs.Laws.Writing.{refuses}
-use borrow.Author.Rules.{rules}
 use Rattle.validator.proofs.reduce_to_least_upper_bound.reduced_under.Goals as goal
 
 pub returns-then-not-are_allowed : goal.returns-then-not-are_allowed
@@ -22,8 +21,12 @@ returns-then-not-are_allowed c =
 
 pub reduced-requires : goal.reduced-requires
 reduced-requires c =
-    let args = c.args in record { limits_value = sym c.are_allowed.ensures ∙ not-false c.are_allowed.result c.if-not-are_allowed.false-raw; check_value = kept-check args.schema.now args.check c.requires c.limits-limits.result c.limits-limits.ensures c.are_allowed.result
-            c.are_allowed.ensures; bytes_in_bounds = c.if-limits-le-BYTES.true }
+    let args = c.args in record {
+      limits_value = sym c.are_allowed.ensures ∙ not-false c.are_allowed.result c.if-not-are_allowed.false-raw;
+      check_value = kept-check args.schema.now args.check c.requires c.limits-limits.result c.limits-limits.ensures c.are_allowed.result
+          c.are_allowed.ensures;
+      bytes_in_bounds = c.if-limits-le-BYTES.true;
+    }
 
 pub returns-then-limits-le-BYTES : goal.returns-then-limits-le-BYTES
 returns-then-limits-le-BYTES c =
@@ -36,8 +39,12 @@ returns-then-limits-le-BYTES c =
 pub reduced-requires-2 : goal.reduced-requires-2
 reduced-requires-2 c =
     let args = c.args in
-    let fair = sym c.are_allowed.ensures ∙ not-false c.are_allowed.result c.if-not-are_allowed.false-raw in record { limits_value = fair; check_value = kept-check args.schema.now args.check c.requires c.limits-limits.result c.limits-limits.ensures c.are_allowed.result
-            c.are_allowed.ensures; bytes_in_bounds = (allowed-bytes (as_limits c.limits-limits.result) fair).1 }
+    let fair = sym c.are_allowed.ensures ∙ not-false c.are_allowed.result c.if-not-are_allowed.false-raw in record {
+      limits_value = fair;
+      check_value = kept-check args.schema.now args.check c.requires c.limits-limits.result c.limits-limits.ensures c.are_allowed.result
+          c.are_allowed.ensures;
+      bytes_in_bounds = (allowed-bytes (as_limits c.limits-limits.result) fair).1;
+    }
 
 pub returns : goal.returns
 returns c =

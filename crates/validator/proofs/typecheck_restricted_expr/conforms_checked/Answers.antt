@@ -8,7 +8,6 @@ use Rattle.schemas.specs.SchemaBytes.{limits_of}
 use Rattle.conformance.specs.Counts.{counts_of}
 use Rattle.validator.specs.Laws.Schemas.{kept-refused, kept-allowed, kept-missing, kept-sections, kept_under}
 use Rattle.validator.specs.Laws.Conformance.{conforms-no-schema}
-use borrow.Author.Rules.{rules}
 use Rattle.validator.proofs.typecheck_restricted_expr.conforms_checked.Goals as goal
 
 pub returns-then-not-are_allowed : goal.returns-then-not-are_allowed

@@ -1,40 +1,14 @@
-use mathlib.Core.Path.{◌≡◌}
-use Rattle.cedar.specs.Calls.{conforms_by}
 use Rattle.forms.specs.Limits.{as_limits}
-use Rattle.validator.specs.Answers.{answer_of}
-use Rattle.validator.specs.Laws.Conformance.{answer_to, conforms-no-type, conforms-no-value, conforms-no-text, conforms-said}
+use Rattle.validator.specs.Laws.Conformance.{conforms-no-type, conforms-no-value, conforms-no-text, conforms-said}
 use Rattle.validator.specs.Laws.Values.{value-missing, value_there, value-whole}
 use Rattle.validator.specs.Laws.Schemas.{sectioned-there}
 use Rattle.validator.specs.Laws.Questions.{type-missing, type-there, type-whole}
-use Rattle.conformance.specs.declared.verdicts.Verdict.{Verdict}
 use Rattle.conformance.specs.declared.verdicts.Verdict.TheVariants.{Holds, Fails, FailsInside, Unknown}
 use Rattle.conformance.specs.Counts.{counts_of}
 use Rattle.schemas.specs.SchemaBytes.{dec_s}
 use Rattle.forms.specs.ValueBytes.{dec_v}
 use Rattle.forms.specs.TypeBytes.{dec}
-use borrow.Author.Rules.{rules}
 use Rattle.validator.proofs.typecheck_restricted_expr.conforms_under.Goals as goal
-
--- What the walk said is the call's answer.
-
--- ?? HELPER
-said : (p : tie.After-conforms) (w : Verdict) → p.conforms.result ≡ w →
-    let s = p.before.before.before.before.before.before.before.before.before.before.before.args in
-    answer_to w ≡ answer_of (conforms_by (counts_of s.counts) (as_limits s.at.limits) s.schema.now s.t.now s.v.now)
-said p w e =
-    let else3 = p.before in
-    let x = else3.before.is-textual in
-    let else2 = else3.before.before in
-    let v = else2.before.whole-value in
-    let else1 = else2.before.before in
-    let z = else1.before.whole-type in
-    let start = else1.before.before.before.before.before.before in
-    let s = start.args in
-    conforms-said (counts_of s.counts) (as_limits s.at.limits) start.requires.fair s.schema.now s.t.now s.v.now
-    (dec_s (as_limits s.at.limits) s.schema.now) (sectioned-there s.schema.now s.at start.requires) (dec s.at.limits.levels s.t.now)
-    (type-there (as_limits s.at.limits) s.t.now z.result z.ensures else1.if1.false) (dec_v s.at.limits.levels s.v.now)
-    (value_there (as_limits s.at.limits) s.v.now v.result v.ensures else2.if2.false) x.result x.ensures else3.if3.false
-    p.conforms.result p.conforms.ensures w e
 
 pub returns-then-not-whole_type : goal.returns-then-not-whole_type
 returns-then-not-whole_type c =
@@ -79,13 +53,41 @@ conforms-said-requires c =
     let s = c.args in record { sectioned = c.requires; t_value = type-whole (as_limits s.at.limits) s.t.now z.result z.ensures c.if-not-whole_type.false-raw; v_value = value-whole (as_limits s.at.limits) s.v.now w.result w.ensures c.if-not-whole_value.false-raw }
 
 pub returns-in-Holds : goal.returns-in-Holds
-returns-in-Holds c = said c Holds c.in-Holds.is
+returns-in-Holds c =
+    let s = c.args in
+    conforms-said (counts_of s.counts) (as_limits s.at.limits) c.requires.fair s.schema.now s.t.now s.v.now
+    (dec_s (as_limits s.at.limits) s.schema.now) (sectioned-there s.schema.now s.at c.requires) (dec s.at.limits.levels s.t.now)
+    (type-there (as_limits s.at.limits) s.t.now c.whole_type.result c.whole_type.ensures c.if-not-whole_type.false-raw)
+    (dec_v s.at.limits.levels s.v.now)
+    (value_there (as_limits s.at.limits) s.v.now c.whole_value.result c.whole_value.ensures c.if-not-whole_value.false-raw)
+    c.is_textual.result c.is_textual.ensures c.if-not-is_textual.false-raw c.conforms-said.result c.conforms-said.ensures Holds c.in-Holds.is
 
 pub returns-in-Fails : goal.returns-in-Fails
-returns-in-Fails c = said c Fails c.in-Fails.is
+returns-in-Fails c =
+    let s = c.args in
+    conforms-said (counts_of s.counts) (as_limits s.at.limits) c.requires.fair s.schema.now s.t.now s.v.now
+    (dec_s (as_limits s.at.limits) s.schema.now) (sectioned-there s.schema.now s.at c.requires) (dec s.at.limits.levels s.t.now)
+    (type-there (as_limits s.at.limits) s.t.now c.whole_type.result c.whole_type.ensures c.if-not-whole_type.false-raw)
+    (dec_v s.at.limits.levels s.v.now)
+    (value_there (as_limits s.at.limits) s.v.now c.whole_value.result c.whole_value.ensures c.if-not-whole_value.false-raw)
+    c.is_textual.result c.is_textual.ensures c.if-not-is_textual.false-raw c.conforms-said.result c.conforms-said.ensures Fails c.in-Fails.is
 
 pub returns-in-FailsInside : goal.returns-in-FailsInside
-returns-in-FailsInside c = said c FailsInside c.in-FailsInside.is
+returns-in-FailsInside c =
+    let s = c.args in
+    conforms-said (counts_of s.counts) (as_limits s.at.limits) c.requires.fair s.schema.now s.t.now s.v.now
+    (dec_s (as_limits s.at.limits) s.schema.now) (sectioned-there s.schema.now s.at c.requires) (dec s.at.limits.levels s.t.now)
+    (type-there (as_limits s.at.limits) s.t.now c.whole_type.result c.whole_type.ensures c.if-not-whole_type.false-raw)
+    (dec_v s.at.limits.levels s.v.now)
+    (value_there (as_limits s.at.limits) s.v.now c.whole_value.result c.whole_value.ensures c.if-not-whole_value.false-raw)
+    c.is_textual.result c.is_textual.ensures c.if-not-is_textual.false-raw c.conforms-said.result c.conforms-said.ensures FailsInside c.in-FailsInside.is
 
 pub returns-in-Unknown : goal.returns-in-Unknown
-returns-in-Unknown c = said c Unknown c.in-Unknown.is
+returns-in-Unknown c =
+    let s = c.args in
+    conforms-said (counts_of s.counts) (as_limits s.at.limits) c.requires.fair s.schema.now s.t.now s.v.now
+    (dec_s (as_limits s.at.limits) s.schema.now) (sectioned-there s.schema.now s.at c.requires) (dec s.at.limits.levels s.t.now)
+    (type-there (as_limits s.at.limits) s.t.now c.whole_type.result c.whole_type.ensures c.if-not-whole_type.false-raw)
+    (dec_v s.at.limits.levels s.v.now)
+    (value_there (as_limits s.at.limits) s.v.now c.whole_value.result c.whole_value.ensures c.if-not-whole_value.false-raw)
+    c.is_textual.result c.is_textual.ensures c.if-not-is_textual.false-raw c.conforms-said.result c.conforms-said.ensures Unknown c.in-Unknown.is

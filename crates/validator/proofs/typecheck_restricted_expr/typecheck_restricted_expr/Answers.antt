@@ -3,7 +3,6 @@ use Rattle.cedar.specs.Calls.{conforms_call}
 use Rattle.validator.specs.Answers.{answer_of}
 use Rattle.cedar.specs.Limits.{Limits}
 use Rattle.validator.specs.Laws.Schemas.{checked-own, checked_under}
-use borrow.Author.Rules.{rules}
 use Rattle.validator.proofs.typecheck_restricted_expr.typecheck_restricted_expr.Goals as goal
 
 pub typecheck_restricted_expr_checked-requires : goal.typecheck_restricted_expr_checked-requires

@@ -1,9 +1,7 @@
-use native.Mathlib.Omega.{arith}
-use mathlib.Core.Path.{◌≡◌, refl}
+use mathlib.Core.Path.{◌≡◌}
 use mathlib.Core.List.{◌++◌}
 use Prim.Native.Nat.{◌≤◌, ◌-◌}
-use lib.ListN.{length, drop, replicate, length-set}
-use Rattle.validator.specs.Laws.Workspaces.{clear-more, clear-end}
+use lib.ListN.{length, drop, replicate}
 use Rattle.validator.proofs.workspaces.clear.Given as goal
 
 abbrev pub invariant-loop-i : goal.invariant-loop-i
