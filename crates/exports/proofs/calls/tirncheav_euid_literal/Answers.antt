@@ -1,0 +1,16 @@
+use Rattle.exports.specs.Checks.{within}
+use lib.ListN.{length}
+use Rattle.exports.proofs.Laws.Numbers.{numbered}
+use Rattle.exports.proofs.Laws.Brief.{brief, literal-short}
+use borrow.Author.Rules.{rules}
+use Rattle.exports.proofs.calls.tirncheav_euid_literal.Goals as goal
+
+pub answer_number-requires : goal.answer_number-requires
+answer_number-requires c =
+    let args = c.args in
+    brief c.euid_literal.result (literal-short (within args.levels args.bytes) args.schema.now args.v.now (length
+    args.out.now))
+    c.euid_literal.ensures.answer
+
+pub returns : goal.returns
+returns c =     numbered c.answer_number.result c.answer_number.ensures c.euid_literal.ensures

@@ -1,0 +1,17 @@
+use mathlib.Core.Path.{ap, ◌∙◌}
+use native.Mathlib.Omega.{arith}
+use Rattle.forms.specs.Laws.Bytes.{Bytes-index}
+use Rattle.exports.specs.Checks.{within}
+use Rattle.exports.specs.Numbers.{answer_number}
+use Rattle.exports.proofs.Laws.Brief.{brief, measure-value-short}
+use borrow.Author.Rules.{rules}
+use Rattle.exports.proofs.calls.tirncheav_measure_value.Goals as goal
+
+pub answer_number-requires : goal.answer_number-requires
+answer_number-requires c =
+    let args = c.args in
+    let bytes = Bytes-index args.v.now (λ i. omega (arith, c.type_inv.v i)) in
+    brief c.measure_value.result (measure-value-short (within args.levels args.bytes) args.v.now bytes) c.measure_value.ensures
+
+pub returns : goal.returns
+returns c = c.answer_number.ensures ∙ ap answer_number c.measure_value.ensures

@@ -1,0 +1,16 @@
+use Rattle.cedar.specs.Conformance.{shorter}
+use Rattle.exports.specs.Checks.{within}
+use mathlib.Core.Path.{ap, ◌∙◌}
+use Rattle.exports.specs.Numbers.{answer_number}
+use Rattle.exports.proofs.Laws.Brief.{brief, conforms-short}
+use borrow.Author.Rules.{rules}
+use Rattle.exports.proofs.calls.tirncheav_typecheck_restricted_expr.Goals as goal
+
+pub answer_number-requires : goal.answer_number-requires
+answer_number-requires c =
+    let args = c.args in
+    brief c.typecheck_restricted_expr.result (conforms-short (within args.levels args.bytes) shorter args.schema.now args.t.now args.v.now)
+    c.typecheck_restricted_expr.ensures
+
+pub returns : goal.returns
+returns c =     c.answer_number.ensures ∙ ap answer_number c.typecheck_restricted_expr.ensures

@@ -1,0 +1,6 @@
+use mathlib.Core.Path.{refl}
+use borrow.Author.Rules.{rules}
+use Rattle.jobs.proofs.whole.taken_or_zero.Goals as goal
+
+pub returns : goal.returns
+returns c = rw c.if-taken.false refl
