@@ -6,7 +6,7 @@ use Rattle.std.proofs.Math.Option.{Option, none, some}
 use Rattle.std.proofs.Math.Decide.{dec_le}
 use Rattle.std.proofs.Math.Nat.{mul_comm}
 use borrow.Author.Tests.{le-leb, lt-leb, leb-true}
-use Rattle.cedar.specs.Bytes.{◌>>=◌, guard, byte, finish}
+use Rattle.cedar.specs.Bytes.{◌>>=◌, guard, finish}
 use Rattle.cedar.specs.Table.{rows}
 use Rattle.cedar.specs.JobForm.{Operation, operation_of, Question, read_question, any_question, split_bodies}
 use Rattle.forms.specs.Parts.{part, rd, sure}

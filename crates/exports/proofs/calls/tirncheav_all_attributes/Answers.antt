@@ -2,7 +2,6 @@ use Rattle.exports.specs.Checks.{within}
 use lib.ListN.{length}
 use Rattle.exports.proofs.Laws.Numbers.{numbered-in}
 use Rattle.exports.proofs.Laws.Brief.{brief, names-call-short}
-use borrow.Author.Rules.{rules}
 use Rattle.exports.proofs.calls.tirncheav_all_attributes.Goals as goal
 
 pub answer_number-requires : goal.answer_number-requires
@@ -13,4 +12,4 @@ answer_number-requires c =
     brief c.all_attributes.result by-names-call-short c.all_attributes.ensures.answer
 
 pub returns : goal.returns
-returns c =     numbered-in c.answer_number.result c.answer_number.ensures c.all_attributes.ensures
+returns c = numbered-in c.answer_number.result c.answer_number.ensures c.all_attributes.ensures

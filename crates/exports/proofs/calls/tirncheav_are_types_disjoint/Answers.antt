@@ -2,7 +2,6 @@ use Rattle.exports.specs.Checks.{within}
 use mathlib.Core.Path.{ap, ◌∙◌}
 use Rattle.exports.specs.Numbers.{answer_number}
 use Rattle.exports.proofs.Laws.Brief.{brief, disjoint-short}
-use borrow.Author.Rules.{rules}
 use Rattle.exports.proofs.calls.tirncheav_are_types_disjoint.Goals as goal
 
 pub answer_number-requires : goal.answer_number-requires
@@ -11,4 +10,4 @@ answer_number-requires c =
     c.are_types_disjoint.ensures
 
 pub returns : goal.returns
-returns c =     c.answer_number.ensures ∙ ap answer_number c.are_types_disjoint.ensures
+returns c = c.answer_number.ensures ∙ ap answer_number c.are_types_disjoint.ensures

@@ -2,7 +2,6 @@ use Rattle.exports.specs.Checks.{within}
 use lib.ListN.{length}
 use Rattle.exports.proofs.Laws.Numbers.{numbered}
 use Rattle.exports.proofs.Laws.Brief.{brief, literal-short}
-use borrow.Author.Rules.{rules}
 use Rattle.exports.proofs.calls.tirncheav_euid_literal.Goals as goal
 
 pub answer_number-requires : goal.answer_number-requires
@@ -13,4 +12,4 @@ answer_number-requires c =
     c.euid_literal.ensures.answer
 
 pub returns : goal.returns
-returns c =     numbered c.answer_number.result c.answer_number.ensures c.euid_literal.ensures
+returns c = numbered c.answer_number.result c.answer_number.ensures c.euid_literal.ensures

@@ -2,7 +2,6 @@ use Rattle.exports.specs.Checks.{within}
 use mathlib.Core.Path.{ap, ◌∙◌}
 use Rattle.exports.specs.Numbers.{answer_number}
 use Rattle.exports.proofs.Laws.Brief.{brief, consistent-short}
-use borrow.Author.Rules.{rules}
 use Rattle.exports.proofs.calls.tirncheav_is_consistent_with.Goals as goal
 
 pub answer_number-requires : goal.answer_number-requires
@@ -11,4 +10,4 @@ answer_number-requires c =
     c.args.t1.now) c.is_consistent_with.ensures
 
 pub returns : goal.returns
-returns c =     c.answer_number.ensures ∙ ap answer_number c.is_consistent_with.ensures
+returns c = c.answer_number.ensures ∙ ap answer_number c.is_consistent_with.ensures

@@ -2,7 +2,6 @@ use Rattle.exports.specs.Checks.{within}
 use mathlib.Core.Path.{ap, ◌∙◌}
 use Rattle.exports.specs.Numbers.{answer_number}
 use Rattle.exports.proofs.Laws.Brief.{brief, subtype-short}
-use borrow.Author.Rules.{rules}
 use Rattle.exports.proofs.calls.tirncheav_is_subtype.Goals as goal
 
 pub answer_number-requires : goal.answer_number-requires
@@ -12,4 +11,4 @@ answer_number-requires c =
     c.is_subtype.ensures
 
 pub returns : goal.returns
-returns c =     c.answer_number.ensures ∙ ap answer_number c.is_subtype.ensures
+returns c = c.answer_number.ensures ∙ ap answer_number c.is_subtype.ensures

@@ -2,7 +2,6 @@ use Rattle.exports.specs.Checks.{within}
 use lib.ListN.{length}
 use Rattle.exports.proofs.Laws.Numbers.{numbered-in}
 use Rattle.exports.proofs.Laws.Brief.{brief, lookup-short}
-use borrow.Author.Rules.{rules}
 use Rattle.exports.proofs.calls.tirncheav_lookup_attribute_type.Goals as goal
 
 pub answer_number-requires : goal.answer_number-requires
@@ -14,4 +13,4 @@ answer_number-requires c =
     brief lookup-attribute-type-2.result by-lookup-short lookup-attribute-type-2.ensures.answer
 
 pub returns : goal.returns
-returns c =     numbered-in c.answer_number.result c.answer_number.ensures c.lookup_attribute_type.ensures
+returns c = numbered-in c.answer_number.result c.answer_number.ensures c.lookup_attribute_type.ensures

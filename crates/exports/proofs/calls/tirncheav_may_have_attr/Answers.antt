@@ -2,7 +2,6 @@ use Rattle.exports.specs.Checks.{within}
 use mathlib.Core.Path.{ap, ◌∙◌}
 use Rattle.exports.specs.Numbers.{answer_number}
 use Rattle.exports.proofs.Laws.Brief.{brief, may-have-short}
-use borrow.Author.Rules.{rules}
 use Rattle.exports.proofs.calls.tirncheav_may_have_attr.Goals as goal
 
 pub answer_number-requires : goal.answer_number-requires
@@ -11,4 +10,4 @@ answer_number-requires c =
     c.args.t.now) c.may_have_attr.ensures
 
 pub returns : goal.returns
-returns c =     c.answer_number.ensures ∙ ap answer_number c.may_have_attr.ensures
+returns c = c.answer_number.ensures ∙ ap answer_number c.may_have_attr.ensures

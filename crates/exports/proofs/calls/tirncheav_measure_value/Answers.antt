@@ -4,7 +4,6 @@ use Rattle.forms.specs.Laws.Bytes.{Bytes-index}
 use Rattle.exports.specs.Checks.{within}
 use Rattle.exports.specs.Numbers.{answer_number}
 use Rattle.exports.proofs.Laws.Brief.{brief, measure-value-short}
-use borrow.Author.Rules.{rules}
 use Rattle.exports.proofs.calls.tirncheav_measure_value.Goals as goal
 
 pub answer_number-requires : goal.answer_number-requires

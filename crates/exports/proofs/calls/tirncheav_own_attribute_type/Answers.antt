@@ -3,7 +3,6 @@ use native.Mathlib.Omega.{arith}
 use mathlib.Core.Path.{ap, ◌∙◌}
 use Rattle.exports.specs.Numbers.{part_number}
 use Rattle.exports.proofs.Laws.Numbers.{narrow}
-use borrow.Author.Rules.{rules}
 use Rattle.exports.proofs.calls.tirncheav_own_attribute_type.Goals as goal
 
 pub part_number-requires : goal.part_number-requires
@@ -14,4 +13,4 @@ part_number-requires c =
     c.own_attribute_part.ensures
 
 pub returns : goal.returns
-returns c =     c.part_number.ensures ∙ ap part_number c.own_attribute_part.ensures
+returns c = c.part_number.ensures ∙ ap part_number c.own_attribute_part.ensures

@@ -3,7 +3,6 @@ use Rattle.exports.specs.Checks.{within}
 use mathlib.Core.Path.{ap, ◌∙◌}
 use Rattle.exports.specs.Numbers.{answer_number}
 use Rattle.exports.proofs.Laws.Brief.{brief, conforms-short}
-use borrow.Author.Rules.{rules}
 use Rattle.exports.proofs.calls.tirncheav_typecheck_restricted_expr_exact.Goals as goal
 
 pub answer_number-requires : goal.answer_number-requires
@@ -13,4 +12,4 @@ answer_number-requires c =
     c.typecheck_restricted_expr_exact.ensures
 
 pub returns : goal.returns
-returns c =     c.answer_number.ensures ∙ ap answer_number c.typecheck_restricted_expr_exact.ensures
+returns c = c.answer_number.ensures ∙ ap answer_number c.typecheck_restricted_expr_exact.ensures

@@ -8,11 +8,10 @@ use Rattle.exports.specs.Checks.{limits_in}
 use mathlib.Core.Path.{◌≡◌, ap, ◌∙◌}
 use Rattle.exports.specs.Numbers.{answer_number}
 use Rattle.exports.proofs.Laws.Brief.{brief, subtype-short}
-use borrow.Author.Rules.{rules}
 use Rattle.exports.proofs.checked_calls.tirncheav_is_subtype_checked.Goals as goal
 
 pub is_subtype_checked-requires : goal.is_subtype_checked-requires
-is_subtype_checked-requires c =     checked-own (limits_in c.args.check) c.args.schema.now c.check_again.result c.check_again.ensures
+is_subtype_checked-requires c = checked-own (limits_in c.args.check) c.args.schema.now c.check_again.result c.check_again.ensures
 
 pub answer_number-requires : goal.answer_number-requires
 answer_number-requires c =

@@ -8,11 +8,10 @@ use Rattle.exports.specs.Checks.{limits_in}
 use lib.ListN.{length}
 use Rattle.exports.proofs.Laws.Numbers.{numbered}
 use Rattle.exports.proofs.Laws.Brief.{brief, bound-short}
-use borrow.Author.Rules.{rules}
 use Rattle.exports.proofs.checked_calls.tirncheav_least_upper_bound_checked.Goals as goal
 
 pub least_upper_bound_checked-requires : goal.least_upper_bound_checked-requires
-least_upper_bound_checked-requires c =     checked-own (limits_in c.args.check) c.args.schema.now c.check_again.result c.check_again.ensures
+least_upper_bound_checked-requires c = checked-own (limits_in c.args.check) c.args.schema.now c.check_again.result c.check_again.ensures
 
 pub answer_number-requires : goal.answer_number-requires
 answer_number-requires c =

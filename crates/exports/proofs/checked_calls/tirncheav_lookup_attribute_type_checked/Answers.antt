@@ -8,11 +8,10 @@ use Rattle.exports.specs.Checks.{limits_in}
 use lib.ListN.{length}
 use Rattle.exports.proofs.Laws.Numbers.{numbered-in}
 use Rattle.exports.proofs.Laws.Brief.{brief, lookup-short}
-use borrow.Author.Rules.{rules}
 use Rattle.exports.proofs.checked_calls.tirncheav_lookup_attribute_type_checked.Goals as goal
 
 pub lookup_attribute_type_checked-requires : goal.lookup_attribute_type_checked-requires
-lookup_attribute_type_checked-requires c =     checked-own (limits_in c.args.check) c.args.schema.now c.check_again.result c.check_again.ensures
+lookup_attribute_type_checked-requires c = checked-own (limits_in c.args.check) c.args.schema.now c.check_again.result c.check_again.ensures
 
 pub answer_number-requires : goal.answer_number-requires
 answer_number-requires c =

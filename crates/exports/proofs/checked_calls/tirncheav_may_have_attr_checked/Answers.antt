@@ -8,11 +8,10 @@ use Rattle.exports.specs.Checks.{limits_in}
 use mathlib.Core.Path.{◌≡◌, ap, ◌∙◌}
 use Rattle.exports.specs.Numbers.{answer_number}
 use Rattle.exports.proofs.Laws.Brief.{brief, may-have-short}
-use borrow.Author.Rules.{rules}
 use Rattle.exports.proofs.checked_calls.tirncheav_may_have_attr_checked.Goals as goal
 
 pub may_have_attr_checked-requires : goal.may_have_attr_checked-requires
-may_have_attr_checked-requires c =     checked-own (limits_in c.args.check) c.args.schema.now c.check_again.result c.check_again.ensures
+may_have_attr_checked-requires c = checked-own (limits_in c.args.check) c.args.schema.now c.check_again.result c.check_again.ensures
 
 pub answer_number-requires : goal.answer_number-requires
 answer_number-requires c =

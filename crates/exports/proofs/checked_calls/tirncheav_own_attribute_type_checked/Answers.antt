@@ -10,11 +10,10 @@ use native.Mathlib.Omega.{arith}
 use mathlib.Core.Path.{◌≡◌, ap, ◌∙◌}
 use Rattle.exports.specs.Numbers.{part_number}
 use Rattle.exports.proofs.Laws.Numbers.{narrow}
-use borrow.Author.Rules.{rules}
 use Rattle.exports.proofs.checked_calls.tirncheav_own_attribute_type_checked.Goals as goal
 
 pub own_attribute_part_checked-requires : goal.own_attribute_part_checked-requires
-own_attribute_part_checked-requires c =     checked-own (limits_in c.args.check) c.args.schema.now c.check_again.result c.check_again.ensures
+own_attribute_part_checked-requires c = checked-own (limits_in c.args.check) c.args.schema.now c.check_again.result c.check_again.ensures
 
 pub part_number-requires : goal.part_number-requires
 part_number-requires c =

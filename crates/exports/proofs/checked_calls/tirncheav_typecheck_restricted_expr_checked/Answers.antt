@@ -9,11 +9,10 @@ use Rattle.exports.specs.Checks.{limits_in}
 use mathlib.Core.Path.{◌≡◌, ap, ◌∙◌}
 use Rattle.exports.specs.Numbers.{answer_number}
 use Rattle.exports.proofs.Laws.Brief.{brief, conforms-short}
-use borrow.Author.Rules.{rules}
 use Rattle.exports.proofs.checked_calls.tirncheav_typecheck_restricted_expr_checked.Goals as goal
 
 pub typecheck_restricted_expr_checked-requires : goal.typecheck_restricted_expr_checked-requires
-typecheck_restricted_expr_checked-requires c =     checked-own (limits_in c.args.check) c.args.schema.now c.check_again.result c.check_again.ensures
+typecheck_restricted_expr_checked-requires c = checked-own (limits_in c.args.check) c.args.schema.now c.check_again.result c.check_again.ensures
 
 pub answer_number-requires : goal.answer_number-requires
 answer_number-requires c =

@@ -5,7 +5,7 @@ use Rattle.forms.specs.Limits.{as_limits}
 use Rattle.exports.proofs.checks.pack.Goals as goal
 
 pub overflow_mul-limits : goal.overflow_mul-limits
-overflow_mul-limits c =     omega (arith, (allowed-bytes (as_limits c.args.at.limits) c.requires.fair).1)
+overflow_mul-limits c = omega (arith, (allowed-bytes (as_limits c.args.at.limits) c.requires.fair).1)
 
 pub overflow_add-limits : goal.overflow_add-limits
 overflow_add-limits c =

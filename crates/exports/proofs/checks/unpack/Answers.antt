@@ -1,13 +1,12 @@
 use mathlib.Core.Path.{◌∙◌}
 use Rattle.exports.proofs.Laws.Checks.{unpack-broken, unpack-room, unpack-whole}
-use borrow.Author.Rules.{rules}
 use Rattle.exports.proofs.checks.unpack.Goals as goal
 
 pub returns-then-actions-eq0 : goal.returns-then-actions-eq0
-returns-then-actions-eq0 c =     c.broken.ensures ∙ unpack-broken c.args.schema.now c.args.number c.requires c.if-actions-eq0.true
+returns-then-actions-eq0 c = c.broken.ensures ∙ unpack-broken c.args.schema.now c.args.number c.requires c.if-actions-eq0.true
 
 pub entries_end-requires : goal.entries_end-requires
-entries_end-requires c =     unpack-room c.args.schema.now c.args.number c.requires c.if-actions-eq0.false
+entries_end-requires c = unpack-room c.args.schema.now c.args.number c.requires c.if-actions-eq0.false
 
 pub returns : goal.returns
 returns c =

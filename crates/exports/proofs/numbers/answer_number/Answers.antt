@@ -2,7 +2,6 @@ use mathlib.Core.Path.{ap, sym, ◌∙◌}
 use native.Mathlib.Omega.{arith}
 use Rattle.exports.specs.Numbers.{answer_number}
 use Rattle.exports.proofs.Laws.Numbers.{measured-brief, typed-brief, attribute-brief, named-brief, refused-number, required-number, optional-number}
-use borrow.Author.Rules.{rules}
 use Rattle.exports.proofs.numbers.answer_number.Goals as goal
 
 pub sized_number-requires : goal.sized_number-requires
@@ -30,10 +29,10 @@ sized_number-requires-in-Attribute c =
     (omega arith, most.0, most.1)
 
 pub sized_number-requires-in-Named : goal.sized_number-requires-in-Named
-sized_number-requires-in-Named c =     (omega arith, named-brief c.args.a c.in-Named.n c.requires c.in-Named.is, omega arith)
+sized_number-requires-in-Named c = (omega arith, named-brief c.args.a c.in-Named.n c.requires c.in-Named.is, omega arith)
 
 pub returns-in-Refused : goal.returns-in-Refused
-returns-in-Refused c =     refused-number c.args.a c.in-Refused.e c.in-Refused.is
+returns-in-Refused c = refused-number c.args.a c.in-Refused.e c.in-Refused.is
 
 pub returns-in-Measured : goal.returns-in-Measured
 returns-in-Measured c = c.sized_number.ensures ∙ sym (ap answer_number c.in-Measured.is)

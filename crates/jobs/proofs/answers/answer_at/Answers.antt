@@ -3,14 +3,13 @@ use Rattle.jobs.specs.Laws.Asking.{parts-of, answered-at}
 use Rattle.jobs.specs.Laws.Walk.{stands-is}
 use mathlib.Core.Path.{sym, ◌∙◌}
 use native.Mathlib.Omega.{arith}
-use borrow.Author.Rules.{rules}
 use Rattle.jobs.proofs.answers.answer_at.Goals as goal
 
 pub schema_from-schema-requires : goal.schema_from-schema-requires
-schema_from-schema-requires c =     (stands-is c.args.job.now c.args.cursor c.requires.cursor_value).long
+schema_from-schema-requires c = (stands-is c.args.job.now c.args.cursor c.requires.cursor_value).long
 
 pub bodies_from-bodies-requires : goal.bodies_from-bodies-requires
-bodies_from-bodies-requires c =     (stands-is c.args.job.now c.args.cursor c.requires.cursor_value).long
+bodies_from-bodies-requires c = (stands-is c.args.job.now c.args.cursor c.requires.cursor_value).long
 
 pub slice_bounds-ask-end : goal.slice_bounds-ask-end
 slice_bounds-ask-end c =

@@ -11,33 +11,32 @@ use Rattle.cedar.specs.JobForm.{subtype_op, bound_op, disjoint_op, lookup_op, ma
 use Rattle.cedar.specs.Conformance.{shorter, exact}
 use Rattle.cedar.specs.Limits.{Limits, standard}
 use Prim.Native.Nat.{ℕ}
-use borrow.Author.Rules.{rules}
 use Rattle.jobs.proofs.answers.ask.Goals as goal
 
 pub is_subtype_checked-requires : goal.is_subtype_checked-requires
-is_subtype_checked-requires c =     checked-own job_limits c.args.schema.now c.args.check c.requires.check_value
+is_subtype_checked-requires c = checked-own job_limits c.args.schema.now c.args.check c.requires.check_value
 
 pub least_upper_bound_checked-requires : goal.least_upper_bound_checked-requires
-least_upper_bound_checked-requires c =     checked-own job_limits c.args.schema.now c.args.check c.requires.check_value
+least_upper_bound_checked-requires c = checked-own job_limits c.args.schema.now c.args.check c.requires.check_value
 
 pub may_have_attr_checked-requires : goal.may_have_attr_checked-requires
-may_have_attr_checked-requires c =     checked-own job_limits c.args.schema.now c.args.check c.requires.check_value
+may_have_attr_checked-requires c = checked-own job_limits c.args.schema.now c.args.check c.requires.check_value
 
 pub typecheck_restricted_expr_checked-requires : goal.typecheck_restricted_expr_checked-requires
-typecheck_restricted_expr_checked-requires c =     checked-own job_limits c.args.schema.now c.args.check c.requires.check_value
+typecheck_restricted_expr_checked-requires c = checked-own job_limits c.args.schema.now c.args.check c.requires.check_value
 
 pub euid_literal_checked-requires : goal.euid_literal_checked-requires
-euid_literal_checked-requires c =     checked-own job_limits c.args.schema.now c.args.check c.requires.check_value
+euid_literal_checked-requires c = checked-own job_limits c.args.schema.now c.args.check c.requires.check_value
 
 pub typecheck_restricted_expr_exact_checked-requires : goal.typecheck_restricted_expr_exact_checked-requires
-typecheck_restricted_expr_exact_checked-requires c =     checked-own job_limits c.args.schema.now c.args.check c.requires.check_value
+typecheck_restricted_expr_exact_checked-requires c = checked-own job_limits c.args.schema.now c.args.check c.requires.check_value
 
 pub returns-in-0 : goal.returns-in-0
 returns-in-0 c =
     let at = c.args in
     asked_is _ _ _ _ _ subtype_op at.q.operation
     (ap op_of c.in-0.is)
-    (answered-quiet at.result.now (quiet-subtype at.q.mode at.schema.now at.first.now at.second.now) (checked_under job_limits
+    (answered-quiet at.res.now (quiet-subtype at.q.mode at.schema.now at.first.now at.second.now) (checked_under job_limits
     at.schema.now at.check c.requires.check_value
     (λ (lim : Limits). c.is_subtype_checked.result ≡ answer_of (subtype_call lim at.q.mode at.schema.now at.first.now at.second.now))
     c.is_subtype_checked.ensures))
@@ -48,7 +47,7 @@ returns-in-1 c =
     let at = c.args in
     let by-answered-room = answered-room (λ (n : ℕ). bound_call standard at.q.mode at.schema.now at.first.now at.second.now n) c.requires.res_len
     (checked_under job_limits at.schema.now at.check c.requires.check_value
-    (λ (lim : Limits). Answered (bound_call lim at.q.mode at.schema.now at.first.now at.second.now (length at.result.now)) at.result.now
+    (λ (lim : Limits). Answered (bound_call lim at.q.mode at.schema.now at.first.now at.second.now (length at.res.now)) at.res.now
     least-upper-bound-checked.new.out least-upper-bound-checked.result) least-upper-bound-checked.ensures) in
     asked_is _ _ _ _ _ bound_op at.q.operation (ap op_of c.in-1.is) by-answered-room
 
@@ -57,7 +56,7 @@ returns-in-2 c =
     let at = c.args in
     asked_is _ _ _ _ _ disjoint_op at.q.operation
     (ap op_of c.in-2.is)
-    (answered-quiet at.result.now (quiet-disjoint at.first.now at.second.now) (subst (λ (lim : Limits). c.are_types_disjoint.result ≡ answer_of
+    (answered-quiet at.res.now (quiet-disjoint at.first.now at.second.now) (subst (λ (lim : Limits). c.are_types_disjoint.result ≡ answer_of
     (disjoint_call lim at.first.now at.second.now)) c.standard.ensures
     c.are_types_disjoint.ensures))
 
@@ -71,7 +70,7 @@ returns-in-4 c =
     let at = c.args in
     asked_is _ _ _ _ _ may_have_op at.q.operation
     (ap op_of c.in-4.is)
-    (answered-quiet at.result.now (quiet-may-have at.schema.now at.q.attribute at.first.now) (checked_under job_limits at.schema.now
+    (answered-quiet at.res.now (quiet-may-have at.schema.now at.q.attribute at.first.now) (checked_under job_limits at.schema.now
     at.check c.requires.check_value
     (λ (lim : Limits). c.may_have_attr_checked.result ≡ answer_of (may_have_call lim at.schema.now at.q.attribute at.first.now))
     c.may_have_attr_checked.ensures))
@@ -86,7 +85,7 @@ returns-in-6 c =
     let at = c.args in
     asked_is _ _ _ _ _ consistent_op at.q.operation
     (ap op_of c.in-6.is)
-    (answered-quiet at.result.now (quiet-consistent at.first.now at.second.now) (subst (λ
+    (answered-quiet at.res.now (quiet-consistent at.first.now at.second.now) (subst (λ
     (lim : Limits). c.is_consistent_with.result ≡ answer_of (consistent_call lim at.first.now at.second.now)) c.standard-in-6.ensures
     c.is_consistent_with.ensures))
 
@@ -95,7 +94,7 @@ returns-in-7 c =
     let convert = c.convert in
     let at = c.args in
     let by-answered-room = answered-room (λ (n : ℕ). convert_call standard at.first.now n) c.requires.res_len
-    (subst (λ (lim : Limits). Answered (convert_call lim at.first.now (length at.result.now)) at.result.now convert.new.out
+    (subst (λ (lim : Limits). Answered (convert_call lim at.first.now (length at.res.now)) at.res.now convert.new.out
     convert.result)
     c.standard-in-7.ensures convert.ensures) in
     asked_is _ _ _ _ _ convert_op at.q.operation (ap op_of c.in-7.is) by-answered-room
@@ -105,7 +104,7 @@ returns-in-8 c =
     let at = c.args in
     asked_is _ _ _ _ _ conforms_op at.q.operation
     (ap op_of c.in-8.is)
-    (answered-quiet at.result.now (quiet-conforms shorter at.schema.now at.first.now at.second.now) (checked_under job_limits at.schema.now
+    (answered-quiet at.res.now (quiet-conforms shorter at.schema.now at.first.now at.second.now) (checked_under job_limits at.schema.now
     at.check c.requires.check_value
     (λ (lim : Limits). c.typecheck_restricted_expr_checked.result ≡ answer_of (conforms_call lim at.schema.now at.first.now at.second.now))
     c.typecheck_restricted_expr_checked.ensures))
@@ -121,7 +120,7 @@ returns-in-10 c =
     let at = c.args in
     let by-answered-room = answered-room (λ (n : ℕ). literal_call standard at.schema.now at.first.now n) c.requires.res_len
     (checked_under job_limits at.schema.now at.check c.requires.check_value
-    (λ (lim : Limits). Answered (literal_call lim at.schema.now at.first.now (length at.result.now)) at.result.now
+    (λ (lim : Limits). Answered (literal_call lim at.schema.now at.first.now (length at.res.now)) at.res.now
     euid-literal-checked.new.out euid-literal-checked.result) euid-literal-checked.ensures) in
     asked_is _ _ _ _ _ literal_op at.q.operation (ap op_of c.in-10.is) by-answered-room
 
@@ -133,7 +132,7 @@ returns-in_default c =
     m.0.0.0.0.0.0.0.0.1 m.0.0.0.0.0.0.0.1 m.0.0.0.0.0.0.1 m.0.0.0.0.0.1 m.0.0.0.0.1 m.0.0.0.1 m.0.0.1
     m.0.1 m.1 in
     asked_is _ _ _ _ _ full_op at.q.operation by-full-is
-    (answered-quiet at.result.now (quiet-conforms exact at.schema.now at.first.now at.second.now) (checked_under job_limits at.schema.now
+    (answered-quiet at.res.now (quiet-conforms exact at.schema.now at.first.now at.second.now) (checked_under job_limits at.schema.now
     at.check c.requires.check_value
     (λ (lim : Limits). c.typecheck_restricted_expr_exact_checked.result ≡ answer_of (full_call lim at.schema.now at.first.now at.second.now))
     c.typecheck_restricted_expr_exact_checked.ensures))

@@ -7,18 +7,17 @@ use Rattle.cedar.specs.Lines.{job_work}
 use Rattle.cedar.specs.Calls.{lookup_call}
 use Rattle.cedar.specs.Limits.{Limits, standard}
 use Prim.Native.Nat.{ℕ}
-use borrow.Author.Rules.{rules}
 use Rattle.jobs.proofs.answers.lookup.Goals as goal
 
 pub lookup_attribute_type_checked-requires : goal.lookup_attribute_type_checked-requires
-lookup_attribute_type_checked-requires c =     checked-own job_limits c.args.schema.now c.args.check c.requires.check_value
+lookup_attribute_type_checked-requires c = checked-own job_limits c.args.schema.now c.args.check c.requires.check_value
 
 pub returns : goal.returns
 returns c =
     let called = c.lookup_attribute_type_checked in
     let args = c.args in
     let under = checked_under job_limits args.schema.now args.check c.requires.check_value
-    (λ (lim : Limits). Answered (lookup_call lim args.schema.now args.attribute args.t.now (length args.result.now) job_work)
-    args.result.now called.new.out called.result)
+    (λ (lim : Limits). Answered (lookup_call lim args.schema.now args.attribute args.t.now (length args.res.now) job_work)
+    args.res.now called.new.out called.result)
     (answered-in called.ensures) in
     answered-room (λ (n : ℕ). lookup_call standard args.schema.now args.attribute args.t.now n job_work) c.requires.res_len under

@@ -7,18 +7,17 @@ use Rattle.cedar.specs.Lines.{job_work}
 use Rattle.cedar.specs.Calls.{names_call}
 use Rattle.cedar.specs.Limits.{Limits, standard}
 use Prim.Native.Nat.{ℕ}
-use borrow.Author.Rules.{rules}
 use Rattle.jobs.proofs.answers.names.Goals as goal
 
 pub all_attributes_checked-requires : goal.all_attributes_checked-requires
-all_attributes_checked-requires c =     checked-own job_limits c.args.schema.now c.args.check c.requires.check_value
+all_attributes_checked-requires c = checked-own job_limits c.args.schema.now c.args.check c.requires.check_value
 
 pub returns : goal.returns
 returns c =
     let called = c.all_attributes_checked in
     let args = c.args in
     let under = checked_under job_limits args.schema.now args.check c.requires.check_value
-    (λ (lim : Limits). Answered (names_call lim args.schema.now args.t.now (length args.result.now) job_work) args.result.now
+    (λ (lim : Limits). Answered (names_call lim args.schema.now args.t.now (length args.res.now) job_work) args.res.now
     called.new.out called.result)
     (answered-in called.ensures) in
     answered-room (λ (n : ℕ). names_call standard args.schema.now args.t.now n job_work) c.requires.res_len under

@@ -5,7 +5,6 @@ use Rattle.schemas.specs.declared.whole.Checked.TheVariants.{Broken}
 use Rattle.jobs.specs.Laws.Checks.{check-cut, check-part, job-limits}
 use mathlib.Core.Path.{ap, ◌∙◌}
 use native.Mathlib.Omega.{arith}
-use borrow.Author.Rules.{rules}
 use Rattle.jobs.proofs.checks.check_job.Goals as goal
 
 pub returns-then-job-lt-ENTRIES : goal.returns-then-job-lt-ENTRIES

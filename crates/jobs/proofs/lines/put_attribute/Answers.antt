@@ -1,7 +1,6 @@
 use Rattle.writing.specs.Laws.Writing.{written-room}
 use Rattle.jobs.specs.Laws.Lines.{attribute-room, attribute-told}
 use native.Mathlib.Omega.{arith}
-use borrow.Author.Rules.{rules}
 use Rattle.jobs.proofs.lines.put_attribute.Goals as goal
 
 pub put_required-at-requires : goal.put_required-at-requires

@@ -1,11 +1,10 @@
 use Rattle.writing.specs.Laws.Writing.{written-room}
 use Rattle.jobs.specs.Laws.Lines.{field_room, field_told}
 use native.Mathlib.Omega.{arith}
-use borrow.Author.Rules.{rules}
 use Rattle.jobs.proofs.lines.put_field.Goals as goal
 
 pub put_decimal-at-requires : goal.put_decimal-at-requires
-put_decimal-at-requires c =     omega (arith, field_room c.args.n c.args.out.now c.requires)
+put_decimal-at-requires c = omega (arith, field_room c.args.n c.args.out.now c.requires)
 
 pub slice_bounds-put_one-count : goal.slice_bounds-put_one-count
 slice_bounds-put_one-count c =

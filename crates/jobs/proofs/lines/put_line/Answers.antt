@@ -4,21 +4,20 @@ use Rattle.jobs.specs.LineBytes.{field}
 use Prim.Native.Nat.{ℕ}
 use mathlib.Core.Path.{ap}
 use native.Mathlib.Omega.{arith}
-use borrow.Author.Rules.{rules}
 use Rattle.jobs.proofs.lines.put_line.Goals as goal
 
 pub put_field-number_at-requires : goal.put_field-number_at-requires
 put_field-number_at-requires c =
     let number = c.number-refusal in
     let args = c.args in
-    omega (arith, line-room args.index args.answer args.result.now args.out.now c.requires number.result number.ensures)
+    omega (arith, line-room args.index args.answer args.res.now args.out.now c.requires number.result number.ensures)
 
 pub slice_bounds-put_field-count : goal.slice_bounds-put_field-count
 slice_bounds-put_field-count c =
     let put-field = c.put_field-number_at in
     let number = c.number-refusal in
     let args = c.args in
-    let by-index-left = index-left args.index args.answer args.result.now args.out.now c.requires number.result number.ensures
+    let by-index-left = index-left args.index args.answer args.res.now args.out.now c.requires number.result number.ensures
     put-field.ensures in
     omega (arith, by-index-left.0)
 
@@ -30,7 +29,7 @@ put_field-requires c =
     let put-field = c.put_field-number_at in
     let number = c.number-refusal in
     let args = c.args in
-    let by-index-left = index-left args.index args.answer args.result.now args.out.now c.requires number.result number.ensures
+    let by-index-left = index-left args.index args.answer args.res.now args.out.now c.requires number.result number.ensures
     put-field.ensures in
     rw number.ensures.0 by-index-left.1
 
@@ -41,7 +40,7 @@ overflow_add-answer_at c =
     let number = c.number-refusal in
     let args = c.args in
     let by-written-same = written_same (ap (λ (j : ℕ). field j) number.ensures.0) put-field2.ensures in
-    let by-head-left = head-left args.index args.answer args.result.now args.out.now c.requires number.result number.ensures
+    let by-head-left = head-left args.index args.answer args.res.now args.out.now c.requires number.result number.ensures
     put-field.ensures by-written-same in
     omega (arith, by-head-left.2, c.well_formed)
 
@@ -52,7 +51,7 @@ slice_bounds-put_answer-count c =
     let number = c.number-refusal in
     let args = c.args in
     let by-written-same = written_same (ap (λ (j : ℕ). field j) number.ensures.0) put-field2.ensures in
-    let by-head-left = head-left args.index args.answer args.result.now args.out.now c.requires number.result number.ensures
+    let by-head-left = head-left args.index args.answer args.res.now args.out.now c.requires number.result number.ensures
     put-field.ensures by-written-same in
     omega (arith, by-head-left.0)
 
@@ -66,7 +65,7 @@ put_answer-requires c =
     let number = c.number-refusal in
     let args = c.args in
     let by-written-same = written_same (ap (λ (j : ℕ). field j) number.ensures.0) put-field2.ensures in
-    let by-head-left = head-left args.index args.answer args.result.now args.out.now c.requires number.result number.ensures
+    let by-head-left = head-left args.index args.answer args.res.now args.out.now c.requires number.result number.ensures
     put-field.ensures by-written-same in
     record { answer_in_bounds = c.requires.inside; res_in_bounds = by-head-left.1 }
 
@@ -78,7 +77,7 @@ overflow_add-end c =
     let number = c.number-refusal in
     let args = c.args in
     let by-written-same = written_same (ap (λ (j : ℕ). field j) number.ensures.0) put-field2.ensures in
-    let by-body-left = body-left args.index args.answer args.result.now args.out.now c.requires number.result number.ensures
+    let by-body-left = body-left args.index args.answer args.res.now args.out.now c.requires number.result number.ensures
     put-field.ensures by-written-same put-answer.ensures in
     omega (arith, by-body-left.2, c.well_formed)
 
@@ -90,7 +89,7 @@ slice_bounds-put_one-count c =
     let number = c.number-refusal in
     let args = c.args in
     let by-written-same = written_same (ap (λ (j : ℕ). field j) number.ensures.0) put-field2.ensures in
-    let by-body-left = body-left args.index args.answer args.result.now args.out.now c.requires number.result number.ensures
+    let by-body-left = body-left args.index args.answer args.res.now args.out.now c.requires number.result number.ensures
     put-field.ensures by-written-same put-answer.ensures in
     omega (arith, by-body-left.0)
 
@@ -105,7 +104,7 @@ put_one-requires c =
     let number = c.number-refusal in
     let args = c.args in
     let by-written-same = written_same (ap (λ (j : ℕ). field j) number.ensures.0) put-field2.ensures in
-    (body-left args.index args.answer args.result.now args.out.now c.requires number.result number.ensures put-field.ensures
+    (body-left args.index args.answer args.res.now args.out.now c.requires number.result number.ensures put-field.ensures
     by-written-same put-answer.ensures).1
 
 pub overflow_add-result : goal.overflow_add-result
@@ -116,7 +115,7 @@ overflow_add-result c =
     let number = c.number-refusal in
     let args = c.args in
     let by-written-same = written_same (ap (λ (j : ℕ). field j) number.ensures.0) put-field2.ensures in
-    let by-body-left = body-left args.index args.answer args.result.now args.out.now c.requires number.result number.ensures
+    let by-body-left = body-left args.index args.answer args.res.now args.out.now c.requires number.result number.ensures
     put-field.ensures by-written-same put-answer.ensures in
     omega (arith, by-body-left.2, c.well_formed)
 
@@ -129,5 +128,5 @@ returns c =
     let number = c.number-refusal in
     let args = c.args in
     let by-written-same = written_same (ap (λ (j : ℕ). field j) number.ensures.0) put-field2.ensures in
-    line-told args.index args.answer args.result.now args.out.now c.requires number.result number.ensures put-field.ensures
+    line-told args.index args.answer args.res.now args.out.now c.requires number.result number.ensures put-field.ensures
     by-written-same put-answer.ensures put_one.ensures

@@ -3,7 +3,6 @@ use Rattle.jobs.specs.Laws.Lines.{bad-number, bad-head, bad-told}
 use lib.ListN.{length}
 use mathlib.Core.Path.{ap}
 use native.Mathlib.Omega.{arith}
-use borrow.Author.Rules.{rules}
 use Rattle.jobs.proofs.lines.put_refused_job.Goals as goal
 
 pub put_field-requires : goal.put_field-requires

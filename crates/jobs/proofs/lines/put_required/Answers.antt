@@ -1,4 +1,3 @@
-use borrow.Author.Rules.{rules}
 use Rattle.jobs.proofs.lines.put_required.Goals as goal
 
 pub returns-then-required : goal.returns-then-required

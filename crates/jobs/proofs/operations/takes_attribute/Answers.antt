@@ -1,5 +1,4 @@
 use Rattle.jobs.specs.Laws.Operations.{attribute-not}
-use borrow.Author.Rules.{rules}
 use Rattle.jobs.proofs.operations.takes_attribute.Goals as goal
 
 pub returns-in_default : goal.returns-in_default

@@ -1,6 +1,5 @@
 use Rattle.jobs.specs.Laws.Walk.{count-short, count-is}
 use mathlib.Core.Path.{◌∙◌}
-use borrow.Author.Rules.{rules}
 use Rattle.jobs.proofs.questions.count.Goals as goal
 
 pub returns-then-job-lt-ENTRIES : goal.returns-then-job-lt-ENTRIES

@@ -1,5 +1,4 @@
 use Rattle.jobs.specs.Laws.Walk.{lengths-are}
-use borrow.Author.Rules.{rules}
 use Rattle.jobs.proofs.questions.lengths.Goals as goal
 
 pub returns : goal.returns

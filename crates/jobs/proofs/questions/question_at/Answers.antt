@@ -1,6 +1,5 @@
 use Rattle.jobs.specs.Laws.Walk.{stands-is, first-inside, question-is}
 use native.Mathlib.Omega.{arith}
-use borrow.Author.Rules.{rules}
 use Rattle.jobs.proofs.questions.question_at.Goals as goal
 
 pub overflow_mul-at : goal.overflow_mul-at
@@ -10,10 +9,10 @@ pub overflow_add-at : goal.overflow_add-at
 overflow_add-at c = let s = stands-is c.args.job.now c.args.cursor c.requires in omega (arith, s.entry, s.body, c.well_formed)
 
 pub overflow_add-at-2 : goal.overflow_add-at-2
-overflow_add-at-2 c =     let s = stands-is c.args.job.now c.args.cursor c.requires in omega (arith, s.entry, s.body, c.well_formed)
+overflow_add-at-2 c = let s = stands-is c.args.job.now c.args.cursor c.requires in omega (arith, s.entry, s.body, c.well_formed)
 
 pub u16_at-attribute-requires : goal.u16_at-attribute-requires
-u16_at-attribute-requires c =     let s = stands-is c.args.job.now c.args.cursor c.requires in omega (arith, s.entry, s.body, c.well_formed)
+u16_at-attribute-requires c = let s = stands-is c.args.job.now c.args.cursor c.requires in omega (arith, s.entry, s.body, c.well_formed)
 
 pub overflow_add-at-3 : goal.overflow_add-at-3
 overflow_add-at-3 c =

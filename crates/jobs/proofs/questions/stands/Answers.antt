@@ -1,6 +1,5 @@
 use Rattle.jobs.specs.Laws.Walk.{counted, stands-none, stands-short, stands-entry, stands-unknown, stands-over, stands-last}
 use native.Mathlib.Omega.{arith}
-use borrow.Author.Rules.{rules}
 use Rattle.jobs.proofs.questions.stands.Goals as goal
 
 pub returns-then-count-index : goal.returns-then-count-index

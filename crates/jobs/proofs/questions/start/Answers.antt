@@ -1,5 +1,4 @@
 use Rattle.jobs.specs.Laws.Walk.{start-short, start_is}
-use borrow.Author.Rules.{rules}
 use Rattle.jobs.proofs.questions.start.Goals as goal
 
 pub returns-then-job-lt-ENTRIES : goal.returns-then-job-lt-ENTRIES

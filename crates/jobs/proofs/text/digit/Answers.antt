@@ -1,5 +1,4 @@
 use Rattle.jobs.specs.Laws.Text.{digit_low, digit-high}
-use borrow.Author.Rules.{rules}
 use Rattle.jobs.proofs.text.digit.Goals as goal
 
 pub returns-then-d-lt10 : goal.returns-then-d-lt10

@@ -1,5 +1,4 @@
 use Rattle.jobs.specs.Laws.Text.{byte-told}
-use borrow.Author.Rules.{rules}
 use Rattle.jobs.proofs.text.put_byte.Goals as goal
 
 pub returns : goal.returns

@@ -1,14 +1,11 @@
-use Rattle.writing.specs.Laws.Writing.{Writing, writing_start, writing-at, writing-length, writing_more, writing-end}
+use Rattle.writing.specs.Laws.Writing.{writing_start, writing-at, writing-length, writing_more, writing-end}
 use Rattle.jobs.specs.Laws.Text.{length-hex, hex-first, hex-none}
 use Rattle.forms.specs.Laws.Parts.{length_rest}
-use Rattle.cedar.specs.Lines.{hex}
-use lib.ListN.{length}
 use native.Mathlib.Omega.{arith}
-use borrow.Author.Rules.{rules}
 use Rattle.jobs.proofs.text.put_hex.Goals as goal
 
 pub loop-ahead-init : goal.loop-ahead-init
-loop-ahead-init c =     writing_start _ _ c.requires
+loop-ahead-init c = writing_start _ _ c.requires
 
 pub slice_bounds-put_byte-count : goal.slice_bounds-put_byte-count
 slice_bounds-put_byte-count c =
@@ -38,9 +35,6 @@ loop-ahead-preserved c =
     let loop-test = c.loop-ahead-test in
     let loop = c.loop-ahead in
     writing_more loop.invariant _ _ _ _ (hex-first loop.ahead.now loop-test.true) put_byte.ensures
-
-pub shape_of-out : goal.shape_of-out
-shape_of-out c = writing-length c.loop-ahead.invariant
 
 pub returns : goal.returns
 returns c = writing-end c.loop-ahead.invariant (hex-none c.loop-ahead.ahead.now c.loop-ahead-test.false)

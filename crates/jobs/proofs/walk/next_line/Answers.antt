@@ -2,7 +2,6 @@ use Rattle.jobs.specs.Laws.Asking.{no_line, line-fits, line-written}
 use borrow.Author.Tests.{not-true, not-false}
 use mathlib.Core.Path.{refl, sym, ◌∙◌}
 use native.Mathlib.Omega.{arith}
-use borrow.Author.Rules.{rules}
 use Rattle.jobs.proofs.walk.next_line.Goals as goal
 
 pub returns-then-not-stands : goal.returns-then-not-stands

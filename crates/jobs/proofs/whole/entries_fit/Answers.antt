@@ -1,5 +1,4 @@
-use Rattle.jobs.specs.Laws.Whole.{EntriesLeft, entries-start, entries-unfit, entries-short, entries-again, entries-end}
-use borrow.Author.Rules.{rules}
+use Rattle.jobs.specs.Laws.Whole.{entries-start, entries-unfit, entries-short, entries-again, entries-end}
 use Rattle.jobs.proofs.whole.entries_fit.Goals as goal
 
 pub loop-left-init : goal.loop-left-init

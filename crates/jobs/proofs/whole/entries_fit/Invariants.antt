@@ -1,5 +1,4 @@
-use Rattle.jobs.specs.Laws.Whole.{EntriesLeft, entries-start, entries-unfit, entries-short, entries-again, entries-end}
-use borrow.Author.Rules.{rules}
+use Rattle.jobs.specs.Laws.Whole.{EntriesLeft}
 use Rattle.jobs.proofs.whole.entries_fit.Given as goal
 
 abbrev pub invariant-loop-left : goal.invariant-loop-left

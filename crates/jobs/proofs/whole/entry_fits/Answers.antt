@@ -3,11 +3,10 @@ use Rattle.cedar.specs.JobForm.{taken_or_zero}
 use Prim.Native.Nat.{ℕ}
 use mathlib.Core.Bool.{Bool}
 use mathlib.Core.Path.{ap₂, ◌∙◌}
-use borrow.Author.Rules.{rules}
 use Rattle.jobs.proofs.whole.entry_fits.Goals as goal
 
 pub returns-then-k-gt-LAST : goal.returns-then-k-gt-LAST
-returns-then-k-gt-LAST c =     entry-over c.args.job.now c.args.at c.if-k-gt-LAST.true
+returns-then-k-gt-LAST c = entry-over c.args.job.now c.args.at c.if-k-gt-LAST.true
 
 pub returns-then-not-taken_or_zero : goal.returns-then-not-taken_or_zero
 returns-then-not-taken_or_zero c =

@@ -1,5 +1,4 @@
 use mathlib.Core.Path.{refl}
-use borrow.Author.Rules.{rules}
 use Rattle.jobs.proofs.whole.taken_or_zero.Goals as goal
 
 pub returns : goal.returns

@@ -1,5 +1,4 @@
 use Rattle.jobs.specs.Laws.Whole.{whole_long, whole-short, whole-over, whole_is}
-use borrow.Author.Rules.{rules}
 use Rattle.jobs.proofs.whole.whole_job.Goals as goal
 
 pub returns-then-job-gt-BLOCK_BYTES : goal.returns-then-job-gt-BLOCK_BYTES
