@@ -19,8 +19,10 @@ crates/CRATE/must-fail/LABEL.edit has an edit to a paragraph:
 
 Edits stand in one file, and are tried together, if no two name one function and each changes nothing but that function: its body,
 or its contract if the crate does not call it. A proof sees other functions by their contracts alone, so an error of a function's
-own then comes from its own edit.
+own then comes from its own edit. Goals are named by the code: an edit that renames one renames it in the function's proof too, so
+that the prover tries the answer.
 """
+import itertools
 import os
 import queue
 import re
@@ -41,8 +43,9 @@ QUOTED = 48  # characters of a term in it
 COMPUTED = "computed as far as they go, "
 PRINTED = "as printed, the two "
 MISMATCH = re.compile(rf"{COMPUTED}|{PRINTED}|expected type `|`(?:omega|search|grind|simp)`: ")
-FOLLOWS = re.compile(r"`[^`]+` was not admitted ")
-# And of a goal without an answer that it can show to be false.
+FOLLOWS = re.compile(r"`[^`]+` was not admitted |\d+ declarations? that depends? on ")
+# Of an answer whose goal has another name now, and of a goal without an answer that it can show to be false.
+GONE = re.compile(r"`goal\.([^`]+)`: ")
 FALSE = "allow values at which this goal is false"
 
 
@@ -108,13 +111,14 @@ def stands(edit, texts):
 
 
 def in_own_function(edit, texts):
-    """Whether an edit changes nothing but the function that it names, and nothing that another function's proof sees."""
+    """Whether an edit changes nothing but the function that it names, and its proof, and nothing that another function's proof sees."""
     file, kind, name = source_of(edit.fails)
     text = texts.get(file, "")
     lines = span(text, kind, name)
     called = any(re.search(rf"(?<!fn )\b{name}\(", other) for path, other in texts.items() if path.startswith("src/"))
-    places = [text[:text.find(old)].count("\n") + 1 for changed, old, _ in edit.changes if changed == file]
-    return bool(lines) and len(places) == len(edit.changes) and all(lines[called] <= at < lines[2] for at in places)
+    changes = [(changed, old) for changed, old, _ in edit.changes if not belongs(edit.fails, changed, name)]
+    places = [text[:text.find(old)].count("\n") + 1 for changed, old in changes if changed == file]
+    return bool(lines and places) and len(places) == len(changes) and all(lines[called] <= at < lines[2] for at in places)
 
 
 def edited(together, texts):
@@ -153,10 +157,11 @@ def belongs(function, file, name):
 
 
 def errors(log, edit):
-    """The errors at what an edit names: place and text."""
+    """The errors at what an edit names: place and text. One of no declaration, as of an import, is of each function of the file."""
     law = edit.fails.split(" ") if edit.is_of_law() else None
-    for m in re.finditer(r"^(?:\./)?(\S+?):(\d+):\d+: error: `([^`]+)`: (.*(?:\n  .*)*)$", log, re.M):
-        if [m[1], m[3]] == law or not law and belongs(edit.fails, m[1], m[3]):
+    own = edit.fails.rpartition("::")[2]
+    for m in re.finditer(r"^(?:\./)?(\S+?):(\d+):\d+: error: (?:`([^`]+)`: )?(.*(?:\n  .*)*)$", log, re.M):
+        if [m[1], m[3]] == law or not law and belongs(edit.fails, m[1], m[3] or own):
             yield f"{m[1]}:{m[2]}", m[4].replace("\n ", "")
 
 
@@ -167,6 +172,17 @@ def goals(log, edit, texts):
     for m in re.finditer(r"^note: (?:\./)?(\S+?):(\d+):\d+: (it is not proved that .*)$", log, re.M):
         if lines and m[1] == file and lines[0] <= int(m[2]) < lines[2]:
             yield f"{m[1]}:{m[2]}", m[3]
+
+
+def sort_of(goal):
+    """A goal's name up to the branch that it stands in."""
+    return re.split(r"-(?:then|else|in|in_default|after)(?:-|$)", goal)[0]
+
+
+def is_renamed(text, renamed):
+    """Whether a goal without an answer may be one that an edit gave another name, and so says nothing: one of the same sort went."""
+    name = re.search(r"\(`([^`]+)`\)", text)
+    return FALSE not in text and bool(name) and sort_of(name[1]) in renamed
 
 
 def shorter(term):
@@ -189,14 +205,14 @@ def unended(log):
 
 
 def verdict(log, edit, texts):
-    """Whether the prover refuses the fact of an edit, and where and how, or why that is not shown. An edit can rename a goal: its
-    answer is then of no use, so a goal without an answer shows something only if it is false."""
+    """Whether the prover refuses the fact of an edit, and where and how, or why that is not shown."""
     if why := unended(log):
         return False, why
     met = list(errors(log, edit))
     own = [(place, text) for place, text in met if MISMATCH.match(text)]
     other = [(place, text) for place, text in met if not MISMATCH.match(text) and not FOLLOWS.match(text)]
-    own += [(place, text) for place, text in goals(log, edit, texts) if FALSE in text or not other]
+    renamed = {sort_of(gone[1]) for _, text in other if (gone := GONE.match(text))}
+    own += [(place, text) for place, text in goals(log, edit, texts) if not is_renamed(text, renamed)]
     if own:
         place, text = min(own, key=lambda error: [COMPUTED not in error[1], PRINTED not in error[1]])
         return True, f"{place} {difference(text)}"
@@ -273,7 +289,8 @@ def all_tests(files):
                 return [test for path in paths for test in file_tests(path, room)]
             finally:
                 free.put(room)
-        return [test for tests in pool.map(of_crate, crates.values()) for test in tests]
+        for tests in pool.map(of_crate, crates.values()):
+            yield from tests
 
 
 SOURCE = """\
@@ -298,7 +315,8 @@ def log_tests(edit, texts):
     """The script tells an error of a function's own from none, from one that follows and from a proof of other code."""
     mismatch = "computed as far as they go, the two types differ only where one has `4` (expected) and the other has `5` (found)"
     follows = "`close` was not admitted (it has holes or undetermined implicits, or was rejected), so this cannot be checked"
-    gone = f"{PLACE}`a`: `goal.a`: module `Goals` has no `a` that can be named from here"
+    gone = f"{PLACE}`returns-in-7`: `goal.returns-in-7`: module `Goals` has no `returns-in-7` that can be named from here"
+    bounds = "note: src/sizes.rt:4:5: it is not proved that index 0 is below the slice's length (`bounds-b-0`)"
     logs = {
         "a mismatch": (True, f"{PLACE}`returns`: {mismatch}"),
         "a mismatch of one function of several": (True, f"{GROUP}`lower-returns`: {mismatch}"),
@@ -306,12 +324,14 @@ def log_tests(edit, texts):
         "a goal that is not proved": (True, f"{GOAL.format(1)}\nfn c::sizes::lower: no proof"),
         "a goal that is false, and a name that is gone": (True, f"{gone}\n{GOAL.format(1)}; the facts known there {FALSE}"),
         "a mismatch, and a name that is gone": (True, f"{gone}\n{PLACE}`returns`: {mismatch}"),
+        "a goal of another sort, and a name that is gone": (True, f"{gone}\n{bounds}"),
         "no error": (False, ""),
         "an error of another function": (False, f"{PLACE.replace('lower', 'upper')}`returns`: {mismatch}"),
         "an error of another function of several": (False, f"{GROUP}`low_est-returns`: {mismatch}"),
         "an error that follows": (False, f"{PLACE}`lower_spec`: {follows}"),
         "a goal of another function": (False, f"{GOAL.format(7)}\nfn c::sizes::lower: not proved; it calls `c::sizes::upper`"),
         "a proof of other code": (False, gone),
+        "an import of what is gone": (False, f"{PLACE}module `Goals` has no `then-x-y` that can be named from here"),
         "a goal that is not proved, and a name that is gone": (False, f"{gone}\n{GOAL.format(1)}; `search` gave up"),
     }
     said = {name: held == verdict(f"{log}\nlogic=not-proved", edit, texts)[0] for name, (held, log) in logs.items()}
@@ -345,13 +365,13 @@ def main():
     words = sys.argv[1:]
     files = [path for path in sorted(ROOT.glob("crates/*/must-fail/*.edit"))
              if words in ([], ["--fit"]) or path.parent.parent.name in words]
-    tests = [self_tests()]
-    tests += [test for path in files for test in file_tests(path, None)] if words == ["--fit"] else all_tests(files)
-    for name, held, text in tests:
+    tests = (test for path in files for test in file_tests(path, None)) if words == ["--fit"] else all_tests(files)
+    passed = failed = 0
+    for name, held, text in itertools.chain([self_tests()], tests):
+        passed, failed = passed + held, failed + (not held)
         line = f"{'' if held else 'FAILED: '}{name}: {text}"
-        print(line if len(line) <= SHOWN else line[:SHOWN] + " ..")
-    failed = [name for name, held, _ in tests if not held]
-    print(f"{len(tests) - len(failed)} passed, {len(failed)} failed")
+        print(line if len(line) <= SHOWN else line[:SHOWN] + " ..", flush=True)
+    print(f"{passed} passed, {failed} failed")
     sys.exit(bool(failed))
 
 
