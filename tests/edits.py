@@ -88,7 +88,8 @@ def source_of(function):
 
 
 def span(text, kind, name):
-    """The lines of a function, from 1 on: where its head, its body and the line behind it start. None if it is not there."""
+    """The lines of a function, from 1 on: where its head with its attributes, its body and the line behind it start. None if it is
+    not there."""
     lines = text.splitlines()
     start = next((i for i, line in enumerate(lines) if re.match(rf"impl\b.*\b{kind}\b", line)), None) if kind else 0
     if start is None:
@@ -97,6 +98,8 @@ def span(text, kind, name):
         if m := re.match(rf'( *)(?:pub(?:\(\w+\))? )?(?:const )?(?:extern "C" )?fn {name}\b', lines[head]):
             body = next(i for i in range(head, len(lines)) if lines[i].endswith("{"))
             end = lines.index(m[1] + "}", body)
+            while head and lines[head - 1] and not lines[head - 1].endswith("{"):
+                head -= 1
             return head + 1, body + 1, end + 2
     return None
 
@@ -294,6 +297,7 @@ def all_tests(files):
 
 
 SOURCE = """\
+#[tactic(auto)]
 fn lower(n: usize) -> bool
     ensures { result ≡ below n }
 {
@@ -316,7 +320,7 @@ def log_tests(edit, texts):
     mismatch = "computed as far as they go, the two types differ only where one has `4` (expected) and the other has `5` (found)"
     follows = "`close` was not admitted (it has holes or undetermined implicits, or was rejected), so this cannot be checked"
     gone = f"{PLACE}`returns-in-7`: `goal.returns-in-7`: module `Goals` has no `returns-in-7` that can be named from here"
-    bounds = "note: src/sizes.rt:4:5: it is not proved that index 0 is below the slice's length (`bounds-b-0`)"
+    bounds = "note: src/sizes.rt:5:5: it is not proved that index 0 is below the slice's length (`bounds-b-0`)"
     logs = {
         "a mismatch": (True, f"{PLACE}`returns`: {mismatch}"),
         "a mismatch of one function of several": (True, f"{GROUP}`lower-returns`: {mismatch}"),
@@ -329,7 +333,7 @@ def log_tests(edit, texts):
         "an error of another function": (False, f"{PLACE.replace('lower', 'upper')}`returns`: {mismatch}"),
         "an error of another function of several": (False, f"{GROUP}`low_est-returns`: {mismatch}"),
         "an error that follows": (False, f"{PLACE}`lower_spec`: {follows}"),
-        "a goal of another function": (False, f"{GOAL.format(7)}\nfn c::sizes::lower: not proved; it calls `c::sizes::upper`"),
+        "a goal of another function": (False, f"{GOAL.format(8)}\nfn c::sizes::lower: not proved; it calls `c::sizes::upper`"),
         "a proof of other code": (False, gone),
         "an import of what is gone": (False, f"{PLACE}module `Goals` has no `then-x-y` that can be named from here"),
         "a goal that is not proved, and a name that is gone": (False, f"{gone}\n{GOAL.format(1)}; `search` gave up"),
