@@ -143,7 +143,7 @@ fn main() {
 }
 
 /// libexports.a, from the folder `TIRNCHEAV_LIB` or from where
-/// `rt staticlib exports` puts it.
+/// `./archive` puts it.
 fn link_library() {
     println!("cargo:rerun-if-env-changed=TIRNCHEAV_LIB");
     let here = PathBuf::from(env::var_os("CARGO_MANIFEST_DIR").expect("cargo sets it"));

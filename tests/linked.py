@@ -1,6 +1,6 @@
 #!/usr/bin/env python3
-"""Compiles C programs with include/tirncheav.h, links them with the static library (target/staticlib, after `rt staticlib
-exports`), and holds what they print to a text: the example of bindings/c, and tests/entries.c, which calls each entry by
+"""Compiles C programs with include/tirncheav.h, links them with the static library (target/staticlib, after ./archive),
+and holds what they print to a text: the example of bindings/c, and tests/entries.c, which calls each entry by
 position, and then asks in loose mode with buffers of a few bytes and under other limits.
 
 Then shows that entries.c would tell: the linker puts a function before each entry that passes its arguments on as an entry
@@ -38,7 +38,7 @@ FORMS = {"sets": Form(NO, TYPE, 0), "sets-measured": Form(MEASURED, TYPE, 0), "s
 
 def entries():
     """Each C entry with its parameters, as the source has them: name and type."""
-    for path in sorted((ROOT / "crates/exports/src").glob("*.rt")):
+    for path in sorted((ROOT / "crates/exports_c/src").glob("*.rt")):
         for name, text in ENTRY.findall(path.read_text()):
             yield name, [tuple(part.strip().split(": ")) for part in text.split(",") if part.strip()]
 

@@ -1,5 +1,5 @@
 #!/usr/bin/env python3
-"""Runs the built programs (target/bin, after `rt check`) on pipes that are full, slow or cut short, under calls that are
+"""Runs the built programs (crates/NAME/out/NAME, after `rt ci`) on pipes that are full, slow or cut short, under calls that are
 interrupted or move one byte (tests/cut.c), and on what cannot be read or written: rt gives a program a file for standard
 input and looks at no message.
 """
@@ -15,8 +15,12 @@ from pathlib import Path
 import batches
 
 ROOT = Path(__file__).resolve().parent.parent
-BIN = ROOT / "target" / "bin"
 F_SETPIPE_SZ = 1031
+
+
+def built(name):
+    """The program of a crate."""
+    return ROOT / "crates" / name / "out" / name
 
 
 def case(crate):
@@ -49,7 +53,7 @@ def full_pipe():
     with tempfile.TemporaryFile() as batch:
         batch.write(given)
         batch.seek(0)
-        program = subprocess.Popen([BIN / "batches"], stdin=batch, stdout=into)
+        program = subprocess.Popen([built("batches")], stdin=batch, stdout=into)
     os.close(into)
     time.sleep(0.2)
     waits, got = program.poll() is None, b""
@@ -63,7 +67,7 @@ def slow_pipe():
     """Standard input is a pipe that is empty most of the time, and a read from it does not wait."""
     out, into = os.pipe()
     without_waiting(out)
-    program = subprocess.Popen([BIN / "batches"], stdin=out, stdout=subprocess.PIPE)
+    program = subprocess.Popen([built("batches")], stdin=out, stdout=subprocess.PIPE)
     batch, expected = part("settled")
     for at in range(0, len(batch), 97):
         os.write(into, batch[at:at + 97])
@@ -83,7 +87,7 @@ def cut_tests():
             for call in ("read", "write"):
                 for cut in ("short", "interrupted", "not yet"):
                     env = {**os.environ, "LD_PRELOAD": str(shim), f"CUT_{call.upper()}": cut}
-                    got = subprocess.run([BIN / program], input=given, env=env, capture_output=True)
+                    got = subprocess.run([built(program)], input=given, env=env, capture_output=True)
                     tests[f"{program}: each {call} {cut}"] = (got.stdout, got.stderr) == (expected, b"")
     return tests
 
@@ -96,7 +100,7 @@ def longest_job():
 
 def said(program, given, output=subprocess.PIPE):
     """What a program writes and what it says on standard error."""
-    ended = subprocess.run([BIN / program], input=given, stdout=output, stderr=subprocess.PIPE)
+    ended = subprocess.run([built(program)], input=given, stdout=output, stderr=subprocess.PIPE)
     return ended.stdout, ended.stderr.decode()
 
 
@@ -106,7 +110,7 @@ def main():
     first = b"0 0 08010000\n1 15 -\n.\n"
     with open("/dev/full", "wb") as nowhere:
         unwritten = said("tirncheav", job, nowhere)[1]
-    unread = subprocess.run([BIN / "tirncheav"], stdin=os.open(ROOT, os.O_RDONLY), capture_output=True).stderr.decode()
+    unread = subprocess.run([built("tirncheav")], stdin=os.open(ROOT, os.O_RDONLY), capture_output=True).stderr.decode()
     tests = {
         "a full pipe": full_pipe(),
         "a slow pipe": slow_pipe(),

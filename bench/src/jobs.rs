@@ -13,8 +13,8 @@ use std::fs::{self, File};
 use std::path::PathBuf;
 use std::process::{Command, Stdio};
 
-/// Where `rt check tirncheav` puts the program, seen from the root.
-const PROGRAM: &str = "target/bin/tirncheav";
+/// Where `./run` puts the program, seen from the root.
+const PROGRAM: &str = "crates/tirncheav/out/tirncheav";
 
 /// A job in a file, which is removed with it.
 struct Stored(PathBuf);

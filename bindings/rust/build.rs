@@ -1,5 +1,5 @@
-//! Links the static library that `rt staticlib exports` writes, from
-//! target/staticlib of the repository or from the folder TIRNCHEAV_LIB.
+//! Links libexports.a, from target/staticlib of the repository, where
+//! `./archive` puts it, or from the folder TIRNCHEAV_LIB.
 
 fn main() {
     let default = concat!(env!("CARGO_MANIFEST_DIR"), "/../../target/staticlib").to_string();
