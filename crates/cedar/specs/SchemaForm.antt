@@ -1,5 +1,5 @@
 -- The schema form: `parse_schema` reads a schema.
-use Rattle.std.specs.Prelude.{ℕ, suc, ◌+◌, ◌*◌, List, [], ◌∷◌, Bool, true, false, not, ◌||◌, ◌&&◌, cond, eqb, leb, ltb, length, drop, get_or}
+use Rattle.std.specs.Prelude.{ℕ, suc, ◌+◌, ◌*◌, List, [], ◌∷◌, Bool, true, not, ◌||◌, ◌&&◌, cond, eqb, leb, ltb, drop, get_or}
 use Rattle.std.proofs.Math.Option.{Option, none, some}
 use Rattle.cedar.specs.Types.{Ty, rec, Attrs, Arg, arg_bool, arg_long, arg_string, arg_ext, Entity, Action, Function, Schema, is_action, as_rec}
 use Rattle.cedar.specs.Bytes.{guard, word, bit, finish, ◌>>=◌}

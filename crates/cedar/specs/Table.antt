@@ -1,6 +1,6 @@
 -- Tables: so many entries, each with a head and the length of its body, then the bodies. Records, actions, sets, calls, the list,
 -- the three sections of a schema and the questions of a job are laid out so.
-use Rattle.std.specs.Prelude.{ℕ, zero, suc, ◌*◌, List, [], ◌∷◌, ◌++◌, cond, leb, length, take, drop}
+use Rattle.std.specs.Prelude.{ℕ, zero, suc, ◌*◌, List, [], ◌∷◌, cond, leb, length, take, drop}
 use Rattle.std.proofs.Math.Option.{Option, none, some}
 use Rattle.cedar.specs.Bytes.{word, guard, finish, ◌>>=◌}
 

@@ -1,5 +1,5 @@
 -- Searches by name over entries of one width. Assumes nothing: these are definitions.
-use Rattle.std.specs.Prelude.{ℕ, zero, suc, ◌+◌, ◌*◌, ◌-◌, ◌≤◌, List, Bool, true, false, cond, ◌&&◌, ◌≡◌, eqb, ltb, length}
+use Rattle.std.specs.Prelude.{ℕ, zero, suc, ◌+◌, ◌*◌, ◌-◌, ◌≤◌, List, cond, ◌&&◌, ◌≡◌, eqb, ltb, length}
 use Rattle.forms.specs.Parts.{rest, rd}
 use Rattle.forms.specs.declared.search.Found.{Found}
 use Rattle.forms.specs.declared.search.Found.TheVariants.{At, Nothing}

@@ -2,8 +2,8 @@
 use Rattle.std.specs.Prelude.{ℕ, zero, suc, ◌+◌, ◌*◌, List, [], ◌∷◌, Bool, true, false, ◌&&◌, ◌≡◌, eqb, leb, ltb, length, get_or}
 use Rattle.cedar.specs.Types.{Ty, Attrs, atom, set, rec, act, ent, ext, never}
 use Rattle.cedar.specs.TypeForm.{Kind, one, set_kind, rec_kind, ent_kind, act_kind, ext_kind, no_kind, kind_of, attrs_of}
-use Rattle.forms.specs.Parts.{part, rest, rd, kind}
-use Rattle.forms.specs.Rows.{Row, rows_to, rows_of, none_left, table_end, table_fits, table_of}
+use Rattle.forms.specs.Parts.{rest, rd, kind}
+use Rattle.forms.specs.Rows.{Row, rows_to, rows_of, none_left, table_fits, table_of}
 
 -- n names that ascend strictly, from low on.
 unfoldable pub names_up : ℕ → ℕ → List ℕ → Bool

@@ -1,9 +1,9 @@
 -- Value forms in the borrow checker's terms: the test that one is whole and a total decoder, by levels. Assumes nothing: these are definitions.
-use Rattle.std.specs.Prelude.{ℕ, zero, suc, ◌+◌, ◌*◌, List, [], ◌∷◌, Bool, true, false, ◌&&◌, ◌≡◌, eqb, leb, ltb, length, get_or}
-use Rattle.cedar.specs.Types.{Value, boolean, number, text, uid, set_of, record_of, call, Values, Pairs}
+use Rattle.std.specs.Prelude.{ℕ, zero, suc, ◌+◌, List, Bool, true, false, ◌&&◌, eqb, leb, ltb, length}
+use Rattle.cedar.specs.Types.{Value, boolean, number, text, uid, set_of, record_of, call}
 use Rattle.cedar.specs.ValueForm.{ValueKind, bool_kind, long_kind, string_kind, uid_kind, set_kind, record_kind, call_kind, no_kind, value_kind, values_from, pairs_from}
-use Rattle.forms.specs.Parts.{part, rest, rd, kind}
-use Rattle.forms.specs.Rows.{Row, rows_to, rows_of, none_left, table_fits, table_of}
+use Rattle.forms.specs.Parts.{rest, rd, kind}
+use Rattle.forms.specs.Rows.{Row, rows_to, none_left, table_fits, table_of}
 
 -- A member's entry: length. Members stand in any order.
 abbrev pub member_row : Row (Unit {0}) (Unit {0})

@@ -1,6 +1,6 @@
 -- What the passes answer: how long a form is or why there is none, and then its bytes. Assumes nothing: these are definitions.
 use Rattle.std.specs.Prelude.{ℕ, suc, ◌+◌, ◌≤◌, min, List, [], ◌++◌, ◌≡◌, length}
-use Rattle.std.proofs.Math.Option.{Option, none}
+use Rattle.std.proofs.Math.Option.{Option}
 use Rattle.cedar.specs.Types.{Attrs, maybe}
 use Rattle.cedar.specs.TypeForm.{entries, bodies}
 use Rattle.cedar.specs.Limits.{most_bytes}

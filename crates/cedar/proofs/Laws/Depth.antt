@@ -1,16 +1,15 @@
 -- How many levels trees have: no more than their forms have bytes; and what is folded, looked up or converted has no more than what it
 -- came from.
-use Rattle.std.specs.Prelude.{ℕ, suc, ◌≤◌, max, List, [], ◌∷◌, ◌++◌, Bool, cond, ◌&&◌, ◌≡◌, eqb, length}
-use Rattle.std.proofs.Common.{le_trans, arith, ap, sym, subst, length-append}
-use Rattle.std.proofs.Math.Option.{Option, none, some, some-injective}
+use Rattle.std.specs.Prelude.{ℕ, suc, ◌≤◌, max, List, [], ◌∷◌, ◌++◌, Bool, ◌&&◌, ◌≡◌, eqb, length}
+use Rattle.std.proofs.Common.{le_trans, arith, sym, subst, length-append}
+use Rattle.std.proofs.Math.Option.{some, some-injective}
 use Rattle.cedar.specs.Types.{Mode, permissive, Atom, never, true', false', bool, long, string, anyset, anyent}
 use Rattle.cedar.specs.Types.{Ty, atom, set, rec, act, ent, ext, Attrs, nil, attr, Schema, maybe, find}
 use Rattle.cedar.specs.Types.{Value, boolean, number, text, uid, set_of, record_of, call, Values, end, value, Pairs, empty, pair}
 use Rattle.cedar.specs.Levels.{depth, depths, depth_value, depth_values, depth_pairs, deepest}
-use Rattle.cedar.specs.Bytes.{◌>>=◌}
 use Rattle.cedar.specs.TypeForm.{enc, entries, bodies}
 use Rattle.cedar.specs.ValueForm.{enc_value, lengths, bodies_of, entries_of, values_of}
-use Rattle.cedar.specs.Result.{Result, ok, err}
+use Rattle.cedar.specs.Result.{ok}
 use Rattle.cedar.specs.Bound.{bound}
 use Rattle.cedar.specs.Fold.{fold_from}
 use Rattle.cedar.specs.Attribute.{attr_of, fold_attr, lookup_names, lookup, listed_bodies, joined_bodies}

@@ -10,7 +10,7 @@ use Rattle.cedar.specs.Bytes.{Bytes, guard}
 use Rattle.cedar.specs.Result.{unknown_function}
 use Rattle.cedar.specs.Text.{textual}
 use Rattle.cedar.specs.Conformance.{Verdict, holds, fails, fails_inside, unknown, verdict, and_then, shorter, exact, function_of, returns_ext, arg_extension}
-use Rattle.cedar.specs.Conformance.{members, pairs, as_call, of_argument, of_arguments, each_value, each_pair, has_required, conforms, conforms_at}
+use Rattle.cedar.specs.Conformance.{members, pairs, as_call, of_argument, of_arguments, each_value, each_pair, conforms, conforms_at}
 use Rattle.cedar.specs.Conforms.{Conforms}
 use Rattle.cedar.specs.Outcome.{Outcome, refused, said}
 use Rattle.cedar.specs.Calls.{ask, of_verdict, conforms_call, full_call}

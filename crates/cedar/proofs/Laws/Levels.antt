@@ -3,7 +3,7 @@
 use Rattle.std.specs.Prelude.{ℕ, ◌≤◌, max, List, [], ◌∷◌, Bool, true, false, ◌≡◌, T, length}
 use native.Mathlib.Omega.{arith}
 use Rattle.std.proofs.Math.Path.{refl, subst}
-use Rattle.std.proofs.Common.{ap, sym, ◌∙◌, leb→le}
+use Rattle.std.proofs.Common.{ap, sym, leb→le}
 use Rattle.std.proofs.Math.Option.{Option, none, some, some-injective}
 use Rattle.cedar.specs.Types.{Ty, atom, never, rec, act, ent, Entity, Action, Attrs, Schema, is_action, maybe}
 use Rattle.cedar.specs.Bytes.{Bytes, ◌>>=◌, guard}
@@ -11,8 +11,8 @@ use Rattle.cedar.specs.TypeForm.{enc}
 use Rattle.cedar.specs.Levels.{depth, deepest}
 use Rattle.cedar.specs.Limits.{Limits, allowed}
 use Rattle.cedar.specs.Whole.{whole_type, whole_value, whole_list, whole_schema}
-use Rattle.cedar.specs.Result.{Result, ok, err, bad_limits, answer_too_long}
-use Rattle.cedar.specs.Outcome.{Outcome, refused, said, nothing, measured, typed, attribute, named, bytes_of, levels_of}
+use Rattle.cedar.specs.Result.{Result, ok, err, answer_too_long}
+use Rattle.cedar.specs.Outcome.{Outcome, refused, nothing, measured, typed, attribute, bytes_of, levels_of}
 use Rattle.cedar.specs.Bound.{bound}
 use Rattle.cedar.specs.Fold.{fold_types}
 use Rattle.cedar.specs.Attribute.{entity_of, lookup, joined_bodies}

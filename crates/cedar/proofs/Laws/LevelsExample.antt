@@ -1,9 +1,9 @@
 -- Levels from bytes through the calls: what is dropped or fails counts for nothing, conversion may lose levels, a literal has its body's,
 -- the fold of nothing has one; and what measuring refuses.
-use Rattle.std.specs.Prelude.{ℕ, suc, List, [], ◌∷◌, ◌++◌, true, false, ◌≡◌, refl, length, replicate}
+use Rattle.std.specs.Prelude.{ℕ, List, [], ◌∷◌, ◌++◌, ◌≡◌, refl, length, replicate}
 use Rattle.cedar.specs.Types.{same}
 use Rattle.cedar.specs.Bytes.{u16}
-use Rattle.cedar.specs.Limits.{Limits, standard}
+use Rattle.cedar.specs.Limits.{standard}
 use Rattle.cedar.specs.TypeForm.{parse, enc}
 use Rattle.cedar.specs.ValueForm.{parse_value, enc_value}
 use Rattle.cedar.specs.Levels.{depth, depth_value}
@@ -11,7 +11,7 @@ use Rattle.cedar.specs.Text.{goes_on, textual}
 use Rattle.cedar.specs.Subtype.{sub}
 use Rattle.cedar.specs.Bound.{bound}
 use Rattle.cedar.specs.Conversion.{convert}
-use Rattle.cedar.specs.Outcome.{Outcome, refused, measured, bytes_of, levels_of}
+use Rattle.cedar.specs.Outcome.{refused, measured, bytes_of, levels_of}
 use Rattle.cedar.specs.Calls.{measure_type_call, measure_value_call, bound_call, fold_call, lookup_call, convert_call, literal_call}
 
 -- The closed record with one required attribute, 1.

@@ -1,7 +1,7 @@
 -- Every string of a value counts, at every level, and 17 is the answer exactly where one is no text.
 use Rattle.std.specs.Prelude.{ℕ, List, Bool, true, false, ◌&&◌, ◌≡◌, refl, ◌⊎◌, ◌↔◌, T}
-use Rattle.std.proofs.Common.{arith, sym, ap, subst, inl, inr}
-use Rattle.std.proofs.Math.Option.{Option, none, some}
+use Rattle.std.proofs.Common.{arith, sym, subst, inl, inr}
+use Rattle.std.proofs.Math.Option.{some}
 use Rattle.cedar.specs.Types.{Ty, Value, boolean, number, text, uid, set_of, record_of, call, Values, end, value, Pairs, empty, pair, Schema}
 use Rattle.cedar.specs.Bytes.{guard}
 use Rattle.cedar.specs.Limits.{Limits, allowed}
@@ -9,7 +9,7 @@ use Rattle.cedar.specs.Whole.{whole_schema, whole_type, whole_value}
 use Rattle.cedar.specs.Result.{bad_text}
 use Rattle.cedar.specs.Text.{is_text, textual, textual_values, textual_pairs}
 use Rattle.cedar.specs.Conformance.{Verdict, holds, fails, fails_inside, unknown, Counts, conforms}
-use Rattle.cedar.specs.Outcome.{Outcome, refused, said}
+use Rattle.cedar.specs.Outcome.{Outcome, refused}
 use Rattle.cedar.specs.Calls.{ask, of_verdict, conforms_by}
 use Rattle.cedar.proofs.Laws.Tests.{T_and, and_T, maybe-case}
 

@@ -1,19 +1,19 @@
 -- Walks and searches over whole attribute lists. Assumes nothing.
-use Rattle.std.specs.Prelude.{◌≡◌, List, [], ◌∷◌, ◌++◌, Bool, true, false, ◌&&◌, cond, ℕ, zero, suc, ◌+◌, ◌*◌, ◌-◌, ◌≤◌, ◌<◌, eqb, leb, ltb, length, get_or}
+use Rattle.std.specs.Prelude.{◌≡◌, List, [], ◌∷◌, ◌++◌, Bool, true, ℕ, zero, suc, ◌+◌, ◌*◌, ◌-◌, ◌≤◌, ◌<◌, eqb, leb, length, get_or}
 use Rattle.std.proofs.Math.Path.{refl}
-use Rattle.std.proofs.Common.{ap, sym, ◌∙◌, sub-one, arith, leb-true, eq-eqb, ne_eqb, ltb-true, eqb-true}
-use Rattle.std.proofs.Math.Option.{Option, none, some}
+use Rattle.std.proofs.Common.{ap, sym, ◌∙◌, sub-one, arith, leb-true, eq-eqb, ne_eqb}
+use Rattle.std.proofs.Math.Option.{none, some}
 use Rattle.std.proofs.Math.Decide.{dec_lt}
 use Rattle.cedar.specs.Types.{Ty, Attrs, nil, attr, find}
 use Rattle.cedar.specs.TypeForm.{attrs_of}
 use Rattle.forms.specs.Parts.{part, rest, rd}
 use Rattle.forms.specs.Rows.{rows_of, none_left}
-use Rattle.forms.specs.TypeBytes.{attr_row, whole_a, dec_a, whole, dec, Sound}
+use Rattle.forms.specs.TypeBytes.{attr_row, dec_a, whole, dec, Sound}
 use Rattle.forms.specs.Search.{below, used, low_at, Laid, found_at}
 use Rattle.forms.specs.declared.search.Found.{Found}
 use Rattle.forms.specs.declared.search.Found.TheVariants.{At, Nothing}
 use Rattle.forms.specs.Laws.Parts.{and_l, and_r, length_rest, rest-is}
-use Rattle.forms.specs.Laws.Rows.{First, first}
+use Rattle.forms.specs.Laws.Rows.{first}
 use Rattle.forms.specs.Laws.Skips.{Below, From, Named, below-most, below-stop, used-less, rows-used, rows_cut, rows-skip, rows-below, rows-from}
 use Rattle.forms.specs.Laws.Search.{found-where, found_none}
 use Rattle.forms.specs.Laws.Sure.{rd-drop}

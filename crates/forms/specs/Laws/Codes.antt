@@ -1,7 +1,7 @@
 -- The first byte of a whole form is that of its type. Assumes nothing.
 use Rattle.std.specs.Prelude.{◌≡◌, refl, List, true, ℕ, zero, suc}
 use Rattle.std.proofs.Common.{ap, sym, ◌∙◌, arith}
-use Rattle.cedar.specs.Types.{Atom, Ty, atom}
+use Rattle.cedar.specs.Types.{Atom, atom}
 use Rattle.cedar.specs.TypeForm.{Kind, one, set_kind, rec_kind, ent_kind, act_kind, ext_kind, no_kind, kind_of, atom_code}
 use Rattle.forms.specs.Parts.{kind}
 use Rattle.forms.specs.Codes.{code}

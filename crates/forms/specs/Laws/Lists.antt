@@ -1,10 +1,9 @@
 -- Lists as cedar reads them, and as the code walks them. Assumes nothing.
-use Rattle.std.specs.Prelude.{◌≡◌, List, [], ◌∷◌, Bool, true, false, ◌&&◌, ℕ, zero, suc, ◌+◌, ◌*◌, ◌-◌, ◌≤◌, ◌<◌, leb, length}
+use Rattle.std.specs.Prelude.{◌≡◌, List, [], ◌∷◌, true, false, ◌&&◌, ℕ, zero, suc, ◌+◌, ◌*◌, ◌-◌, ◌≤◌, ◌<◌, leb, length}
 use Rattle.std.proofs.Math.Path.{refl}
-use Rattle.std.proofs.Common.{ap, sym, ◌∙◌, sub-one, arith, leb-true, le-leb}
+use Rattle.std.proofs.Common.{sym, ◌∙◌, sub-one, arith, leb-true, le-leb}
 use Rattle.std.proofs.Math.Bool.{and_comm}
 use Rattle.std.proofs.lemmas.Bool.{lt-leb}
-use Rattle.cedar.specs.Types.{Ty, present}
 use Rattle.cedar.specs.Table.{read_length, any_order, seconds}
 use Rattle.cedar.specs.Limits.{Limits, max_listed, block_bytes}
 use Rattle.cedar.specs.ListForm.{parse_list}
@@ -15,7 +14,7 @@ use Rattle.forms.specs.TypeBytes.{whole, dec}
 use Rattle.forms.specs.ValueBytes.{member_row}
 use Rattle.forms.specs.ListBytes.{type_fits, whole_ts, dec_ts, list_fits, list_of, SoundTs}
 use Rattle.forms.specs.Laws.Parts.{and_l, and_r, and-not-l, and-not-r, and_yes, length_part, length_rest}
-use Rattle.forms.specs.Laws.Rows.{First, first, table-short, table-over, table-open}
+use Rattle.forms.specs.Laws.Rows.{first, table-short, table-over, table-open}
 use Rattle.forms.specs.Laws.Sure.{Sure, sure-same, sure-present, bind_to, map-to, guard-to, within-to}
 use Rattle.forms.specs.Laws.RowsTwin.{table-twin, rows-length}
 use Rattle.forms.specs.Laws.TypeTwin.{whole-type-twin}

@@ -1,12 +1,12 @@
 -- Laws of tables, for any row. Assumes nothing.
-use Rattle.std.specs.Prelude.{◌≡◌, List, [], ◌∷◌, Bool, true, false, not, ◌&&◌, eqb, leb, length}
+use Rattle.std.specs.Prelude.{◌≡◌, List, Bool, true, false, not, ◌&&◌, leb, length}
 use Rattle.std.proofs.Math.Path.{refl}
 use Rattle.std.proofs.Common.{ap, ap₂, sym, ◌∙◌, sub-one, mul-suc, arith, leb-true, le-leb}
 use Prim.Native.Nat.{ℕ, zero, suc, ◌+◌, ◌*◌, ◌-◌, ◌≤◌, ◌<◌}
 use Rattle.std.proofs.lemmas.Bool.{lt-leb, not-true, not-false}
 use Rattle.forms.specs.Parts.{part, rest, rd}
-use Rattle.forms.specs.Rows.{Row, body_length, rows_to, rows_of, none_left, table_end, table_fits, table_of}
-use Rattle.forms.specs.Laws.Parts.{and_l, and_r, and-not-l, and-not-r, and_yes, length_rest, length_part}
+use Rattle.forms.specs.Rows.{Row, body_length, rows_to, none_left, table_end, table_fits}
+use Rattle.forms.specs.Laws.Parts.{and_l, and_r, and-not-l, and-not-r, and_yes, length_rest}
 
 pub le-mul : (w n : ℕ) → 0 < n → w ≤ w * n
 le-mul w zero p = absurd (omega arith)

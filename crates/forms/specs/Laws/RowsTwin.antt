@@ -1,16 +1,15 @@
 -- Tables as cedar reads them, and as the code walks them: one law for every row. Assumes nothing.
-use Rattle.std.specs.Prelude.{◌≡◌, Bool, true, false, ◌&&◌, eqb, leb, length, take, drop, get_or}
+use Rattle.std.specs.Prelude.{◌≡◌, Bool, true, false, ◌&&◌, leb, length, take, drop}
 use Rattle.std.proofs.Math.Path.{refl, ap}
-use Rattle.std.proofs.Common.{ap₂, sym, ◌∙◌, mul-zero, mul-suc, arith, length-drop, length-take, get_or-take, leb-true}
-use mathlib.Core.List.{List, [], ◌∷◌}
-use Rattle.std.proofs.Math.Bool.{and-false, and-true, and_assoc}
-use Rattle.std.proofs.Math.Option.{Option, some}
-use Prim.Native.Nat.{ℕ, zero, suc, ◌+◌, ◌*◌, ◌-◌, ◌≤◌, ◌<◌}
+use Rattle.std.proofs.Common.{ap₂, sym, ◌∙◌, mul-zero, mul-suc, arith, length-drop, leb-true}
+use mathlib.Core.List.{List, ◌∷◌}
+use Rattle.std.proofs.Math.Bool.{and-false, and_assoc}
+use Rattle.std.proofs.Math.Option.{Option}
+use Prim.Native.Nat.{ℕ, zero, suc, ◌+◌, ◌*◌, ◌-◌, ◌≤◌}
 use Rattle.std.proofs.Math.Dec.{leb-zero}
 use Rattle.std.proofs.Math.Seq.{drop-drop}
-use Rattle.cedar.specs.Bytes.{◌>>=◌, guard, word, finish}
 use Rattle.cedar.specs.Table.{rows, parse_counted}
-use Rattle.forms.specs.Parts.{part, rest, rd, sure}
+use Rattle.forms.specs.Parts.{part, rest, rd}
 use Rattle.forms.specs.Rows.{Row, body_length, rows_to, rows_of, left_of, none_left, table_end, table_fits, table_of}
 use Rattle.forms.specs.Laws.Parts.{and_same, rest-is, part-is, drop-take}
 use Rattle.forms.specs.Laws.Sure.{Sure, sure-same, sure-some-of, bind_to, map-to, guard-to, finish-to, word_at, leb-and, leb-same}

@@ -1,16 +1,13 @@
 -- Searches by name: the loop, and what is found. Assumes nothing.
-use Rattle.std.specs.Prelude.{◌≡◌, List, [], ◌∷◌, ◌++◌, Bool, true, false, ◌&&◌, cond, ℕ, zero, suc, ◌+◌, ◌*◌, ◌-◌, ◌≤◌, ◌<◌, eqb, leb, ltb, length, get_or}
+use Rattle.std.specs.Prelude.{◌≡◌, List, Bool, true, false, ◌&&◌, cond, ℕ, zero, suc, ◌+◌, ◌*◌, ◌-◌, ◌≤◌, ◌<◌, eqb, ltb, length}
 use Rattle.std.proofs.Math.Path.{refl}
-use Rattle.std.proofs.Common.{ap, ap₂, sym, ◌∙◌, subst, mul-zero, mul-suc, mul-le-mul_left, sub-one, add-one, arith}
-use Rattle.std.proofs.Math.Option.{Option, none, some}
-use Rattle.std.proofs.Math.Decide.{dec_lt}
-use borrow.Author.Tests.{lt-ltb, le-ltb, eq-eqb, ne_eqb, leb-true, eqb-true, ltb-true}
-use Rattle.forms.specs.Parts.{part, rest, rd}
-use Rattle.forms.specs.Rows.{Row, body_length, rows_to, rows_of, none_left}
+use Rattle.std.proofs.Common.{sym, ◌∙◌, subst, mul-suc, mul-le-mul_left, sub-one, add-one, arith}
+use borrow.Author.Tests.{lt-ltb, le-ltb, eq-eqb, ne_eqb, eqb-true, ltb-true}
+use Rattle.forms.specs.Parts.{rest, rd}
 use Rattle.forms.specs.Search.{below, used, Laid, found_at}
 use Rattle.forms.specs.declared.search.Found.TheVariants.{At, Nothing}
-use Rattle.forms.specs.Laws.Parts.{and_l, and_r, length_rest, rest_0, rest-rest, rest-is}
-use Rattle.forms.specs.Laws.Rows.{le-mul, mul-less, First, first}
+use Rattle.forms.specs.Laws.Parts.{and_l, and_r, length_rest}
+use Rattle.forms.specs.Laws.Rows.{le-mul, mul-less}
 
 pub used_step : (w k : ℕ) (es : List ℕ) → 0 < k → used w k es ≡ rd es (w - 2) + used w (k - 1) (rest w es)
 unfolding used

@@ -1,19 +1,19 @@
 -- Skipping entries of a table, for any row whose entries begin with their name. Assumes nothing.
 use Rattle.std.specs.Prelude.{◌≡◌, Bool, cond, length}
 use Rattle.std.proofs.Math.Path.{refl}
-use Rattle.std.proofs.Common.{ap, ap₂, sym, ◌∙◌, subst, mul-zero, mul-suc, add-one}
+use Rattle.std.proofs.Common.{ap, mul-zero, mul-suc}
 use mathlib.Core.List.{List, [], ◌∷◌, ◌++◌}
 use Rattle.std.proofs.Math.Bool.{true, false}
 use Prim.Native.Nat.{ℕ, zero, suc, ◌+◌, ◌*◌, ◌-◌, ◌≤◌, ◌<◌}
 use Rattle.std.proofs.Math.Numerals.{sub-one}
 use native.Mathlib.Omega.{arith}
 use Rattle.std.proofs.Math.Dec.{ltb}
-use borrow.Author.Tests.{lt-ltb, le-ltb, ltb-true, ltb-false}
+use borrow.Author.Tests.{ltb-true, ltb-false}
 use Rattle.forms.specs.Parts.{part, rest, rd}
 use Rattle.forms.specs.Rows.{Row, body_length, rows_to, rows_of}
 use Rattle.forms.specs.Search.{below, used, low_at}
 use Rattle.forms.specs.Laws.Parts.{length_rest, rest_0, rest-rest}
-use Rattle.forms.specs.Laws.Rows.{First, first}
+use Rattle.forms.specs.Laws.Rows.{first}
 
 -- What stands behind one entry more.
 rest_more : (w k : ℕ) (es : List ℕ) → rest (w * k) (rest w es) ≡ rest (w * suc k) es

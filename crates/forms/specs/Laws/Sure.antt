@@ -1,10 +1,10 @@
 -- Steps that may fail, as a test and what is decoded. Assumes nothing.
-use Rattle.std.specs.Prelude.{◌≡◌, refl, List, [], ◌∷◌, Bool, true, false, ◌&&◌, cond, ℕ, zero, suc, ◌+◌, ◌*◌, ◌-◌, ◌≤◌, ◌<◌, eqb, leb, length, drop, get_or}
-use Rattle.std.proofs.Common.{ap, ap₂, sym, ◌∙◌, arith, add-one, mul_comm, length-drop, get_or-drop, drop-drop, eq-eqb, ne_eqb, le-leb, leb-true}
+use Rattle.std.specs.Prelude.{◌≡◌, refl, List, [], ◌∷◌, Bool, true, false, ◌&&◌, cond, ℕ, zero, suc, ◌+◌, ◌-◌, ◌≤◌, ◌<◌, eqb, leb, length, drop, get_or}
+use Rattle.std.proofs.Common.{ap, ap₂, sym, ◌∙◌, arith, add-one, mul_comm, length-drop, get_or-drop, drop-drop, eq-eqb, ne_eqb, le-leb}
 use Rattle.std.proofs.Math.Bool.{and-false}
 use Rattle.std.proofs.Math.Option.{Option, none, some, some-injective}
 use Rattle.std.proofs.Math.Decide.{ℕ_discrete, dec_le}
-use Rattle.std.proofs.Math.Dec.{leb-zero, leb-suc-zero, leb-suc-suc, eqb-suc-zero}
+use Rattle.std.proofs.Math.Dec.{eqb-suc-zero}
 use Rattle.std.proofs.lemmas.Bool.{lt-leb}
 use Rattle.cedar.specs.Types.{present}
 use Rattle.cedar.specs.Table.{ascending}

@@ -1,19 +1,19 @@
 -- Type forms as cedar reads them, and as the code walks them. Assumes nothing.
-use Rattle.std.specs.Prelude.{◌≡◌, refl, List, [], ◌∷◌, Bool, true, false, ◌&&◌, ℕ, zero, suc, ◌+◌, ◌*◌, ◌-◌, ◌≤◌, ◌<◌, eqb, leb, length, take, drop, get_or}
-use Rattle.std.proofs.Common.{ap, ap₂, sym, ◌∙◌, mul-suc, add-one, arith, length-drop, get_or-take, leb-true, le-leb, lt-ltb}
+use Rattle.std.specs.Prelude.{◌≡◌, refl, List, [], ◌∷◌, Bool, true, false, ◌&&◌, ℕ, zero, suc, ◌+◌, ◌*◌, ◌-◌, ◌≤◌, eqb, leb, length, drop, get_or}
+use Rattle.std.proofs.Common.{ap, sym, ◌∙◌, mul-suc, add-one, arith, length-drop, get_or-take, leb-true, le-leb, lt-ltb}
 use Rattle.std.proofs.Math.Bool.{and-false, and-true, and_assoc}
-use Rattle.std.proofs.Math.Option.{Option, some}
+use Rattle.std.proofs.Math.Option.{Option}
 use Rattle.std.proofs.Math.Decide.{dec_le}
 use Rattle.std.proofs.Math.Dec.{eqb-suc-suc}
 use Rattle.std.proofs.lemmas.Bool.{lt-leb}
-use Rattle.cedar.specs.Types.{Ty, Attrs, atom, set, rec, act, ent, ext, never}
+use Rattle.cedar.specs.Types.{Ty, atom, set, rec, act, ent, ext}
 use Rattle.cedar.specs.Limits.{Limits}
 use Rattle.cedar.specs.Whole.{whole_type}
 use Rattle.cedar.specs.Bytes.{parse_names}
 use Rattle.cedar.specs.TypeForm.{Kind, one, set_kind, rec_kind, ent_kind, act_kind, ext_kind, no_kind, kind_of, attrs_of, read_attr, ascending_attr, parse_as, parse}
-use Rattle.forms.specs.Parts.{part, rest, rd, kind}
-use Rattle.forms.specs.Rows.{Row, body_length, none_left, table_fits, table_of}
-use Rattle.forms.specs.TypeBytes.{names_up, names_by, names_fit, attr_row, whole_as, dec_as, whole, dec}
+use Rattle.forms.specs.Parts.{rd}
+use Rattle.forms.specs.Rows.{table_fits}
+use Rattle.forms.specs.TypeBytes.{names_up, names_by, attr_row, whole_as, dec_as, whole, dec}
 use Rattle.forms.specs.Laws.Parts.{and_same, and_yes, rest-is, rd-take}
 use Rattle.forms.specs.Laws.Sure.{Sure, sure-same, sure-none, bind_to, map-to, guard-to, finish-to, word_at, bit_at, ascending-to, eqb_same, leb-eqb}
 use Rattle.forms.specs.Laws.Sure.{leb-under, within-to}

@@ -1,11 +1,11 @@
 -- Laws of type forms. Assumes nothing.
-use Rattle.std.specs.Prelude.{◌≡◌, List, [], ◌∷◌, Bool, true, false, ◌&&◌, ℕ, zero, suc, ◌+◌, ◌*◌, ◌-◌, ◌≤◌, ◌<◌, eqb, leb, ltb, length, get_or}
+use Rattle.std.specs.Prelude.{◌≡◌, List, [], ◌∷◌, true, false, ◌&&◌, ℕ, zero, suc, ◌+◌, ◌*◌, ◌-◌, ◌≤◌, ◌<◌, eqb, leb, ltb, length, get_or}
 use Rattle.std.proofs.Math.Path.{refl}
 use Rattle.std.proofs.Common.{ap, sym, ◌∙◌, sub-one, arith, leb-true, le-leb, lt-ltb, le-ltb, eq-eqb, ne_eqb}
 use Rattle.std.proofs.Math.ListN.{get_or-eq_default}
 use Rattle.std.proofs.lemmas.Bool.{lt-leb}
-use Rattle.forms.specs.Parts.{part, rest, rd, kind}
-use Rattle.forms.specs.TypeBytes.{names_up, names_by, names_fit, attr_row, whole_as, dec_as, whole, dec}
+use Rattle.forms.specs.Parts.{rest, rd, kind}
+use Rattle.forms.specs.TypeBytes.{names_up, names_fit, attr_row, whole_as, whole}
 use Rattle.forms.specs.Rows.{table_fits}
 use Rattle.cedar.specs.Types.{Atom, never, true', false', bool, long, string, anyset, anyent}
 use Rattle.cedar.specs.TypeForm.{one, set_kind, rec_kind, ent_kind, act_kind, ext_kind, no_kind, kind_of}

@@ -1,8 +1,8 @@
 -- Value forms as cedar reads them, and as the code walks them. Assumes nothing.
-use Rattle.std.specs.Prelude.{◌≡◌, refl, List, [], ◌∷◌, Bool, true, false, ◌&&◌, ℕ, zero, suc, ◌+◌, ◌*◌, ◌-◌, ◌≤◌, ◌<◌, eqb, leb, length, take, drop}
+use Rattle.std.specs.Prelude.{refl, List, [], ◌∷◌, Bool, true, ◌&&◌, ℕ, zero, suc, ◌+◌, ◌-◌, eqb, leb, length, drop}
 use Rattle.std.proofs.Common.{ap, sym, ◌∙◌, arith, length-drop, leb-true, lt-ltb}
 use Rattle.std.proofs.Math.Bool.{and-true}
-use Rattle.std.proofs.Math.Option.{Option, some}
+use Rattle.std.proofs.Math.Option.{Option}
 use Rattle.std.proofs.Math.Dec.{eqb-suc-suc}
 use Rattle.cedar.specs.Types.{Value, boolean, number, text, uid, set_of, record_of, call}
 use Rattle.cedar.specs.Limits.{Limits}
@@ -10,8 +10,7 @@ use Rattle.cedar.specs.Whole.{whole_value}
 use Rattle.cedar.specs.Table.{read_length, any_order, ascending}
 use Rattle.cedar.specs.ValueForm.{ValueKind, bool_kind, long_kind, string_kind, uid_kind, set_kind, record_kind, call_kind, no_kind, value_kind, read_pair, values_from}
 use Rattle.cedar.specs.ValueForm.{pairs_from, parse_value_as, parse_value}
-use Rattle.forms.specs.Parts.{rest, rd, kind}
-use Rattle.forms.specs.Rows.{Row, body_length, table_fits, table_of}
+use Rattle.forms.specs.Parts.{rd}
 use Rattle.forms.specs.ValueBytes.{member_row, pair_row, whole_v_as, dec_v_as, whole_v, dec_v}
 use Rattle.forms.specs.Laws.Parts.{and_same, and_yes, rest-is, rd-take}
 use Rattle.forms.specs.Laws.Sure.{Sure, sure-same, sure-none, sure-some-of, bind_to, map-to, guard-to, finish-to, word_at, ascending-to, eqb_same}

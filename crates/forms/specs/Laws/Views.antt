@@ -1,12 +1,12 @@
 -- What a whole type form of each kind is made of. Assumes nothing.
-use Rattle.std.specs.Prelude.{◌≡◌, refl, List, Bool, true, false, ◌&&◌, ℕ, zero, suc, ◌+◌, ◌*◌, ◌-◌, ◌≤◌, ◌<◌, eqb, leb, ltb, length, get_or}
-use Rattle.std.proofs.Common.{ap, sym, ◌∙◌, sub-one, arith, leb-true, ltb-true, eqb-true}
+use Rattle.std.specs.Prelude.{◌≡◌, refl, List, true, false, ◌&&◌, ℕ, zero, suc, ◌+◌, ◌*◌, ◌-◌, ◌≤◌, ◌<◌, eqb, leb, ltb, length, get_or}
+use Rattle.std.proofs.Common.{◌∙◌, sub-one, arith, leb-true, ltb-true, eqb-true}
 use Rattle.std.proofs.Math.Decide.{ℕ_discrete, dec_le}
-use Rattle.cedar.specs.Types.{Atom, Ty, Attrs, atom, set, rec, act, ent, ext}
-use Rattle.cedar.specs.TypeForm.{one, no_kind, kind_of, attrs_of}
+use Rattle.cedar.specs.Types.{Atom, atom, set, rec, act, ent, ext}
+use Rattle.cedar.specs.TypeForm.{one, kind_of}
 use Rattle.forms.specs.Parts.{part, rest, rd, kind}
 use Rattle.forms.specs.Rows.{none_left, table_end, table_fits, rows_to}
-use Rattle.forms.specs.TypeBytes.{names_up, names_by, names_fit, attr_row, whole_as, dec_as, whole, whole_a, dec_a, dec, Sound}
+use Rattle.forms.specs.TypeBytes.{names_up, names_by, attr_row, whole_as, dec_as, whole, dec_a, dec, Sound}
 use Rattle.forms.specs.Laws.Parts.{and_l, and_r, length_part}
 use Rattle.forms.specs.Laws.Types.{kind-atom, kind-unknown}
 

@@ -1,13 +1,13 @@
 -- The deepest body of a table, and the levels of a form by its kind. Assumes nothing.
-use Rattle.std.specs.Prelude.{◌≡◌, refl, List, [], ◌∷◌, Bool, true, false, ◌&&◌, leb, length, get_or}
+use Rattle.std.specs.Prelude.{◌≡◌, refl, List, true, leb, length, get_or}
 use Rattle.std.proofs.Math.Path.{ap}
 use Rattle.std.proofs.Common.{sym, ◌∙◌, arith, leb-true, eqb-true}
 use Prim.Native.Nat.{ℕ, zero, suc, ◌+◌, ◌*◌, ◌-◌, ◌≤◌, ◌<◌, max}
 use Rattle.cedar.specs.Types.{Ty, Value}
 use Rattle.cedar.specs.Levels.{depth, depths, depth_value, depth_values, depth_pairs}
 use Rattle.cedar.specs.Bytes.{Bytes}
-use Rattle.cedar.specs.TypeForm.{enc, attrs_of}
-use Rattle.cedar.specs.ValueForm.{enc_value, value_kind, values_from, pairs_from}
+use Rattle.cedar.specs.TypeForm.{attrs_of}
+use Rattle.cedar.specs.ValueForm.{value_kind, values_from, pairs_from}
 use Rattle.cedar.proofs.Laws.TypeForm.{depth_pos}
 use Rattle.cedar.proofs.Laws.Depth.{depth-length, depth_value-length, depth_value-pos}
 use Rattle.forms.specs.Parts.{part, rest, rd, kind}
@@ -20,7 +20,7 @@ use Rattle.forms.specs.Laws.Bodies.{table-bodies}
 use Rattle.forms.specs.Laws.Ahead.{Ahead, ahead-inside, ahead-body, ahead-again, decoded, decoded-none, table-ahead, table-decoded}
 use Rattle.forms.specs.Laws.Types.{whole_by}
 use Rattle.forms.specs.Laws.Views.{not-empty, is_set, is-record, is-action, Seen, see, seen-set, seen-record, seen-entity, seen-action, seen-extension, seen-atom}
-use Rattle.forms.specs.Laws.Values.{value-level, value_as, dec-value}
+use Rattle.forms.specs.Laws.Values.{value-level, dec-value}
 use Rattle.levels.specs.declared.depths.Form.{Form}
 use Rattle.levels.specs.declared.depths.Form.TheVariants.{Types as types, Values as values}
 use Rattle.levels.specs.Deepest.{whole_form, levels_in, most_of, deepest_at}

@@ -1,15 +1,15 @@
 -- The strings of the bodies of a table, one after another, and those of a value by its kind. Assumes nothing.
-use Rattle.std.specs.Prelude.{◌≡◌, refl, List, [], ◌∷◌, Bool, true, false, not, ◌&&◌, ℕ, zero, suc, ◌+◌, ◌*◌, ◌-◌, ◌≤◌, ◌<◌, leb, length}
+use Rattle.std.specs.Prelude.{◌≡◌, refl, List, Bool, true, false, not, ◌&&◌, ℕ, zero, suc, ◌+◌, ◌*◌, ◌-◌, ◌≤◌, ◌<◌, leb, length}
 use Rattle.std.proofs.Math.Path.{ap, sym}
-use Rattle.std.proofs.Common.{◌∙◌, subst, arith, leb-true}
+use Rattle.std.proofs.Common.{◌∙◌, leb-true}
 use Rattle.std.proofs.lemmas.Bool.{not-true, not-false}
-use Rattle.cedar.specs.Types.{Value, text, set_of, record_of, call}
-use Rattle.cedar.specs.ValueForm.{ValueKind, set_kind, record_kind, call_kind, value_kind, values_from, pairs_from}
+use Rattle.cedar.specs.Types.{Value}
+use Rattle.cedar.specs.ValueForm.{value_kind, values_from, pairs_from}
 use Rattle.cedar.specs.Text.{is_text, textual, textual_values, textual_pairs}
 use Rattle.forms.specs.Parts.{part, rest, rd, kind}
 use Rattle.forms.specs.Rows.{body_row, rows_of, table_fits}
-use Rattle.forms.specs.ValueBytes.{pair_row, whole_v, whole_v_as, dec_v, dec_v_as}
-use Rattle.forms.specs.Laws.Parts.{and_l, and_r, and_yes, and-not-l}
+use Rattle.forms.specs.ValueBytes.{pair_row, whole_v, dec_v, dec_v_as}
+use Rattle.forms.specs.Laws.Parts.{and_l, and_yes, and-not-l}
 use Rattle.forms.specs.Laws.Ahead.{Ahead, ahead-again, decoded, decoded-none, table-ahead, table-decoded}
 use Rattle.forms.specs.Laws.Values.{value-level, value_as, dec-value}
 use Rattle.strings.specs.Bodies.{bodies_at}

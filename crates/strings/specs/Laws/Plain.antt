@@ -1,16 +1,15 @@
 -- Bytes that are all below 128: every string in them is text, whatever value they say. Assumes nothing.
-use Rattle.std.specs.Prelude.{◌≡◌, List, Bool, true, ◌&&◌, length, get_or, take, drop}
+use Rattle.std.specs.Prelude.{◌≡◌, List, true, length, get_or, drop}
 use Rattle.std.proofs.Math.Path.{refl}
 use Rattle.std.proofs.Common.{sym, ap, subst, ◌∙◌, arith, length-take, length-drop, get_or-take, get_or-drop}
-use Prim.Native.Nat.{ℕ, zero, suc, ◌+◌, ◌*◌, ◌-◌, ◌≤◌, ◌<◌}
+use Prim.Native.Nat.{ℕ, zero, suc, ◌+◌, ◌*◌, ◌-◌, ◌<◌}
 use Rattle.cedar.specs.Types.{Value}
 use Rattle.cedar.specs.ValueForm.{ValueKind, bool_kind, long_kind, string_kind, uid_kind, set_kind, record_kind, call_kind, no_kind, value_kind, values_from}
-use Rattle.cedar.specs.Text.{is_text, textual, textual_values, textual_pairs}
+use Rattle.cedar.specs.Text.{is_text, textual, textual_values}
 use Rattle.forms.specs.Parts.{part, rest, rd, kind}
 use Rattle.forms.specs.Rows.{body_row, rows_of}
 use Rattle.forms.specs.ValueBytes.{dec_v_as, dec_v}
 use Rattle.forms.specs.Laws.Parts.{and_yes}
-use Rattle.forms.specs.Laws.Ahead.{table-decoded}
 use Rattle.strings.specs.Bodies.{bodies_at}
 use Rattle.strings.specs.Steps.{Plain}
 use Rattle.strings.specs.Laws.Steps.{passes_none, passes-block, text-yes}

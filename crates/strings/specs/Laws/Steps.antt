@@ -1,6 +1,6 @@
 -- What each step of the code says of the text from an index on. Assumes nothing.
 use Rattle.std.specs.Prelude.{ℕ, zero, suc, ◌+◌, ◌<◌, ◌≤◌, Bool, true, false, ◌&&◌, ◌≡◌, T, leb, ltb, length, get_or, drop}
-use Rattle.std.proofs.Common.{add-zero, add-one, arith, ap, ◌∙◌, subst, inl, inr, ltb→lt, length-drop, drop_of_length-le, drop-cons, le-leb, lt-ltb, eq-eqb, ne_eqb}
+use Rattle.std.proofs.Common.{add-zero, add-one, arith, ap, ◌∙◌, subst, inl, inr, ltb→lt, length-drop, drop_of_length-le, drop-cons, le-leb, lt-ltb, ne_eqb}
 use mathlib.Core.List.{List, [], ◌∷◌}
 use Rattle.std.proofs.Math.Path.{refl, sym}
 use Rattle.std.proofs.Math.Option.{none, some}

@@ -60,12 +60,11 @@ copy-requires c =
     args.out.now put-kind.new.out c.requires.found_in_bounds put-kind.ensures).1
 
 pub put_entity-requires : goal.put_entity-requires
-put_entity-requires c =
-    (
-      let l = ap literal_length c.in-Entity.is in
-          omega (arith, l, c.requires.found_in_bounds),
-      c.requires.entity_bound,
-    )
+put_entity-requires c = (
+  let l = ap literal_length c.in-Entity.is in
+      omega (arith, l, c.requires.found_in_bounds),
+  c.requires.entity_bound,
+)
 
 pub returns-in-Action : goal.returns-in-Action
 returns-in-Action c =

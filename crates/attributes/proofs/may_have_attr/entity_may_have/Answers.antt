@@ -16,7 +16,7 @@ pub u16_at-requires : goal.u16_at-requires
 u16_at-requires c = omega (arith, c.loop-left.invariant.sized)
 
 pub entity_type_may_have-requires : goal.entity_type_may_have-requires
-entity_type_may_have-requires c =     c.requires.sectioned
+entity_type_may_have-requires c = c.requires.sectioned
 
 pub returns-then-entity_type_may_have : goal.returns-then-entity_type_may_have
 returns-then-entity_type_may_have c =

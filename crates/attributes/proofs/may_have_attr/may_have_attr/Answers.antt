@@ -8,19 +8,19 @@ use borrow.Author.Rules.{rules}
 use Rattle.attributes.proofs.may_have_attr.may_have_attr.Goals as goal
 
 pub bounds-t-0 : goal.bounds-t-0
-bounds-t-0 c =     not-empty c.args.at.limits.levels c.args.t.now c.requires.t_value
+bounds-t-0 c = not-empty c.args.at.limits.levels c.args.t.now c.requires.t_value
 
 pub record_may_have-requires : goal.record_may_have-requires
-record_may_have-requires c =     record { t_value = c.requires.t_value; t_value_2 = c.in-8.is }
+record_may_have-requires c = record { t_value = c.requires.t_value; t_value_2 = c.in-8.is }
 
 pub slice_bounds-entity_may_have-count : goal.slice_bounds-entity_may_have-count
-slice_bounds-entity_may_have-count c =     omega (arith, (is-entity c.args.at.limits.levels c.args.t.now c.requires.t_value c.in-10.is).sized)
+slice_bounds-entity_may_have-count c = omega (arith, (is-entity c.args.at.limits.levels c.args.t.now c.requires.t_value c.in-10.is).sized)
 
 pub slice_bounds-entity_may_have-start : goal.slice_bounds-entity_may_have-start
 slice_bounds-entity_may_have-start c = slice_bounds-entity_may_have-count c
 
 pub u16_at-requires : goal.u16_at-requires
-u16_at-requires c =     omega (arith, (is-entity c.args.at.limits.levels c.args.t.now c.requires.t_value c.in-10.is).some)
+u16_at-requires c = omega (arith, (is-entity c.args.at.limits.levels c.args.t.now c.requires.t_value c.in-10.is).some)
 
 pub entity_may_have-requires : goal.entity_may_have-requires
 entity_may_have-requires c =

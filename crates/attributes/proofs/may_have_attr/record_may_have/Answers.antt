@@ -5,7 +5,7 @@ use borrow.Author.Rules.{rules}
 use Rattle.attributes.proofs.may_have_attr.record_may_have.Goals as goal
 
 pub bounds-t-1 : goal.bounds-t-1
-bounds-t-1 c =     omega (arith, (is-record c.args.levels c.args.t.now c.requires.t_value c.requires.t_value_2).some)
+bounds-t-1 c = omega (arith, (is-record c.args.levels c.args.t.now c.requires.t_value c.requires.t_value_2).some)
 
 pub returns-then-t-eq-OPEN : goal.returns-then-t-eq-OPEN
 returns-then-t-eq-OPEN c =

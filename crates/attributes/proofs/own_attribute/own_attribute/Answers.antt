@@ -6,13 +6,13 @@ use Rattle.attributes.specs.Laws.Place.{record-listed, action-listed, record-pla
 use Rattle.attributes.proofs.own_attribute.own_attribute.Goals as goal
 
 pub bounds-t-0 : goal.bounds-t-0
-bounds-t-0 c =     not-empty c.args.levels c.args.t.now c.requires
+bounds-t-0 c = not-empty c.args.levels c.args.t.now c.requires
 
 pub overflow_sub-levels : goal.overflow_sub-levels
-overflow_sub-levels c =     (is-record c.args.levels c.args.t.now c.requires c.if-k-eq-RECORD.true).deep
+overflow_sub-levels c = (is-record c.args.levels c.args.t.now c.requires c.if-k-eq-RECORD.true).deep
 
 pub listed_attribute-requires : goal.listed_attribute-requires
-listed_attribute-requires c =     record-listed c.args.levels c.args.t.now c.requires c.if-k-eq-RECORD.true
+listed_attribute-requires c = record-listed c.args.levels c.args.t.now c.requires c.if-k-eq-RECORD.true
 
 pub returns-then-k-eq-RECORD : goal.returns-then-k-eq-RECORD
 returns-then-k-eq-RECORD c =
@@ -21,10 +21,10 @@ returns-then-k-eq-RECORD c =
     record { placed = both.0; result_value = both.1 }
 
 pub overflow_sub-levels-then-k-eq-ACTION : goal.overflow_sub-levels-then-k-eq-ACTION
-overflow_sub-levels-then-k-eq-ACTION c =     (is-action c.args.levels c.args.t.now c.requires c.if-k-eq-ACTION.true).deep
+overflow_sub-levels-then-k-eq-ACTION c = (is-action c.args.levels c.args.t.now c.requires c.if-k-eq-ACTION.true).deep
 
 pub listed_attribute-requires-then-k-eq-ACTION : goal.listed_attribute-requires-then-k-eq-ACTION
-listed_attribute-requires-then-k-eq-ACTION c =     action-listed c.args.levels c.args.t.now c.requires c.if-k-eq-ACTION.true
+listed_attribute-requires-then-k-eq-ACTION c = action-listed c.args.levels c.args.t.now c.requires c.if-k-eq-ACTION.true
 
 pub returns-then-k-eq-ACTION : goal.returns-then-k-eq-ACTION
 returns-then-k-eq-ACTION c =

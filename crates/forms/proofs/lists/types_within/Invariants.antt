@@ -1,11 +1,8 @@
-use mathlib.Core.Path.{refl}
-use mathlib.Core.Bool.{true}
 use Rattle.forms.specs.Limits.{as_limits}
 use Rattle.forms.specs.Rows.{none_left}
 use Rattle.forms.specs.ValueBytes.{member_row}
 use Rattle.forms.specs.ListBytes.{type_fits}
-use Rattle.forms.specs.Laws.Rows.{RowsLeft, rows_start, rows_end, rows_short, rows-body, rows-again}
-use native.Mathlib.Omega.{arith}
+use Rattle.forms.specs.Laws.Rows.{RowsLeft}
 use Rattle.forms.proofs.lists.types_within.Given as goal
 
 abbrev pub invariant-loop-left : goal.invariant-loop-left

@@ -5,7 +5,6 @@ use Rattle.cedar.specs.ListForm.{parse_list}
 use Rattle.cedar.specs.Whole.{whole_type}
 use Rattle.forms.specs.Laws.Sure.{within-over, within-yes}
 use Rattle.forms.specs.Laws.Lists.{list-twin, list-short, list-many, list_over, list_open}
-use native.Mathlib.Omega.{arith}
 use Rattle.forms.proofs.lists.whole_list.Goals as goal
 
 pub returns-then-l-gt-BLOCK_BYTES : goal.returns-then-l-gt-BLOCK_BYTES

@@ -1,6 +1,5 @@
-use Rattle.forms.specs.Laws.Names.{SameLeft, same_start, same-other, same_end, same-room, same_not, same_more}
+use Rattle.forms.specs.Laws.Names.{same_start, same-other, same_end, same-room, same_not, same_more}
 use native.Mathlib.Omega.{arith}
-use borrow.Author.Rules.{rules}
 use Rattle.forms.proofs.names.same_names.Goals as goal
 
 pub returns-then-n-m : goal.returns-then-n-m

@@ -1,6 +1,4 @@
-use Rattle.forms.specs.Laws.Names.{SameLeft, same_start, same-other, same_end, same-room, same_not, same_more}
-use native.Mathlib.Omega.{arith}
-use borrow.Author.Rules.{rules}
+use Rattle.forms.specs.Laws.Names.{SameLeft}
 use Rattle.forms.proofs.names.same_names.Given as goal
 
 abbrev pub invariant-loop-left : goal.invariant-loop-left

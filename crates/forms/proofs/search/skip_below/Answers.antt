@@ -1,5 +1,5 @@
 use native.Mathlib.Omega.{arith}
-use Rattle.forms.specs.Laws.Search.{SkipLeft, skip-start, skip-end, skip-room, skip-here, skip-fit, skip-again}
+use Rattle.forms.specs.Laws.Search.{skip-start, skip-end, skip-room, skip-here, skip-fit, skip-again}
 use Rattle.forms.proofs.search.skip_below.Goals as goal
 
 pub loop-left-init : goal.loop-left-init

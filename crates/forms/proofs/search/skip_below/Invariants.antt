@@ -1,5 +1,4 @@
-use native.Mathlib.Omega.{arith}
-use Rattle.forms.specs.Laws.Search.{SkipLeft, skip-start, skip-end, skip-room, skip-here, skip-fit, skip-again}
+use Rattle.forms.specs.Laws.Search.{SkipLeft}
 use Rattle.forms.proofs.search.skip_below.Given as goal
 
 abbrev pub invariant-loop-left : goal.invariant-loop-left

@@ -1,7 +1,6 @@
 use mathlib.Core.Path.{ap}
 use Prim.Native.Nat.{ℕ, ◌+◌, ◌*◌}
 use Rattle.forms.specs.Parts.{rest}
-use borrow.Author.Rules.{rules}
 use Rattle.forms.proofs.tables.bodies_at.Goals as goal
 
 pub returns : goal.returns

@@ -1,13 +1,12 @@
 use mathlib.Core.Path.{refl, ap, sym, ◌∙◌}
 use Prim.Native.Nat.{◌+◌, ◌*◌}
 use native.Mathlib.Omega.{arith}
-use Rattle.forms.specs.Rows.{none_left}
 use Rattle.forms.specs.TypeBytes.{attr_row, whole}
 use Rattle.forms.specs.Laws.Parts.{length_part}
-use Rattle.forms.specs.Laws.Rows.{RowsLeft, rows_start, rows_end, rows-unfit, rows_short, rows-body, rows-again, table-short, table-over, table-open}
-use Rattle.forms.specs.Laws.Types.{SetsLeft, sets-start, sets-again, whole-none, whole-empty, whole_by, record-short, record-flag, record-open}
+use Rattle.forms.specs.Laws.Rows.{rows_start, rows_end, rows-unfit, rows_short, rows-body, rows-again, table-short, table-over, table-open}
+use Rattle.forms.specs.Laws.Types.{sets-start, sets-again, whole-none, whole-empty, whole_by, record-short, record-flag, record-open}
 use Rattle.forms.specs.Laws.Types.{unknown-not, atom-open}
-use Prim.Native.Nat.{ℕ, ◌<◌}
+use Prim.Native.Nat.{ℕ}
 use Rattle.forms.proofs.types.+attributes_within_type_within.Goals as goal
 
 pub attributes_within-returns-then-t-start : goal.attributes_within-returns-then-t-start

@@ -1,4 +1,3 @@
-use native.Mathlib.Omega.{arith}
 use mathlib.Core.Path.{sym, ◌∙◌}
 use Rattle.forms.specs.Laws.Types.{entity-short, entity-none, entity-other, entity-open}
 use Rattle.forms.proofs.types.entity_within.Goals as goal

@@ -1,9 +1,4 @@
-use Prim.Native.Nat.{◌*◌, ◌≤◌}
-use mathlib.Core.Path.{◌≡◌, refl}
-use lib.ListN.{length}
-use native.Mathlib.Omega.{arith}
-use Rattle.forms.specs.TypeBytes.{names_up}
-use Rattle.forms.specs.Laws.Types.{NamesLeft, names-start, names-low, names-again, names-end}
+use Rattle.forms.specs.Laws.Types.{names-start, names-low, names-again, names-end}
 use Rattle.forms.proofs.types.names_ascend.Goals as goal
 
 pub loop-left-init : goal.loop-left-init

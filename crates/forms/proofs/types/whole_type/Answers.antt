@@ -1,4 +1,3 @@
-use native.Mathlib.Omega.{arith}
 use Rattle.cedar.specs.TypeForm.{parse}
 use Rattle.forms.specs.Laws.Sure.{within-over, within-yes}
 use Rattle.forms.specs.Laws.TypeTwin.{type-twin}

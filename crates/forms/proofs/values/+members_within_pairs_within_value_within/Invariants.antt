@@ -1,16 +1,7 @@
-use mathlib.Core.Path.{refl, ap, sym, ◌∙◌}
-use mathlib.Core.Bool.{true}
 use Prim.Native.Nat.{◌+◌, ◌*◌}
-use native.Mathlib.Omega.{arith}
-use lib.Dec.{leb}
-use borrow.Author.Tests.{lt-leb, le-leb}
-use Rattle.forms.specs.Parts.{rd}
 use Rattle.forms.specs.Rows.{none_left}
 use Rattle.forms.specs.ValueBytes.{member_row, pair_row, whole_v}
-use Rattle.forms.specs.Laws.Parts.{length_part}
-use Rattle.forms.specs.Laws.Rows.{RowsLeft, rows_start, rows_end, rows-unfit, rows_short, rows-body, rows-again, table-short, table-over, table-open}
-use Rattle.forms.specs.Laws.Values.{value_none, value-empty, value-by, string-short, string-open, unknown-no-value, boolean-open}
-use Prim.Native.Nat.{ℕ, ◌<◌}
+use Rattle.forms.specs.Laws.Rows.{RowsLeft}
 use Rattle.forms.proofs.values.+members_within_pairs_within_value_within.Given as goal
 
 abbrev pub decreases-members_within : goal.decreases-members_within

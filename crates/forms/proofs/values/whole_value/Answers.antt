@@ -1,4 +1,3 @@
-use native.Mathlib.Omega.{arith}
 use Rattle.cedar.specs.ValueForm.{parse_value}
 use Rattle.forms.specs.Laws.Sure.{within-over, within-yes}
 use Rattle.forms.specs.Laws.ValueTwin.{value-twin}

@@ -1,27 +1,7 @@
-use mathlib.Core.Path.{ap, sym, ◌∙◌}
-use mathlib.Core.List.{List}
-use mathlib.Core.Logic.{inl, inr}
-use Rattle.cedar.specs.Levels.{depth, depth_value}
-use Prim.Native.Nat.{suc, ◌+◌, ◌*◌, ◌-◌, max}
-use native.Mathlib.Omega.{arith}
-use borrow.Author.Rules.{rules}
-use Rattle.forms.specs.Rows.{body_row}
-use Rattle.forms.specs.TypeBytes.{whole, dec}
-use Rattle.forms.specs.ValueBytes.{member_row, pair_row, whole_v, dec_v}
-use Rattle.forms.specs.Laws.Parts.{rest_0}
-use Rattle.forms.specs.Laws.Bytes.{Bytes-index}
-use Rattle.forms.specs.Laws.Bodies.{table-bodies}
-use Rattle.forms.specs.Laws.Ahead.{table-count, table-entries, ahead-room, ahead-inside, ahead-body}
-use Rattle.forms.specs.Laws.Views.{not-empty, whole-level, is_set}
-use Rattle.forms.specs.Laws.Values.{value-level, value-first, value_as}
-use Rattle.levels.specs.declared.depths.Form.{Form}
-use Rattle.levels.specs.declared.depths.Form.TheVariants.{Types as types, Values as values}
-use Rattle.levels.specs.Deepest.{whole_form, levels_in, deepest_at}
-use Rattle.levels.specs.Laws.Deepest.{levels-bounds, BodiesAhead, bodies-none, bodies-start, bodies-left, bodies-end, bodies-passed, bodies-again}
-use Rattle.levels.specs.Laws.Deepest.{SetsAbove, sets-start, sets-again, sets_end}
-use Rattle.levels.specs.Laws.Deepest.{record-levels, action-levels, lone-levels, record-bodies, action-bodies}
-use Rattle.levels.specs.Laws.Deepest.{set-value-levels, record-value-levels, call-levels, lone-value-levels}
-use Prim.Native.Nat.{ℕ, ◌<◌}
+use Prim.Native.Nat.{◌+◌, ◌*◌}
+use Rattle.levels.specs.Deepest.{deepest_at}
+use Rattle.levels.specs.Laws.Deepest.{BodiesAhead}
+use Rattle.levels.specs.Laws.Deepest.{SetsAbove}
 use Rattle.levels.proofs.depths.+deeper_deepest_body_type_levels_value_levels.Given as goal
 
 abbrev pub decreases-deeper : goal.decreases-deeper

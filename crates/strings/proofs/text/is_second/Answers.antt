@@ -1,5 +1,4 @@
 use Rattle.strings.specs.Laws.Steps.{second-E0, second-ED, second-F0, second-F4, second-other}
-use borrow.Author.Rules.{rules}
 use Rattle.strings.proofs.text.is_second.Goals as goal
 
 pub returns-in-224 : goal.returns-in-224

@@ -1,7 +1,4 @@
-use Prim.Native.Nat.{◌-◌}
-use lib.ListN.{length}
 use native.Mathlib.Omega.{arith}
-use Rattle.strings.specs.Steps.{Passes}
 use Rattle.strings.specs.Laws.Steps.{passes_none, passes-thrice, passes_on, text-yes, text-no}
 use Rattle.strings.proofs.text.is_text.Goals as goal
 

@@ -1,8 +1,6 @@
 use Prim.Native.Nat.{◌-◌}
 use lib.ListN.{length}
-use native.Mathlib.Omega.{arith}
 use Rattle.strings.specs.Steps.{Passes}
-use Rattle.strings.specs.Laws.Steps.{passes_none, passes-thrice, passes_on, text-yes, text-no}
 use Rattle.strings.proofs.text.is_text.Given as goal
 
 abbrev pub invariant-loop-i : goal.invariant-loop-i

@@ -1,8 +1,5 @@
-use Prim.Native.Nat.{◌-◌}
-use lib.ListN.{length}
 use native.Mathlib.Omega.{arith}
 use borrow.Author.Tests.{not-false}
-use Rattle.strings.specs.Steps.{Passes}
 use Rattle.strings.specs.Laws.Steps.{passes_none, passes-block}
 use Rattle.strings.proofs.text.pass_blocks.Goals as goal
 

@@ -1,7 +1,4 @@
-use Prim.Native.Nat.{◌-◌}
-use lib.ListN.{length}
 use native.Mathlib.Omega.{arith}
-use Rattle.strings.specs.Steps.{Passes}
 use Rattle.strings.specs.Laws.Steps.{passes_none, passes-plain}
 use Rattle.strings.proofs.text.pass_plain.Goals as goal
 

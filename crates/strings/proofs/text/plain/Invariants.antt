@@ -1,7 +1,5 @@
 use Prim.Native.Nat.{◌≤◌, ◌<◌, ◌-◌}
-use native.Mathlib.Omega.{arith}
 use Rattle.strings.specs.Steps.{Plain}
-use Rattle.strings.specs.Laws.Steps.{plain-none, plain_more, plain_end}
 use Rattle.strings.proofs.text.plain.Given as goal
 
 abbrev pub invariant-loop-j : goal.invariant-loop-j

@@ -1,7 +1,6 @@
 use native.Mathlib.Omega.{arith}
 use Prim.Native.Nat.{ℕ}
 use mathlib.Core.Path.{◌≡◌}
-use borrow.Author.Rules.{rules}
 use Rattle.strings.proofs.text.plain_goes_on.Goals as goal
 
 pub returns-then-b-at-ge128 : goal.returns-then-b-at-ge128

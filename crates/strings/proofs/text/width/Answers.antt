@@ -1,6 +1,5 @@
 use native.Mathlib.Omega.{arith}
 use Rattle.strings.specs.Laws.Steps.{width-plain, width_low, width-high}
-use borrow.Author.Rules.{rules}
 use Rattle.strings.proofs.text.width.Goals as goal
 
 pub returns-then-x-lt128 : goal.returns-then-x-lt128

@@ -1,7 +1,6 @@
 use native.Mathlib.Omega.{arith}
 use borrow.Author.Tests.{not-true, not-false}
 use Rattle.strings.specs.Laws.Steps.{four-short, four-second, four-third, four-no, four-yes}
-use borrow.Author.Rules.{rules}
 use Rattle.strings.proofs.text.width_four.Goals as goal
 
 pub returns-then-b-at-lt4 : goal.returns-then-b-at-lt4

@@ -1,7 +1,6 @@
 use native.Mathlib.Omega.{arith}
 use borrow.Author.Tests.{not-true, not-false}
 use Rattle.strings.specs.Laws.Steps.{three-short, three-second, three-no, three-yes}
-use borrow.Author.Rules.{rules}
 use Rattle.strings.proofs.text.width_three.Goals as goal
 
 pub returns-then-b-at-lt3 : goal.returns-then-b-at-lt3

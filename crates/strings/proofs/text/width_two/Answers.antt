@@ -1,6 +1,5 @@
 use native.Mathlib.Omega.{arith}
 use Rattle.strings.specs.Laws.Steps.{two-short, two-no, two-yes}
-use borrow.Author.Rules.{rules}
 use Rattle.strings.proofs.text.width_two.Goals as goal
 
 pub returns-then-b-at-lt2 : goal.returns-then-b-at-lt2

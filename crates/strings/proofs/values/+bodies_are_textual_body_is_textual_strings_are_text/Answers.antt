@@ -1,7 +1,6 @@
 use mathlib.Core.Path.{ap, ◌∙◌}
 use mathlib.Core.List.{List}
-use mathlib.Core.Bool.{true}
-use Prim.Native.Nat.{◌+◌, ◌*◌, ◌-◌}
+use Prim.Native.Nat.{◌-◌}
 use native.Mathlib.Omega.{arith}
 use Rattle.cedar.specs.Text.{textual_values}
 use Rattle.forms.specs.Rows.{body_row}
@@ -11,10 +10,10 @@ use Rattle.forms.specs.Laws.Bodies.{table-bodies}
 use Rattle.forms.specs.Laws.Ahead.{table-count, table-entries, ahead-room, ahead-inside, ahead-body}
 use Rattle.forms.specs.Laws.Values.{value-level, value-first, value_as}
 use Rattle.strings.specs.Bodies.{bodies_at}
-use Rattle.strings.specs.Laws.Bodies.{BodiesAhead, bodies-start, bodies-end, bodies-stop, bodies-again}
+use Rattle.strings.specs.Laws.Bodies.{bodies-start, bodies-end, bodies-stop, bodies-again}
 use Rattle.strings.specs.Laws.Bodies.{string-room, textual-string, textual-set, textual-record, textual-call, textual-other}
 use Rattle.strings.specs.Laws.Plain.{plain-bodies}
-use Prim.Native.Nat.{ℕ, ◌<◌}
+use Prim.Native.Nat.{ℕ}
 use Rattle.strings.proofs.values.+bodies_are_textual_body_is_textual_strings_are_text.Goals as goal
 
 pub bodies_are_textual-u16_at-n-requires : goal.bodies_are_textual-u16_at-n-requires

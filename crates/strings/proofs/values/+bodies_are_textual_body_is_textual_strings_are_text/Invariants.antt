@@ -1,20 +1,7 @@
-use mathlib.Core.Path.{ap, ◌∙◌}
-use mathlib.Core.List.{List}
-use mathlib.Core.Bool.{true}
-use Prim.Native.Nat.{◌+◌, ◌*◌, ◌-◌}
-use native.Mathlib.Omega.{arith}
+use Prim.Native.Nat.{◌+◌, ◌*◌}
 use Rattle.cedar.specs.Text.{textual_values}
-use Rattle.forms.specs.Rows.{body_row}
-use Rattle.forms.specs.ValueBytes.{pair_row, whole_v}
-use Rattle.forms.specs.Laws.Parts.{rest_0}
-use Rattle.forms.specs.Laws.Bodies.{table-bodies}
-use Rattle.forms.specs.Laws.Ahead.{table-count, table-entries, ahead-room, ahead-inside, ahead-body}
-use Rattle.forms.specs.Laws.Values.{value-level, value-first, value_as}
 use Rattle.strings.specs.Bodies.{bodies_at}
-use Rattle.strings.specs.Laws.Bodies.{BodiesAhead, bodies-start, bodies-end, bodies-stop, bodies-again}
-use Rattle.strings.specs.Laws.Bodies.{string-room, textual-string, textual-set, textual-record, textual-call, textual-other}
-use Rattle.strings.specs.Laws.Plain.{plain-bodies}
-use Prim.Native.Nat.{ℕ, ◌<◌}
+use Rattle.strings.specs.Laws.Bodies.{BodiesAhead}
 use Rattle.strings.proofs.values.+bodies_are_textual_body_is_textual_strings_are_text.Given as goal
 
 abbrev pub decreases-bodies_are_textual : goal.decreases-bodies_are_textual

@@ -1,8 +1,5 @@
 use Rattle.writing.specs.Laws.Writing.{copy_more, copy-length, copy-end}
-use Rattle.cedar.specs.Outcome.{over}
-use Prim.Native.Nat.{◌≤◌, ◌-◌}
-use lib.ListN.{length, take}
-use mathlib.Core.Path.{◌≡◌, refl}
+use mathlib.Core.Path.{refl}
 use native.Mathlib.Omega.{arith}
 use Rattle.writing.proofs.writers.copy.Goals as goal
 

@@ -1,9 +1,7 @@
-use Rattle.writing.specs.Laws.Writing.{copy_more, copy-length, copy-end}
 use Rattle.cedar.specs.Outcome.{over}
 use Prim.Native.Nat.{◌≤◌, ◌-◌}
 use lib.ListN.{length, take}
-use mathlib.Core.Path.{◌≡◌, refl}
-use native.Mathlib.Omega.{arith}
+use mathlib.Core.Path.{◌≡◌}
 use Rattle.writing.proofs.writers.copy.Given as goal
 
 abbrev pub invariant-loop-i : goal.invariant-loop-i

@@ -1,6 +1,5 @@
 use lib.Seq.{sets-eq}
 use mathlib.Core.List.{[], ◌∷◌}
-use borrow.Author.Rules.{rules}
 use Rattle.writing.proofs.writers.put_name.Goals as goal
 
 pub returns : goal.returns

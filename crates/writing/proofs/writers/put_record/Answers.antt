@@ -2,7 +2,6 @@ use lib.ListN.{length-set}
 use native.Mathlib.Omega.{arith}
 use lib.Seq.{sets-eq}
 use mathlib.Core.List.{[], ◌∷◌}
-use borrow.Author.Rules.{rules}
 use Rattle.writing.proofs.writers.put_record.Goals as goal
 
 pub bounds-out-1 : goal.bounds-out-1

@@ -4,7 +4,6 @@ use Prim.Native.Nat.{◌+◌}
 use Rattle.writing.specs.FormLengths.{plus, cap}
 use Rattle.writing.specs.declared.form_lengths.FormLength.{FormLength}
 use Rattle.writing.specs.declared.form_lengths.FormLength.TheVariants.{Of}
-use borrow.Author.Rules.{rules}
 use Rattle.writing.proofs.form_lengths.FormLength.plus.Goals as goal
 
 pub returns-in-Of : goal.returns-in-Of
