@@ -5,7 +5,7 @@ use Rattle.cedar.specs.Types.{Mode, is_permissive, eq_flag, Ty, Attrs}
 use Rattle.cedar.specs.TypeForm.{count, enc}
 use Rattle.cedar.specs.Result.{Result, ok, err, attribute_qualifier, record_width}
 use Rattle.cedar.specs.Bound.{same_names}
-use Rattle.cedar.proofs.Laws.DirectBound.{direct, direct_attrs}
+use Rattle.cedar.specs.Laws.DirectBound.{direct, direct_attrs}
 use Rattle.forms.specs.Parts.{rd}
 use Rattle.forms.specs.TypeBytes.{Sound}
 use Rattle.writing.specs.declared.form_lengths.FormLength.{FormLength}

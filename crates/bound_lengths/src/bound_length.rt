@@ -2,7 +2,7 @@
 ghost use Rattle.std.specs.Prelude.{◌≡◌, true, ◌+◌, ◌*◌, ◌≤◌, ◌-◌, eqb, length, get_or};
 ghost use Rattle.cedar.specs.Types.{find as findAttr};
 ghost use Rattle.cedar.specs.TypeForm.{enc};
-ghost use Rattle.cedar.proofs.Laws.DirectBound.{direct, direct_names};
+ghost use Rattle.cedar.specs.Laws.DirectBound.{direct, direct_names};
 ghost use Rattle.forms.specs.Parts.{rd, rest, kind};
 ghost use Rattle.forms.specs.TypeBytes.{whole, dec, dec_a, names_up, names_by};
 ghost use Rattle.writing.specs.FormLengths.{form_length_of};

@@ -4,7 +4,7 @@ ghost use Rattle.cedar.specs.Types.{strict, ent, find as findAttr};
 ghost use Rattle.cedar.specs.TypeForm.{enc};
 ghost use Rattle.cedar.specs.Result.{ok};
 ghost use Rattle.cedar.specs.Bound.{union};
-ghost use Rattle.cedar.proofs.Laws.DirectBound.{direct};
+ghost use Rattle.cedar.specs.Laws.DirectBound.{direct};
 ghost use Rattle.forms.specs.Parts.{rd, rest, kind};
 ghost use Rattle.forms.specs.TypeBytes.{whole, dec, dec_a, names_up, names_by};
 ghost use Rattle.writing.specs.FormLengths.{table, form_of, Ready};

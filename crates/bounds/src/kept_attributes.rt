@@ -2,7 +2,7 @@
 // records always have one, and loose two sets, so no part of theirs is looked at.
 ghost use Rattle.std.specs.Prelude.{◌≡◌, true, cond, ◌≤◌, eqb, length, get_or};
 ghost use Rattle.cedar.specs.Types.{is_permissive, find as findAttr};
-ghost use Rattle.cedar.proofs.Laws.DirectBound.{direct};
+ghost use Rattle.cedar.specs.Laws.DirectBound.{direct};
 ghost use Rattle.forms.specs.Parts.{rd};
 ghost use Rattle.forms.specs.TypeBytes.{whole, dec, dec_a};
 ghost use Rattle.forms.specs.Modes.{as_mode};

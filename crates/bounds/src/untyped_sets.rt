@@ -2,7 +2,7 @@
 ghost use Rattle.std.specs.Prelude.{◌≡◌, true, not, ◌-◌};
 ghost use Rattle.cedar.specs.TypeForm.{enc};
 ghost use Rattle.cedar.specs.Bound.{join_set};
-ghost use Rattle.cedar.proofs.Laws.DirectBound.{direct};
+ghost use Rattle.cedar.specs.Laws.DirectBound.{direct};
 ghost use Rattle.forms.specs.TypeBytes.{whole, dec};
 ghost use Rattle.forms.specs.Modes.{as_mode};
 ghost use Rattle.writing.specs.FormLengths.{form_of};

@@ -1,6 +1,5 @@
 -- What is proved of the definitions, one module a concept.
 pub mod Shape
-pub mod DirectBound
 pub mod Encoders
 pub mod Tests
 pub mod Equality

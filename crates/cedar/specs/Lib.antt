@@ -28,3 +28,4 @@ pub mod Conforms
 pub mod Sequence
 pub mod JobForm
 pub mod Lines
+pub mod Laws

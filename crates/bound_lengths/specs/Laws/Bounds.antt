@@ -10,7 +10,7 @@ use Rattle.cedar.specs.Result.{Result, ok, err, bind}
 use Rattle.cedar.specs.Subtype.{sub}
 use Rattle.cedar.specs.Bound.{bound, join_record, join_set, lost}
 use Rattle.cedar.specs.Limits.{most_bytes}
-use Rattle.cedar.proofs.Laws.DirectBound.{direct, direct_names}
+use Rattle.cedar.specs.Laws.DirectBound.{direct, direct_names}
 use Rattle.cedar.proofs.Laws.TypeForm.{parse-iff}
 use Rattle.forms.specs.Parts.{part, rest, rd, kind}
 use Rattle.forms.specs.TypeBytes.{whole, dec, dec_a, names_by}

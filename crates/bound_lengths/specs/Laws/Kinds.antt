@@ -6,7 +6,7 @@ use Rattle.cedar.specs.TypeForm.{enc}
 use Rattle.cedar.specs.Result.{Result, ok, err}
 use Rattle.cedar.specs.Subtype.{sub}
 use Rattle.cedar.specs.Bound.{bound}
-use Rattle.cedar.proofs.Laws.DirectBound.{direct}
+use Rattle.cedar.specs.Laws.DirectBound.{direct}
 use Rattle.writing.specs.declared.form_lengths.FormLength.TheVariants.{Of, Not}
 use Rattle.bound_lengths.specs.declared.kinds.Joined.{Joined}
 use Rattle.bound_lengths.specs.declared.kinds.Joined.TheVariants.{Kind, Not as JoinedNot}

@@ -5,7 +5,7 @@ use Rattle.std.proofs.Math.Decide.{dec_lt}
 use Rattle.std.proofs.lemmas.Bool.{lt-leb}
 use Rattle.cedar.specs.Types.{Mode, is_permissive, ent, eq_names}
 use Rattle.cedar.specs.TypeForm.{enc}
-use Rattle.cedar.proofs.Laws.DirectBound.{direct_names}
+use Rattle.cedar.specs.Laws.DirectBound.{direct_names}
 use Rattle.writing.specs.declared.form_lengths.FormLength.TheVariants.{Of, Not}
 use Rattle.writing.specs.FormLengths.{cap, form_length_of}
 use Rattle.cedar.proofs.Laws.Shape.{Ascend}

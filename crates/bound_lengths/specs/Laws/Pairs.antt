@@ -10,7 +10,7 @@ use Rattle.cedar.specs.TypeForm.{enc}
 use Rattle.cedar.specs.Result.{Result, ok, err, bind, attribute_qualifier, record_width}
 use Rattle.cedar.specs.Bound.{absent, join_kept, join_equal, join_one}
 use Rattle.cedar.specs.Limits.{most_bytes}
-use Rattle.cedar.proofs.Laws.DirectBound.{direct, direct_attrs}
+use Rattle.cedar.specs.Laws.DirectBound.{direct, direct_attrs}
 use Rattle.forms.specs.Parts.{part, rest, rd}
 use Rattle.forms.specs.TypeBytes.{dec_a, whole, dec, Sound, names_by}
 use Rattle.forms.specs.Laws.Attributes.{Entry, entry, entry_more, attrs-none, find-under, Past}

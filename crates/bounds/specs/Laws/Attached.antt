@@ -8,7 +8,7 @@ use Rattle.cedar.specs.TypeForm.{enc, bodies}
 use Rattle.cedar.specs.Result.{Result, ok, err}
 use Rattle.cedar.specs.Outcome.{over}
 use Rattle.cedar.specs.Limits.{most_bytes}
-use Rattle.cedar.proofs.Laws.DirectBound.{direct}
+use Rattle.cedar.specs.Laws.DirectBound.{direct}
 use Rattle.forms.specs.Parts.{rest}
 use Rattle.writing.specs.Written.{Written}
 use Rattle.writing.specs.FormLengths.{form_of, Ready}

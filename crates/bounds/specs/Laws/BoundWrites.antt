@@ -13,7 +13,7 @@ use Rattle.cedar.specs.TypeForm.{count, enc, entries, bodies}
 use Rattle.cedar.specs.Result.{Result, ok, err, bind}
 use Rattle.cedar.specs.Outcome.{over}
 use Rattle.cedar.specs.Bound.{union, join_record, join_set}
-use Rattle.cedar.proofs.Laws.DirectBound.{direct, direct_attrs, direct_names}
+use Rattle.cedar.specs.Laws.DirectBound.{direct, direct_attrs, direct_names}
 use Rattle.cedar.proofs.Laws.Join.{join_attrs-join}
 use Rattle.cedar.proofs.Laws.Lost.{lost-count}
 use Rattle.cedar.proofs.Laws.Direct.{direct_attrs-bound}

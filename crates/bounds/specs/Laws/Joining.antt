@@ -9,7 +9,7 @@ use Rattle.cedar.specs.Bytes.{u16, flag}
 use Rattle.cedar.specs.Result.{Result, ok, err}
 use Rattle.cedar.specs.Outcome.{over}
 use Rattle.cedar.specs.Limits.{most_bytes}
-use Rattle.cedar.proofs.Laws.DirectBound.{direct, direct_attrs}
+use Rattle.cedar.specs.Laws.DirectBound.{direct, direct_attrs}
 use Rattle.forms.specs.Parts.{part, rest, rd}
 use Rattle.forms.specs.Search.{below, used}
 use Rattle.forms.specs.TypeBytes.{whole, dec, dec_a}

@@ -7,7 +7,7 @@ use Rattle.cedar.specs.Types.{Mode, is_permissive, is_loose, eq_names, eq_flag, 
 use Rattle.cedar.specs.TypeForm.{count, enc}
 use Rattle.cedar.specs.Result.{Result, ok, err, bind}
 use Rattle.cedar.specs.Bound.{absent, join_equal, join_kept, join_one, join_record}
-use Rattle.cedar.proofs.Laws.DirectBound.{direct, direct_attrs}
+use Rattle.cedar.specs.Laws.DirectBound.{direct, direct_attrs}
 use Rattle.forms.specs.Parts.{part, rest, rd, kind}
 use Rattle.forms.specs.Search.{below, used, found_at}
 use Rattle.forms.specs.declared.search.Found.{Found}

@@ -9,7 +9,7 @@ use Rattle.cedar.proofs.Laws.Shape.{Ascend, Ordered, OrderedFrom}
 use Rattle.cedar.specs.Subtype.{sub_flag, sub_names, sub_record, sub, sub_attrs}
 use Rattle.cedar.specs.Result.{Result, ok, bind}
 use Rattle.cedar.specs.Bound.{apart, lost, same_names, absent, join_one, join_set, join_record, upper, bound, join_attrs}
-use Rattle.cedar.proofs.Laws.DirectBound.{direct_names, direct, direct_attrs}
+use Rattle.cedar.specs.Laws.DirectBound.{direct_names, direct, direct_attrs}
 use Rattle.cedar.proofs.Laws.Tests.{T_and, and_T, T-or, or_inl, or_inr, or_map, or-false, T→true, not-T→false, T-ext}
 use Rattle.cedar.proofs.Laws.Tests.{cond_both, maybe-cong, eqb-true, compare-names}
 use Rattle.cedar.proofs.Laws.Equality.{is→eq, eq_flag-refl, eq_names→eq, eq_names-refl, eq_names-sym, same→eq}

@@ -11,7 +11,7 @@ use Rattle.cedar.specs.TypeForm.{enc}
 use Rattle.cedar.specs.Limits.{Limits, most_bytes}
 use Rattle.cedar.specs.Result.{Result, ok}
 use Rattle.cedar.specs.Bound.{bound}
-use Rattle.cedar.proofs.Laws.DirectBound.{direct}
+use Rattle.cedar.specs.Laws.DirectBound.{direct}
 use Rattle.cedar.specs.Outcome.{over}
 use Rattle.cedar.specs.Calls.{step_fits}
 use Rattle.cedar.proofs.Laws.TypeForm.{parse-iff}

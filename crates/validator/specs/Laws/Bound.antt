@@ -9,7 +9,7 @@ use Rattle.cedar.specs.Whole.{whole_type, whole_schema}
 use Rattle.cedar.specs.Result.{ok}
 use Rattle.cedar.specs.Outcome.{refused}
 use Rattle.cedar.specs.Bound.{bound}
-use Rattle.cedar.proofs.Laws.DirectBound.{direct}
+use Rattle.cedar.specs.Laws.DirectBound.{direct}
 use Rattle.cedar.specs.Calls.{mode_of, write_type, bound_call}
 use Rattle.cedar.proofs.Laws.Whole.{whole_type-reads}
 use Rattle.cedar.proofs.Laws.Direct.{direct-bound}

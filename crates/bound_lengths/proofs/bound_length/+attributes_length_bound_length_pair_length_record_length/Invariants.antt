@@ -1,6 +1,6 @@
 use Prim.Native.Nat.{◌+◌, ◌*◌, ◌-◌, ◌≤◌}
 use Rattle.bound_lengths.specs.Pairs.{joined_attrs}
-use Rattle.cedar.proofs.Laws.DirectBound.{direct_attrs}
+use Rattle.cedar.specs.Laws.DirectBound.{direct_attrs}
 use Rattle.forms.specs.TypeBytes.{dec, dec_a}
 use Rattle.forms.specs.Modes.{as_mode}
 use Rattle.forms.specs.Tables.{attrs_at}
