@@ -12,7 +12,7 @@ RT_JOBS says how many checks run side by side, up to four if it is not set. They
 crates/CRATE/must-fail/LABEL.edit has an edit to a paragraph:
 
     # NAME: the fact
-    fails: MODULE::FUNCTION         the function whose proof breaks; or 'specs/FILE.antt LAW'
+    fails: MODULE::FUNCTION         the function whose proof breaks; or a law, 'FILE.antt LAW' with its path
     file: PATH                      and what rt reads: the file,
     old: TEXT                       a text that stands in it once,
     new: TEXT                       and what replaces it
