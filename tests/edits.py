@@ -151,12 +151,12 @@ def unfit(together, texts):
 
 
 def belongs(function, file, name):
-    """Whether a declaration of a proof file is of the function's proof. Functions that call each other have one folder, whose name
-    starts with '+'; there each name starts with its function's."""
+    """Whether a declaration of a proof file is of the function's proof. A function that calls itself has a folder whose name starts
+    with '+', and so have functions that call each other; there each name starts with its function's."""
     *path, own = function.split("::")
     folder, _, last = file.rpartition("/")[0].rpartition("/")
-    above = "/".join(["proofs", *path])
-    return (folder, last) == (above, own) or folder == above and last.startswith("+") and name.partition("-")[0] == own
+    is_own = last in (own, f"+{own}") or last.startswith("+") and name.partition("-")[0] == own
+    return is_own and folder == "/".join(["proofs", *path])
 
 
 def errors(log, edit):
@@ -324,6 +324,7 @@ def log_tests(edit, texts):
     logs = {
         "a mismatch": (True, f"{PLACE}`returns`: {mismatch}"),
         "a mismatch of one function of several": (True, f"{GROUP}`lower-returns`: {mismatch}"),
+        "a mismatch of a function that calls itself": (True, f"{PLACE.replace('lower', '+lower')}`returns`: {mismatch}"),
         "a tactic that finds no proof": (True, f"{PLACE}`returns`: `omega`: the goal does not follow from what it read."),
         "a goal that is not proved": (True, f"{GOAL.format(1)}\nfn c::sizes::lower: no proof"),
         "a goal that is false, and a name that is gone": (True, f"{gone}\n{GOAL.format(1)}; the facts known there {FALSE}"),
