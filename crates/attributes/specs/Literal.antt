@@ -10,7 +10,7 @@ use Rattle.cedar.specs.Literal.{literal}
 use Rattle.forms.specs.Parts.{part, rest}
 use Rattle.schemas.specs.SchemaBytes.{dec_s}
 use Rattle.schemas.specs.Entries.{open_at, body_attrs}
-use Rattle.schemas.proofs.Laws.Finders.{BodyAt}
+use Rattle.schemas.specs.Laws.Finders.{BodyAt}
 use Rattle.attributes.specs.declared.euid_literal.Literal.{Literal}
 use Rattle.attributes.specs.declared.euid_literal.Literal.TheVariants.{Action, Entity, Nothing}
 

@@ -1,5 +1,4 @@
 -- What is proved of the definitions, one module a concept.
-pub mod Shape
 pub mod Encoders
 pub mod Tests
 pub mod Equality

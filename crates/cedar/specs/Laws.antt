@@ -1,2 +1,4 @@
--- The bound part by part, which contracts of code cite; what is proved of it stands in proofs/.
+-- What laws speak of beside the definitions: types in order, and the bound part by part, which contracts of code cite. What is proved
+-- stands in proofs/Laws.
+pub mod Shape
 pub mod DirectBound

@@ -1,4 +1,4 @@
--- Document 01 as definitions. What stands here is believed; what is proved of it stands below Laws.
+-- Document 01 as definitions. What stands here is believed; what is proved of it stands in proofs/Laws.
 pub mod Types
 pub mod Bytes
 pub mod Table

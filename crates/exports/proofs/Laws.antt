@@ -1,4 +1,2 @@
--- Laws for the exports' proofs.
+-- Laws on which the edit of a definition is judged.
 pub mod Numbers
-pub mod Brief
-pub mod Checks

@@ -1,3 +1,4 @@
 pub mod SchemaBytes
 pub mod Offsets
 pub mod Entries
+pub mod Laws

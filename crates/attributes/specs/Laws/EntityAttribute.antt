@@ -10,7 +10,7 @@ use Rattle.forms.specs.TypeBytes.{whole, dec, names_by}
 use Rattle.forms.specs.Laws.Parts.{drop-take, length_part}
 use Rattle.forms.specs.Laws.Names.{names-of-entries}
 use Rattle.schemas.specs.SchemaBytes.{dec_s}
-use Rattle.schemas.proofs.Laws.Finders.{EntityAt}
+use Rattle.schemas.specs.Laws.Finders.{EntityAt}
 use Rattle.attributes.specs.declared.own_attribute.Place.{Place}
 use Rattle.attributes.specs.declared.own_attribute.Place.TheVariants.{At as PlaceAt, Nothing}
 use Rattle.attributes.specs.declared.entity_attribute.EntityAttribute.{EntityAttribute}

@@ -16,7 +16,7 @@ use Rattle.forms.specs.TypeBytes.{dec}
 use Rattle.forms.specs.Laws.Parts.{rest-is, length_rest, length_part}
 use Rattle.schemas.specs.SchemaBytes.{dec_s}
 use Rattle.schemas.specs.Entries.{open_at, body_attrs}
-use Rattle.schemas.proofs.Laws.Finders.{BodyAt, EntityAt, ActionAt}
+use Rattle.schemas.specs.Laws.Finders.{BodyAt, EntityAt, ActionAt}
 use Rattle.writing.specs.Laws.Writing.{back, over-at, room_at}
 use Rattle.attributes.specs.declared.euid_literal.Literal.{Literal}
 use Rattle.attributes.specs.declared.euid_literal.Literal.TheVariants.{Action, Entity, Nothing}

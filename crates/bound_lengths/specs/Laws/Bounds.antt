@@ -4,7 +4,7 @@ use Rattle.std.proofs.Math.Path.{refl, sym}
 use Rattle.std.proofs.Common.{ap, ap₂, ◌∙◌, arith, drop-drop}
 use borrow.Author.Tests.{eq-eqb, ne_eqb}
 use Rattle.cedar.specs.Types.{Mode, strict, Atom, never, true', false', bool, long, string, anyset, anyent, Ty, atom, set, rec, act, ent, ext, Attrs, same}
-use Rattle.cedar.proofs.Laws.Shape.{WF, Ordered}
+use Rattle.cedar.specs.Laws.Shape.{WF, Ordered}
 use Rattle.cedar.specs.TypeForm.{atom_code, enc, one, kind_of}
 use Rattle.cedar.specs.Result.{Result, ok, err, bind}
 use Rattle.cedar.specs.Subtype.{sub}

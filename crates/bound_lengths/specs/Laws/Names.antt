@@ -8,7 +8,7 @@ use Rattle.cedar.specs.TypeForm.{enc}
 use Rattle.cedar.specs.Laws.DirectBound.{direct_names}
 use Rattle.writing.specs.declared.form_lengths.FormLength.TheVariants.{Of, Not}
 use Rattle.writing.specs.FormLengths.{cap, form_length_of}
-use Rattle.cedar.proofs.Laws.Shape.{Ascend}
+use Rattle.cedar.specs.Laws.Shape.{Ascend}
 use Rattle.cedar.specs.Bound.{insert, union}
 use Rattle.cedar.proofs.Laws.Names.{union-ascend}
 use Rattle.forms.specs.Parts.{rest, rd}

@@ -8,7 +8,7 @@ use Rattle.std.proofs.Math.ListN.{take}
 use Rattle.std.proofs.lemmas.Bool.{not-true, not-false}
 use Rattle.cedar.specs.Types.{Mode, strict, is_permissive, eq_names, anyset, Ty, atom, set, rec, act, ent, ext, Attrs}
 use Rattle.cedar.specs.Bytes.{u16, flag, enc_names}
-use Rattle.cedar.proofs.Laws.Shape.{Ordered}
+use Rattle.cedar.specs.Laws.Shape.{Ordered}
 use Rattle.cedar.specs.TypeForm.{count, enc, entries, bodies}
 use Rattle.cedar.specs.Result.{Result, ok, err, bind}
 use Rattle.cedar.specs.Outcome.{over}

@@ -9,7 +9,7 @@ use Rattle.std.proofs.Math.Dec.{T}
 use Rattle.cedar.specs.Types.{permissive, Atom, never, true', false', bool, long, string, anyset, anyent, Ty, atom, set, rec, act, ent, ext, Attrs, nil}
 use Rattle.cedar.specs.Types.{Entity, Schema, maybe, present, is, mem, find, as_act}
 use Rattle.cedar.specs.Types.{Value, boolean, number, text, uid, set_of, record_of, call, Pairs, empty, pair}
-use Rattle.cedar.proofs.Laws.Shape.{Ordered, OrderedFrom}
+use Rattle.cedar.specs.Laws.Shape.{Ordered, OrderedFrom}
 use Rattle.cedar.specs.Result.{ok}
 use Rattle.cedar.specs.Bound.{bound}
 use Rattle.cedar.specs.Text.{textual, textual_pairs}

@@ -5,7 +5,7 @@ use Rattle.std.proofs.Math.Nat.{le-max_left, le-max_right}
 use Rattle.std.proofs.Math.Option.{Option, none, some, some-injective}
 use Rattle.cedar.specs.Types.{Ty, Attrs, nil, attr, present, eq_names, mem, names, find}
 use Rattle.cedar.specs.Levels.{depth, depths}
-use Rattle.cedar.proofs.Laws.Shape.{Ascend, Ordered, OrderedFrom}
+use Rattle.cedar.specs.Laws.Shape.{Ascend, Ordered, OrderedFrom}
 use Rattle.cedar.specs.TypeForm.{count}
 use Rattle.cedar.proofs.Laws.Tests.{T→true, cond-case, none-some, none_of, eqb-equal, eqb-false}
 use Rattle.cedar.proofs.Laws.Equality.{eq_names→eq}

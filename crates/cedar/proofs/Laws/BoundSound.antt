@@ -5,7 +5,7 @@ use Rattle.std.proofs.Math.Bool.{false}
 use Rattle.std.proofs.Math.Path.{subst}
 use Rattle.std.proofs.Math.Option.{Option, none, some}
 use Rattle.cedar.specs.Types.{Mode, strict, bool, anyset, Ty, atom, set, rec, act, ent, ext, Attrs, attr, Value, Pairs, Schema, maybe, eq_names, mem, names, find}
-use Rattle.cedar.proofs.Laws.Shape.{Ordered, OrderedFrom}
+use Rattle.cedar.specs.Laws.Shape.{Ordered, OrderedFrom}
 use Rattle.cedar.specs.Result.{ok}
 use Rattle.cedar.specs.Subtype.{sub}
 use Rattle.cedar.specs.Bound.{is_truth, lost, bound}

@@ -3,7 +3,7 @@ use Rattle.std.specs.Prelude.{ℕ, zero, suc, ◌+◌, ◌*◌, ◌/◌, ◌%◌
 use Rattle.std.proofs.Math.Nat.{mod-add-div'}
 use Rattle.std.proofs.Common.{arith, sym, ap, ap₂, ◌∙◌, subst, leb→le, le→leb}
 use Rattle.std.proofs.Math.Option.{Option, none, some, some-injective}
-use Rattle.cedar.proofs.Laws.Shape.{Ascend}
+use Rattle.cedar.specs.Laws.Shape.{Ascend}
 use Rattle.cedar.specs.Bytes.{u16, flag, enc_names, ◌>>=◌, guard, byte, word, bit, finish, parse_names, Bytes}
 use Rattle.cedar.proofs.Laws.Tests.{none-some}
 

@@ -5,7 +5,7 @@ use Rattle.std.proofs.Math.Nat.{le-max_left, le-max_right}
 use Rattle.std.proofs.Math.Option.{Option, none, some, some-injective}
 use Rattle.cedar.specs.Types.{Ty, rec, Attrs, Value, boolean, number, text, uid, set_of, record_of, call, Pairs, empty, pair, Entity, Schema, present}
 use Rattle.cedar.specs.Levels.{depth_value, depth_pairs}
-use Rattle.cedar.proofs.Laws.Shape.{OrderedValue, OrderedPairs}
+use Rattle.cedar.specs.Laws.Shape.{OrderedValue, OrderedPairs}
 use Rattle.cedar.specs.Bytes.{◌>>=◌, Bytes}
 use Rattle.cedar.specs.ValueForm.{enc_value, entries_of, values_of}
 use Rattle.cedar.specs.SchemaForm.{enc_body}

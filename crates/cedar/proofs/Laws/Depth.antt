@@ -14,7 +14,7 @@ use Rattle.cedar.specs.Bound.{bound}
 use Rattle.cedar.specs.Fold.{fold_from}
 use Rattle.cedar.specs.Attribute.{attr_of, fold_attr, lookup_names, lookup, listed_bodies, joined_bodies}
 use Rattle.cedar.specs.Conversion.{convert_atom, convert, convert_attrs}
-use Rattle.cedar.proofs.Laws.Shape.{Ordered, OrderedFrom, WF}
+use Rattle.cedar.specs.Laws.Shape.{Ordered, OrderedFrom, WF}
 use Rattle.cedar.proofs.Laws.Tests.{cond-case, maybe-case, none-some}
 use Rattle.cedar.proofs.Laws.Result.{ok-inj, err-ok, bind_ok}
 use Rattle.cedar.proofs.Laws.Bytes.{bind-some}

@@ -5,7 +5,7 @@ use Rattle.std.proofs.Math.Bool.{and-false}
 use Rattle.std.proofs.Math.Option.{Option, some-injective}
 use Rattle.cedar.specs.Types.{Mode, strict, is_permissive, Atom, never, Ty, atom, set, rec, act, ent, ext, Attrs, nil, attr}
 use Rattle.cedar.specs.Types.{maybe, is, eq_flag, eq_names, names, find, same}
-use Rattle.cedar.proofs.Laws.Shape.{Ascend, Ordered, OrderedFrom}
+use Rattle.cedar.specs.Laws.Shape.{Ascend, Ordered, OrderedFrom}
 use Rattle.cedar.specs.Subtype.{sub_flag, sub_names, sub_record, sub, sub_attrs}
 use Rattle.cedar.specs.Result.{Result, ok, bind}
 use Rattle.cedar.specs.Bound.{apart, lost, same_names, absent, join_one, join_set, join_record, upper, bound, join_attrs}

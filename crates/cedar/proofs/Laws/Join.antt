@@ -6,7 +6,7 @@ use Rattle.std.proofs.Math.Option.{Option, some}
 use Rattle.cedar.specs.Types.{Mode, strict, is_permissive, is_loose, bool, anyset, anyent, Ty, atom, set, rec, act, ent, ext, Attrs, nil, attr}
 use Rattle.cedar.specs.Types.{present, as_set, as_rec, as_act, as_ent, eq_flag, eq_names, names, find, is_entity, is_record}
 use Rattle.cedar.specs.Levels.{depth, depths}
-use Rattle.cedar.proofs.Laws.Shape.{Ascend, Ordered, OrderedFrom, WF}
+use Rattle.cedar.specs.Laws.Shape.{Ascend, Ordered, OrderedFrom, WF}
 use Rattle.cedar.specs.Subtype.{sub}
 use Rattle.cedar.specs.Result.{Result, ok, err}
 use Rattle.cedar.specs.Bound.{union, apart, is_truth, lost, upper, same_names, absent, join_equal, join_kept, join_one, join_set, join_names, bound, join_attrs}

@@ -4,7 +4,7 @@ use Rattle.std.proofs.Common.{zero-le, le_refl, arith, ap, ◌∙◌, subst, eqb
 use Rattle.std.proofs.Math.Option.{some, some-injective}
 use Rattle.std.proofs.Math.Dec.{nleb→lt}
 use Rattle.cedar.specs.Types.{Mode, Ty, atom, set, rec, act, ent, ext, Attrs, nil, attr, find}
-use Rattle.cedar.proofs.Laws.Shape.{Ordered, OrderedFrom}
+use Rattle.cedar.specs.Laws.Shape.{Ordered, OrderedFrom}
 use Rattle.cedar.specs.Bytes.{enc_names}
 use Rattle.cedar.specs.TypeForm.{count, enc, entries, bodies}
 use Rattle.cedar.specs.Result.{ok}

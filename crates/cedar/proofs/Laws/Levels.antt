@@ -21,7 +21,7 @@ use Rattle.cedar.specs.Literal.{action_of, literal}
 use Rattle.cedar.specs.Conformance.{as_uid}
 use Rattle.cedar.specs.Calls.{ask, mode_of, answer_fits, step_fits, write_type, write_attribute, measure_type_call, bound_call, fold_call, lookup_call, convert_call}
 use Rattle.cedar.specs.Calls.{literal_call}
-use Rattle.cedar.proofs.Laws.Shape.{Ordered, WF}
+use Rattle.cedar.specs.Laws.Shape.{Ordered, WF}
 use Rattle.cedar.proofs.Laws.Tests.{cond-case, maybe-case, none-some}
 use Rattle.cedar.proofs.Laws.ListForm.{Each}
 use Rattle.cedar.proofs.Laws.SchemaForm.{entity_in-good, action_in-good}

@@ -4,7 +4,7 @@ use Rattle.std.proofs.Common.{arith, subst}
 use Rattle.std.proofs.Math.Option.{Option, none, some, some-injective}
 use Rattle.cedar.specs.Types.{permissive, Ty, atom, set, rec, act, ent, ext, Attrs, Entity, Schema, find}
 use Rattle.cedar.specs.Levels.{depth, depths}
-use Rattle.cedar.proofs.Laws.Shape.{Ordered, OrderedFrom, WF}
+use Rattle.cedar.specs.Laws.Shape.{Ordered, OrderedFrom, WF}
 use Rattle.cedar.specs.Result.{Result, ok, err}
 use Rattle.cedar.specs.Bound.{bound}
 use Rattle.cedar.specs.Attribute.{entity_of, attr_of, stepped, fold_attr, lookup_names, lookup}

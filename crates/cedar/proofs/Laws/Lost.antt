@@ -2,7 +2,7 @@
 use Rattle.std.specs.Prelude.{ℕ, List, Bool, not, ◌&&◌, ◌≡◌, T, eqb, length}
 use Rattle.std.proofs.Common.{sym, ap, ap₂, ◌∙◌, subst, eqb→eq}
 use Rattle.cedar.specs.Types.{Mode, Attrs, eq_names, names}
-use Rattle.cedar.proofs.Laws.Shape.{OrderedFrom}
+use Rattle.cedar.specs.Laws.Shape.{OrderedFrom}
 use Rattle.cedar.specs.TypeForm.{count}
 use Rattle.cedar.specs.Bound.{lost}
 use Rattle.cedar.proofs.Laws.Tests.{T-ext, eqb-equal}

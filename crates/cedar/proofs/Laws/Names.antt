@@ -3,7 +3,7 @@ use Rattle.std.specs.Prelude.{ℕ, suc, ◌≤◌, ◌<◌, List, [], ◌∷◌,
 use Rattle.std.proofs.Common.{suc-le-suc, zero-le, le_trans, le_refl, arith, sym, ap₂, subst, inl, inr, eqb→eq, ltb→lt, nltb→le}
 use Rattle.std.proofs.Math.Dec.{eqb_refl}
 use Rattle.cedar.specs.Types.{mem}
-use Rattle.cedar.proofs.Laws.Shape.{Ascend}
+use Rattle.cedar.specs.Laws.Shape.{Ascend}
 use Rattle.cedar.specs.Subtype.{subset}
 use Rattle.cedar.specs.Bound.{insert, union}
 use Rattle.cedar.proofs.Laws.Tests.{T_and, and_T, T-or, or_inl, or_inr, cond_both, compare-names, eqb-equal, eqb-differ}

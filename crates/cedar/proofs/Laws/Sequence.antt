@@ -5,7 +5,7 @@ use Rattle.std.proofs.Math.Path.{subst}
 use Rattle.std.proofs.Math.Option.{Option, none, some, some-injective}
 use Rattle.std.proofs.Math.Logic.{inl, inr}
 use Rattle.cedar.specs.Types.{Ty, atom, set, rec, act, ent, ext, Value, Pairs, Entity, Schema, maybe, as_act}
-use Rattle.cedar.proofs.Laws.Shape.{Ordered}
+use Rattle.cedar.specs.Laws.Shape.{Ordered}
 use Rattle.cedar.specs.Bytes.{Bytes}
 use Rattle.cedar.specs.TypeForm.{enc}
 use Rattle.cedar.specs.Limits.{Limits, allowed}

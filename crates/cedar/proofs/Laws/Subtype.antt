@@ -5,7 +5,7 @@ use Rattle.std.proofs.Math.Option.{Option, none, some, some-injective}
 use Rattle.cedar.specs.Types.{Mode, is_permissive, Atom, never, true', false', bool, long, string, anyset, anyent}
 use Rattle.cedar.specs.Types.{Ty, atom, set, rec, act, ent, ext, Attrs, nil, attr}
 use Rattle.cedar.specs.Types.{maybe, present, is, eq_flag, eq_names, names, find, same, is_never, as_set, as_rec, as_ent}
-use Rattle.cedar.proofs.Laws.Shape.{Ascend, Ordered, OrderedFrom}
+use Rattle.cedar.specs.Laws.Shape.{Ascend, Ordered, OrderedFrom}
 use Rattle.cedar.specs.Subtype.{sub_atom, sub_flag, subset, sub_names, sub_record, sub, sub_attrs}
 use Rattle.cedar.proofs.Laws.Tests.{T_and, and_T, T-or, or_inl, or_inr, or-false, not-or, not-or→, T-ext, T-case}
 use Rattle.cedar.proofs.Laws.Tests.{cond-case, cond-T, cond-second, cond_both, maybe-T, T-maybe, none-some, present-some, eqb-true}

@@ -6,7 +6,7 @@ use Rattle.std.proofs.Math.Option.{Option, some, some-injective}
 use Rattle.cedar.specs.Types.{Atom, never, true', false', bool, long, string, anyset, anyent, Ty, atom, set, rec, act, ent, ext, Attrs, nil, attr}
 use Rattle.cedar.proofs.Laws.Encoders.{heads, tails}
 use Rattle.cedar.specs.Levels.{depth, depths}
-use Rattle.cedar.proofs.Laws.Shape.{Ordered, OrderedFrom, WF}
+use Rattle.cedar.specs.Laws.Shape.{Ordered, OrderedFrom, WF}
 use Rattle.cedar.specs.Bytes.{u16, flag, ◌>>=◌, guard, word, bit, enc_names, parse_names, Bytes}
 use Rattle.cedar.specs.TypeForm.{Kind, one, set_kind, rec_kind, ent_kind, act_kind, ext_kind, no_kind, kind_of, atom_code, count, enc, entries, bodies}
 use Rattle.cedar.specs.TypeForm.{read_attr, ascending_attr, attrs_of, parse_attrs, parse_as, parse}

@@ -7,7 +7,7 @@ use Rattle.std.proofs.Math.Dec.{eqb_refl}
 use Rattle.cedar.specs.Types.{Value, boolean, number, text, uid, set_of, record_of, call, Values, end, value, Pairs, empty, pair}
 use Rattle.cedar.proofs.Laws.Encoders.{heads, tails}
 use Rattle.cedar.specs.Levels.{depth_value, depth_values, depth_pairs}
-use Rattle.cedar.proofs.Laws.Shape.{OrderedValue, OrderedValues, OrderedPairs, WFValue}
+use Rattle.cedar.specs.Laws.Shape.{OrderedValue, OrderedValues, OrderedPairs, WFValue}
 use Rattle.cedar.specs.Bytes.{u16, flag, guard, word, Bytes}
 use Rattle.cedar.specs.Table.{ascending, any_order, read_length}
 use Rattle.cedar.specs.ValueForm.{ValueKind, bool_kind, long_kind, string_kind, uid_kind, set_kind, record_kind, call_kind, no_kind, value_kind, count_values}

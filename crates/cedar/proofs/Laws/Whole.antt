@@ -4,7 +4,7 @@ use Rattle.std.proofs.Common.{sym, subst, leb→le, le→leb}
 use Rattle.std.proofs.Math.Option.{Option, some}
 use Rattle.cedar.specs.Types.{Ty, Value, Schema}
 use Rattle.cedar.proofs.Laws.Encoders.{enc_list, enc_schema, enc_job}
-use Rattle.cedar.proofs.Laws.Shape.{WF, WFValue}
+use Rattle.cedar.specs.Laws.Shape.{WF, WFValue}
 use Rattle.cedar.specs.Bytes.{Bytes}
 use Rattle.cedar.specs.TypeForm.{enc}
 use Rattle.cedar.specs.ValueForm.{enc_value}

@@ -13,7 +13,7 @@ use Rattle.forms.specs.Parts.{part, rest, rd}
 use Rattle.forms.specs.Rows.{rows_of}
 use Rattle.forms.specs.Laws.Parts.{pos}
 use Rattle.schemas.specs.SchemaBytes.{arg_at, args_fit, args_of}
-use Rattle.schemas.proofs.Laws.Arguments.{ArgFirst, args-first, args_none}
+use Rattle.schemas.specs.Laws.Arguments.{ArgFirst, args-first, args_none}
 use Rattle.conformance.specs.declared.verdicts.Verdict.{Verdict}
 use Rattle.conformance.specs.declared.verdicts.Verdict.TheVariants.{Holds}
 use Rattle.conformance.specs.Verdicts.{verdict_of, inside_of}

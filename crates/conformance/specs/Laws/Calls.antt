@@ -8,7 +8,7 @@ use Rattle.cedar.specs.ValueForm.{value_kind}
 use Rattle.cedar.specs.Conformance.{verdict, and_then, unknown, fails, Counts, of_argument, of_arguments, is_extension, function_of}
 use Rattle.forms.specs.Parts.{rd, kind}
 use Rattle.schemas.specs.SchemaBytes.{arg_fits, arg_at}
-use Rattle.schemas.proofs.Laws.Arguments.{arg-kind, arg-is-bool, arg-is-long, arg-is-string, arg-is-extension}
+use Rattle.schemas.specs.Laws.Arguments.{arg-kind, arg-is-bool, arg-is-long, arg-is-string, arg-is-extension}
 use Rattle.conformance.specs.declared.verdicts.Verdict.{Verdict}
 use Rattle.conformance.specs.declared.verdicts.Verdict.TheVariants.{Fails, Unknown}
 use Rattle.conformance.specs.Verdicts.{verdict_of, inside_of}

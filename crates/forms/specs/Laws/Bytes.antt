@@ -4,7 +4,7 @@ use Rattle.cedar.specs.Bytes.{Bytes}
 use Rattle.cedar.specs.TypeForm.{enc}
 use Rattle.cedar.specs.ValueForm.{enc_value}
 use Rattle.cedar.proofs.Laws.Bytes.{Bytes-take, Bytes-drop}
-use Rattle.cedar.proofs.Laws.Shape.{WF, WFValue}
+use Rattle.cedar.specs.Laws.Shape.{WF, WFValue}
 use Rattle.cedar.proofs.Laws.TypeForm.{parse-iff}
 use Rattle.cedar.proofs.Laws.ValueForm.{parse_value-reads}
 use Rattle.forms.specs.Parts.{part}

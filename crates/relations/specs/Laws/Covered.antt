@@ -6,7 +6,7 @@ use Rattle.std.proofs.Math.Bool.{true, false, not}
 use Rattle.std.proofs.Math.Option.{Option, none, some}
 use borrow.Author.Tests.{ne_eqb, not-true, not-false}
 use Rattle.cedar.specs.Types.{Ty, Attrs, nil, attr, mem, names, find, present}
-use Rattle.cedar.proofs.Laws.Shape.{Ascend}
+use Rattle.cedar.specs.Laws.Shape.{Ascend}
 use Rattle.cedar.specs.Consistency.{covered_names}
 use Rattle.forms.specs.Parts.{rest, rd}
 use Rattle.forms.specs.Search.{below, used, found_at}

@@ -5,7 +5,7 @@ use Rattle.std.proofs.Common.{ap₂, ◌∙◌, add-one, arith}
 use Rattle.std.proofs.Math.Option.{Option, none}
 use Rattle.std.proofs.lemmas.Bool.{not-true, not-false}
 use Rattle.cedar.specs.Types.{Ty, Attrs, nil, attr, names, find, maybe}
-use Rattle.cedar.proofs.Laws.Shape.{Ascend}
+use Rattle.cedar.specs.Laws.Shape.{Ascend}
 use Rattle.cedar.specs.Consistency.{consistent, consistent_attrs}
 use Rattle.forms.specs.Parts.{part, rest, rd}
 use Rattle.forms.specs.Search.{below, used, found_at}

@@ -2,7 +2,7 @@
 use Rattle.std.specs.Prelude.{◌≡◌, refl, List, [], ◌∷◌, Bool, true, false, ◌||◌, ◌&&◌, ℕ, zero, suc, ◌+◌, ◌-◌, ◌≤◌, ◌<◌, leb, length}
 use Rattle.std.proofs.Common.{ap, ap₂, sym, ◌∙◌, add-one, arith, leb-true, le-leb, eq-eqb, ne_eqb}
 use Rattle.cedar.specs.Types.{mem}
-use Rattle.cedar.proofs.Laws.Shape.{Ascend}
+use Rattle.cedar.specs.Laws.Shape.{Ascend}
 use Rattle.cedar.specs.Disjoint.{shares}
 use Rattle.cedar.specs.Subtype.{subset}
 use Rattle.forms.specs.Parts.{rest, rd}

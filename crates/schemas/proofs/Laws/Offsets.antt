@@ -5,8 +5,8 @@ use Rattle.std.proofs.Math.Path.{refl, ap, sym}
 use Rattle.cedar.specs.Limits.{block_bytes}
 use Rattle.schemas.specs.SchemaBytes.{entries_end, section_at, sections_of, limits_of, checked}
 use Rattle.schemas.specs.Offsets.{offsets_of}
-use Rattle.schemas.proofs.Laws.Checks.{sections-are, checked-limits}
-use Rattle.schemas.proofs.Laws.Finders.{kept, kept-counts, actions-laid, functions-laid}
+use Rattle.schemas.specs.Laws.Checks.{sections-are, checked-limits}
+use Rattle.schemas.specs.Laws.Finders.{kept, kept-counts, actions-laid, functions-laid}
 use Rattle.forms.specs.declared.limits.Limits.{Limits as LimitsStruct}
 use Rattle.schemas.specs.declared.kinds.SectionKind.TheVariants.{Entities, Actions, Functions}
 use Rattle.schemas.specs.declared.offsets.Offsets.{Offsets}

@@ -3,7 +3,7 @@ use Rattle.std.specs.Prelude.{ℕ, ◌<◌, List, true, ◌≡◌, refl, get_or}
 use Rattle.std.proofs.Math.Option.{none, some}
 use Rattle.std.proofs.Common.{sym, ap, ◌∙◌}
 use Rattle.cedar.specs.Types.{Mode, Ty, Schema}
-use Rattle.cedar.proofs.Laws.Shape.{WF}
+use Rattle.cedar.specs.Laws.Shape.{WF}
 use Rattle.cedar.specs.Limits.{Limits, allowed}
 use Rattle.cedar.specs.Whole.{whole_type, whole_schema}
 use Rattle.cedar.specs.Result.{ok}

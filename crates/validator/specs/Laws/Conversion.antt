@@ -9,7 +9,7 @@ use Rattle.cedar.specs.Limits.{Limits, allowed}
 use Rattle.cedar.specs.Whole.{whole_type}
 use Rattle.cedar.specs.Result.{ok}
 use Rattle.cedar.specs.Outcome.{refused}
-use Rattle.cedar.proofs.Laws.Shape.{WF}
+use Rattle.cedar.specs.Laws.Shape.{WF}
 use Rattle.cedar.proofs.Laws.Result.{ok-inj, err-ok}
 use Rattle.cedar.proofs.Laws.Depth.{convert-WF}
 use Rattle.cedar.specs.Calls.{ask, write_type, convert_call}

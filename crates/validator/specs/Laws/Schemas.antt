@@ -11,10 +11,10 @@ use Rattle.forms.specs.declared.limits.Limits.{Limits as LimitsStruct}
 use Rattle.forms.specs.Laws.Parts.{and_yes}
 use Rattle.forms.specs.Laws.Sure.{sure-yes}
 use Rattle.schemas.specs.SchemaBytes.{whole_s, dec_s, limits_of, checked}
-use Rattle.schemas.proofs.Laws.SchemaTwin.{whole-schema-twin}
-use Rattle.schemas.proofs.Laws.Checks.{checked-broken, checked-whole, checked-limits}
+use Rattle.schemas.specs.Laws.SchemaTwin.{whole-schema-twin}
+use Rattle.schemas.specs.Laws.Checks.{checked-broken, checked-whole, checked-limits}
 use Rattle.schemas.specs.Entries.{Sectioned}
-use Rattle.schemas.proofs.Laws.Finders.{kept}
+use Rattle.schemas.specs.Laws.Finders.{kept}
 use Rattle.schemas.specs.declared.sections.Sections.{Sections}
 use Rattle.schemas.specs.declared.whole.Checked.{Checked}
 use Rattle.schemas.specs.declared.whole.Checked.TheVariants.{Whole, Broken}

@@ -11,7 +11,7 @@ use Rattle.cedar.specs.Limits.{Limits, most_bytes}
 use Rattle.cedar.specs.Whole.{whole_type}
 use Rattle.cedar.specs.Outcome.{Outcome, refused, typed, over}
 use Rattle.cedar.specs.Calls.{write_type}
-use Rattle.cedar.proofs.Laws.Shape.{WF}
+use Rattle.cedar.specs.Laws.Shape.{WF}
 use Rattle.cedar.proofs.Laws.TypeForm.{parse-reads}
 use Rattle.forms.specs.Parts.{part}
 use Rattle.forms.specs.TypeBytes.{whole, dec}

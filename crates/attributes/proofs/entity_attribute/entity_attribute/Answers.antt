@@ -1,5 +1,5 @@
 use native.Mathlib.Omega.{arith}
-use Rattle.schemas.proofs.Laws.Finders.{entity-at, entity-not}
+use Rattle.schemas.specs.Laws.Finders.{entity-at, entity-not}
 use Rattle.attributes.specs.Laws.EntityAttribute.{entity-lacks, entity-sums, entity-has}
 use borrow.Author.Rules.{rules}
 use Rattle.attributes.proofs.entity_attribute.entity_attribute.Goals as goal

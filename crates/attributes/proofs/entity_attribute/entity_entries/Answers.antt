@@ -2,7 +2,7 @@ use mathlib.Core.Path.{refl}
 use native.Mathlib.Omega.{arith}
 use lib.ListN.{length}
 use Rattle.forms.specs.Laws.Parts.{length_part}
-use Rattle.schemas.proofs.Laws.Finders.{entity-at, entity-not}
+use Rattle.schemas.specs.Laws.Finders.{entity-at, entity-not}
 use Rattle.attributes.specs.Laws.EntityAttribute.{entries-in}
 use borrow.Author.Rules.{rules}
 use Rattle.attributes.proofs.entity_attribute.entity_entries.Goals as goal

@@ -1,5 +1,5 @@
 use Rattle.forms.specs.Limits.{as_limits}
-use Rattle.schemas.proofs.Laws.Finders.{entity-at, entity-not, action-at, action-not}
+use Rattle.schemas.specs.Laws.Finders.{entity-at, entity-not, action-at, action-not}
 use Rattle.attributes.specs.Laws.Literal.{literal-action, literal-no-action, literal-entity, literal-no-entity}
 use borrow.Author.Rules.{rules}
 use Rattle.attributes.proofs.euid_literal.find_literal.Goals as goal

@@ -1,5 +1,5 @@
 use Rattle.forms.specs.Parts.{rd}
-use Rattle.schemas.proofs.Laws.Finders.{function-at, function-not}
+use Rattle.schemas.specs.Laws.Finders.{function-at, function-not}
 use Rattle.conformance.specs.Laws.Calls.{call-unknown, call_none, call-other, call-arguments, fit-bool, fit-long, fit-string, fit-not, fit-call}
 use Rattle.schemas.specs.SchemaBytes.{dec_s}
 use Rattle.forms.specs.Limits.{as_limits}

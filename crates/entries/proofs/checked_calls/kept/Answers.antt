@@ -2,7 +2,7 @@ use Rattle.std.specs.Prelude.{ℕ}
 use Rattle.std.proofs.Common.{sym, ap, ◌∙◌}
 use Rattle.schemas.specs.SchemaBytes.{checked}
 use Rattle.exports.specs.Checks.{check_number, limits_in}
-use Rattle.exports.proofs.Laws.Checks.{check-kept}
+use Rattle.exports.specs.Laws.Checks.{check-kept}
 use Rattle.entries.proofs.checked_calls.kept.Goals as goal
 
 pub returns : goal.returns

@@ -1,7 +1,7 @@
 use Rattle.exports.specs.Checks.{within}
 use lib.ListN.{length}
 use Rattle.exports.proofs.Laws.Numbers.{numbered}
-use Rattle.exports.proofs.Laws.Brief.{brief, literal-short}
+use Rattle.exports.specs.Laws.Brief.{brief, literal-short}
 use Rattle.exports.proofs.calls.tirncheav_euid_literal.Goals as goal
 
 pub answer_number-requires : goal.answer_number-requires

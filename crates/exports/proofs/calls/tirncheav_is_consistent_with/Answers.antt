@@ -1,7 +1,7 @@
 use Rattle.exports.specs.Checks.{within}
 use mathlib.Core.Path.{ap, ◌∙◌}
 use Rattle.exports.specs.Numbers.{answer_number}
-use Rattle.exports.proofs.Laws.Brief.{brief, consistent-short}
+use Rattle.exports.specs.Laws.Brief.{brief, consistent-short}
 use Rattle.exports.proofs.calls.tirncheav_is_consistent_with.Goals as goal
 
 pub answer_number-requires : goal.answer_number-requires

@@ -3,7 +3,7 @@ use native.Mathlib.Omega.{arith}
 use Rattle.forms.specs.Laws.Bytes.{Bytes-index}
 use Rattle.exports.specs.Checks.{within}
 use Rattle.exports.specs.Numbers.{answer_number}
-use Rattle.exports.proofs.Laws.Brief.{brief, measure-type-short}
+use Rattle.exports.specs.Laws.Brief.{brief, measure-type-short}
 use Rattle.exports.proofs.calls.tirncheav_measure_type.Goals as goal
 
 pub answer_number-requires : goal.answer_number-requires

@@ -1,7 +1,7 @@
 use Rattle.exports.specs.Checks.{within}
 use lib.ListN.{length}
 use Rattle.exports.proofs.Laws.Numbers.{numbered-in}
-use Rattle.exports.proofs.Laws.Brief.{brief, fold-short}
+use Rattle.exports.specs.Laws.Brief.{brief, fold-short}
 use Rattle.exports.proofs.calls.tirncheav_reduce_to_least_upper_bound.Goals as goal
 
 pub answer_number-requires : goal.answer_number-requires

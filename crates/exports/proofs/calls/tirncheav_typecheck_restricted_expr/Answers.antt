@@ -2,7 +2,7 @@ use Rattle.cedar.specs.Conformance.{shorter}
 use Rattle.exports.specs.Checks.{within}
 use mathlib.Core.Path.{ap, ◌∙◌}
 use Rattle.exports.specs.Numbers.{answer_number}
-use Rattle.exports.proofs.Laws.Brief.{brief, conforms-short}
+use Rattle.exports.specs.Laws.Brief.{brief, conforms-short}
 use Rattle.exports.proofs.calls.tirncheav_typecheck_restricted_expr.Goals as goal
 
 pub answer_number-requires : goal.answer_number-requires

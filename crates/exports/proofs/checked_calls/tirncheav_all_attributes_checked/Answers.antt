@@ -7,7 +7,7 @@ use Rattle.validator.specs.Laws.Schemas.{checked-own, checked_under}
 use Rattle.exports.specs.Checks.{limits_in}
 use lib.ListN.{length}
 use Rattle.exports.proofs.Laws.Numbers.{numbered-in}
-use Rattle.exports.proofs.Laws.Brief.{brief, names-call-short}
+use Rattle.exports.specs.Laws.Brief.{brief, names-call-short}
 use Rattle.exports.proofs.checked_calls.tirncheav_all_attributes_checked.Goals as goal
 
 pub all_attributes_checked-requires : goal.all_attributes_checked-requires

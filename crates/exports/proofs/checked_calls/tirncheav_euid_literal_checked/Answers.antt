@@ -7,7 +7,7 @@ use Rattle.validator.specs.Laws.Schemas.{checked-own, checked_under}
 use Rattle.exports.specs.Checks.{limits_in}
 use lib.ListN.{length}
 use Rattle.exports.proofs.Laws.Numbers.{numbered}
-use Rattle.exports.proofs.Laws.Brief.{brief, literal-short}
+use Rattle.exports.specs.Laws.Brief.{brief, literal-short}
 use Rattle.exports.proofs.checked_calls.tirncheav_euid_literal_checked.Goals as goal
 
 pub euid_literal_checked-requires : goal.euid_literal_checked-requires

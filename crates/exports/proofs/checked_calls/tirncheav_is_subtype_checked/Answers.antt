@@ -7,7 +7,7 @@ use Rattle.validator.specs.Laws.Schemas.{checked-own, checked_under}
 use Rattle.exports.specs.Checks.{limits_in}
 use mathlib.Core.Path.{◌≡◌, ap, ◌∙◌}
 use Rattle.exports.specs.Numbers.{answer_number}
-use Rattle.exports.proofs.Laws.Brief.{brief, subtype-short}
+use Rattle.exports.specs.Laws.Brief.{brief, subtype-short}
 use Rattle.exports.proofs.checked_calls.tirncheav_is_subtype_checked.Goals as goal
 
 pub is_subtype_checked-requires : goal.is_subtype_checked-requires

@@ -7,7 +7,7 @@ use Rattle.validator.specs.Laws.Schemas.{checked-own, checked_under}
 use Rattle.exports.specs.Checks.{limits_in}
 use lib.ListN.{length}
 use Rattle.exports.proofs.Laws.Numbers.{numbered-in}
-use Rattle.exports.proofs.Laws.Brief.{brief, lookup-short}
+use Rattle.exports.specs.Laws.Brief.{brief, lookup-short}
 use Rattle.exports.proofs.checked_calls.tirncheav_lookup_attribute_type_checked.Goals as goal
 
 pub lookup_attribute_type_checked-requires : goal.lookup_attribute_type_checked-requires

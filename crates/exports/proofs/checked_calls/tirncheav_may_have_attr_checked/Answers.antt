@@ -7,7 +7,7 @@ use Rattle.validator.specs.Laws.Schemas.{checked-own, checked_under}
 use Rattle.exports.specs.Checks.{limits_in}
 use mathlib.Core.Path.{◌≡◌, ap, ◌∙◌}
 use Rattle.exports.specs.Numbers.{answer_number}
-use Rattle.exports.proofs.Laws.Brief.{brief, may-have-short}
+use Rattle.exports.specs.Laws.Brief.{brief, may-have-short}
 use Rattle.exports.proofs.checked_calls.tirncheav_may_have_attr_checked.Goals as goal
 
 pub may_have_attr_checked-requires : goal.may_have_attr_checked-requires

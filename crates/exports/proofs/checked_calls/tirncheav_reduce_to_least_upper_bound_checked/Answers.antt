@@ -7,7 +7,7 @@ use Rattle.validator.specs.Laws.Schemas.{checked-own, checked_under}
 use Rattle.exports.specs.Checks.{limits_in}
 use lib.ListN.{length}
 use Rattle.exports.proofs.Laws.Numbers.{numbered-in}
-use Rattle.exports.proofs.Laws.Brief.{brief, fold-short}
+use Rattle.exports.specs.Laws.Brief.{brief, fold-short}
 use Rattle.exports.proofs.checked_calls.tirncheav_reduce_to_least_upper_bound_checked.Goals as goal
 
 pub reduce_to_least_upper_bound_checked-requires : goal.reduce_to_least_upper_bound_checked-requires

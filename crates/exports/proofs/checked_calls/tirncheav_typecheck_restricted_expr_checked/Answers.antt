@@ -8,7 +8,7 @@ use Rattle.validator.specs.Laws.Schemas.{checked-own, checked_under}
 use Rattle.exports.specs.Checks.{limits_in}
 use mathlib.Core.Path.{◌≡◌, ap, ◌∙◌}
 use Rattle.exports.specs.Numbers.{answer_number}
-use Rattle.exports.proofs.Laws.Brief.{brief, conforms-short}
+use Rattle.exports.specs.Laws.Brief.{brief, conforms-short}
 use Rattle.exports.proofs.checked_calls.tirncheav_typecheck_restricted_expr_checked.Goals as goal
 
 pub typecheck_restricted_expr_checked-requires : goal.typecheck_restricted_expr_checked-requires

@@ -1,5 +1,5 @@
 use Rattle.exports.specs.Checks.{limits_in}
-use Rattle.exports.proofs.Laws.Checks.{again-own, again-is}
+use Rattle.exports.specs.Laws.Checks.{again-own, again-is}
 use Rattle.exports.proofs.checks.check_again.Goals as goal
 
 pub check-requires : goal.check-requires

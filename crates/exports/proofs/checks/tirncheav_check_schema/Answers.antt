@@ -1,7 +1,7 @@
 use mathlib.Core.Path.{ap, sym, ◌∙◌}
 use borrow.Author.Tests.{not-true, not-false}
 use Rattle.exports.specs.Checks.{packed_of}
-use Rattle.exports.proofs.Laws.Checks.{near, number-refused, number-packed}
+use Rattle.exports.specs.Laws.Checks.{near, number-refused, number-packed}
 use Rattle.exports.proofs.checks.tirncheav_check_schema.Goals as goal
 
 pub returns-then-not-are_allowed : goal.returns-then-not-are_allowed

@@ -1,5 +1,5 @@
 use mathlib.Core.Path.{◌∙◌}
-use Rattle.exports.proofs.Laws.Checks.{unpack-broken, unpack-room, unpack-whole}
+use Rattle.exports.specs.Laws.Checks.{unpack-broken, unpack-room, unpack-whole}
 use Rattle.exports.proofs.checks.unpack.Goals as goal
 
 pub returns-then-actions-eq0 : goal.returns-then-actions-eq0

@@ -1,4 +1,4 @@
-use Rattle.schemas.proofs.Laws.Arguments.{arg-extension, arg-named, arg-low, arg_plain}
+use Rattle.schemas.specs.Laws.Arguments.{arg-extension, arg-named, arg-low, arg_plain}
 use Rattle.schemas.proofs.arguments.argument_within.Goals as goal
 
 pub returns-then-k-eq-EXTENSION : goal.returns-then-k-eq-EXTENSION

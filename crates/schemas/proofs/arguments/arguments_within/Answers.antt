@@ -1,7 +1,7 @@
 use Rattle.forms.specs.Laws.Parts.{length_rest}
 use native.Mathlib.Omega.{arith}
 use mathlib.Core.Path.{refl}
-use Rattle.schemas.proofs.Laws.Arguments.{args-short, args-not, args-again, args_end}
+use Rattle.schemas.specs.Laws.Arguments.{args-short, args-not, args-again, args_end}
 use Rattle.schemas.proofs.arguments.arguments_within.Goals as goal
 
 pub loop-a-init : goal.loop-a-init

@@ -1,5 +1,5 @@
 use lib.ListN.{length}
-use Rattle.schemas.proofs.Laws.Arguments.{ArgsLeft}
+use Rattle.schemas.specs.Laws.Arguments.{ArgsLeft}
 use Rattle.schemas.proofs.arguments.arguments_within.Given as goal
 
 abbrev pub invariant-loop-a : goal.invariant-loop-a

@@ -1,6 +1,6 @@
 use Rattle.forms.specs.Limits.{as_limits}
 use native.Mathlib.Omega.{arith}
-use Rattle.schemas.proofs.Laws.Bodies.{body-unfit, body-some, body-other, body-two, body_closed, body_open}
+use Rattle.schemas.specs.Laws.Bodies.{body-unfit, body-some, body-other, body-two, body_closed, body_open}
 use Rattle.schemas.proofs.bodies.body_within.Goals as goal
 
 pub returns-then-not-whole_type : goal.returns-then-not-whole_type

@@ -1,4 +1,4 @@
-use Rattle.schemas.proofs.Laws.Finders.{actions-laid}
+use Rattle.schemas.specs.Laws.Finders.{actions-laid}
 use Rattle.schemas.proofs.entries.find_action.Goals as goal
 
 pub find_entry-requires : goal.find_entry-requires

@@ -1,4 +1,4 @@
-use Rattle.schemas.proofs.Laws.Finders.{entities-laid}
+use Rattle.schemas.specs.Laws.Finders.{entities-laid}
 use Rattle.schemas.proofs.entries.find_entity.Goals as goal
 
 pub find_entry-requires : goal.find_entry-requires

@@ -1,6 +1,6 @@
 use Rattle.forms.specs.Laws.Parts.{length_rest}
-use Rattle.schemas.proofs.Laws.Entries.{find-start, find-room, find-fit, find-here, find-again, find-end}
-use Rattle.schemas.proofs.Laws.Walks.{at_least}
+use Rattle.schemas.specs.Laws.Entries.{find-start, find-room, find-fit, find-here, find-again, find-end}
+use Rattle.schemas.specs.Laws.Walks.{at_least}
 use native.Mathlib.Omega.{arith}
 use Rattle.schemas.proofs.entries.find_entry.Goals as goal
 

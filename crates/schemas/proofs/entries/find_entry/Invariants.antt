@@ -1,4 +1,4 @@
-use Rattle.schemas.proofs.Laws.Entries.{FindLeft}
+use Rattle.schemas.specs.Laws.Entries.{FindLeft}
 use Rattle.schemas.specs.SchemaBytes.{row_of}
 use Rattle.schemas.proofs.entries.find_entry.Given as goal
 

@@ -1,6 +1,6 @@
 use Rattle.forms.specs.Laws.Parts.{length_rest}
 use native.Mathlib.Omega.{arith}
-use Rattle.schemas.proofs.Laws.Finders.{functions-laid, function-room, signature-not, signature_at}
+use Rattle.schemas.specs.Laws.Finders.{functions-laid, function-room, signature-not, signature_at}
 use Rattle.schemas.proofs.entries.find_function.Goals as goal
 
 pub find_entry-requires : goal.find_entry-requires

@@ -1,4 +1,4 @@
-use Rattle.schemas.proofs.Laws.Entries.{key-name, key-other, key-uid}
+use Rattle.schemas.specs.Laws.Entries.{key-name, key-other, key-uid}
 use Rattle.schemas.proofs.entries.has_key.Goals as goal
 
 pub returns-then-kind-u16_at : goal.returns-then-kind-u16_at

@@ -1,4 +1,4 @@
-use Rattle.schemas.proofs.Laws.Order.{action-even, action-same, action-open}
+use Rattle.schemas.specs.Laws.Order.{action-even, action-same, action-open}
 use Rattle.schemas.proofs.order.action_follows.Goals as goal
 
 pub returns-then-not-is_action : goal.returns-then-not-is_action

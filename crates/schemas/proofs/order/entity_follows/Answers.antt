@@ -1,4 +1,4 @@
-use Rattle.schemas.proofs.Laws.Order.{entity-odd, entity-kind, entity-open}
+use Rattle.schemas.specs.Laws.Order.{entity-odd, entity-kind, entity-open}
 use Rattle.schemas.proofs.order.entity_follows.Goals as goal
 
 pub returns-then-is_action : goal.returns-then-is_action

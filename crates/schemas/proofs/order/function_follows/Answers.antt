@@ -1,4 +1,4 @@
-use Rattle.schemas.proofs.Laws.Order.{function-returns, function-flag, function-named, function-open}
+use Rattle.schemas.specs.Laws.Order.{function-returns, function-flag, function-named, function-open}
 use Rattle.schemas.proofs.order.function_follows.Goals as goal
 
 pub returns-then-e-eq-EXTENSION : goal.returns-then-e-eq-EXTENSION

@@ -1,4 +1,4 @@
-use Rattle.schemas.proofs.Laws.Walks.{walk_start, walk-room, walk-unfit, walk-short, walk-body, walk-again, walk_end}
+use Rattle.schemas.specs.Laws.Walks.{walk_start, walk-room, walk-unfit, walk-short, walk-body, walk-again, walk_end}
 use native.Mathlib.Omega.{arith}
 use Rattle.schemas.proofs.sections.section_within.Goals as goal
 

@@ -1,5 +1,5 @@
 use Rattle.forms.specs.Limits.{as_limits}
-use Rattle.schemas.proofs.Laws.Walks.{WalkLeft}
+use Rattle.schemas.specs.Laws.Walks.{WalkLeft}
 use Rattle.schemas.proofs.sections.section_within.Given as goal
 
 abbrev pub invariant-loop-left : goal.invariant-loop-left

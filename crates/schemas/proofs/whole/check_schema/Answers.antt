@@ -1,4 +1,4 @@
-use Rattle.schemas.proofs.Laws.Checks.{check-refused, check-allowed}
+use Rattle.schemas.specs.Laws.Checks.{check-refused, check-allowed}
 use Rattle.schemas.proofs.whole.check_schema.Goals as goal
 
 pub returns-then-not-are_allowed : goal.returns-then-not-are_allowed

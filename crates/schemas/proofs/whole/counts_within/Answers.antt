@@ -1,4 +1,4 @@
-use Rattle.schemas.proofs.Laws.Checks.{head-short, head-entities, head-actions, head-functions, head-open}
+use Rattle.schemas.specs.Laws.Checks.{head-short, head-entities, head-actions, head-functions, head-open}
 use Rattle.schemas.proofs.whole.counts_within.Goals as goal
 
 pub returns-then-s-lt-BYTES : goal.returns-then-s-lt-BYTES

@@ -1,5 +1,5 @@
 use mathlib.Core.Path.{sym, ◌∙◌}
-use Rattle.schemas.proofs.Laws.Checks.{check-over, check-head, head, ahead, ahead-inside, ahead-broken, past, ahead-over, ahead-whole}
+use Rattle.schemas.specs.Laws.Checks.{check-over, check-head, head, ahead, ahead-inside, ahead-broken, past, ahead-over, ahead-whole}
 use Rattle.schemas.proofs.whole.sections_within.Goals as goal
 
 pub returns-then-s-gt-BLOCK_BYTES : goal.returns-then-s-gt-BLOCK_BYTES

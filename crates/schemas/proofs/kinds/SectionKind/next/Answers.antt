@@ -1,7 +1,7 @@
 use native.Mathlib.Omega.{arith}
 use Prim.Native.Nat.{ℕ, ◌+◌}
 use mathlib.Core.Path.{ap, ap₂}
-use Rattle.schemas.proofs.Laws.Walks.{at_least}
+use Rattle.schemas.specs.Laws.Walks.{at_least}
 use Rattle.schemas.proofs.kinds.SectionKind.next.Goals as goal
 
 pub u16_at-name-requires : goal.u16_at-name-requires

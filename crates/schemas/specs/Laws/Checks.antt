@@ -14,8 +14,8 @@ use Rattle.forms.specs.Laws.Parts.{and_l, and_r, and-not-l, and_yes}
 use Rattle.forms.specs.Laws.Sure.{sure-present}
 use Rattle.schemas.specs.SchemaBytes.{row_of, section_fits, section_end, entries_end, section_at, entity_section, action_section, function_section, sections_of}
 use Rattle.schemas.specs.SchemaBytes.{head_fits, sections_fit, whole_s, Inside, passed_by, limits_of, checked_within, checked}
-use Rattle.schemas.proofs.Laws.Walks.{section-ends, passed-broken, passed_to}
-use Rattle.schemas.proofs.Laws.SchemaTwin.{whole-schema-twin}
+use Rattle.schemas.specs.Laws.Walks.{section-ends, passed-broken, passed_to}
+use Rattle.schemas.specs.Laws.SchemaTwin.{whole-schema-twin}
 use Rattle.schemas.specs.declared.kinds.SectionKind.{SectionKind}
 use Rattle.schemas.specs.declared.kinds.SectionKind.TheVariants.{Entities, Actions, Functions}
 use Rattle.schemas.specs.declared.sections.Section.{Section}

@@ -26,7 +26,7 @@ use Rattle.schemas.specs.SchemaBytes.{section_fits, section_end, entries_end, en
 use Rattle.schemas.specs.declared.kinds.SectionKind.{SectionKind}
 use Rattle.schemas.specs.declared.kinds.SectionKind.TheVariants.{Entities, Actions, Functions}
 use Rattle.schemas.specs.declared.sections.Section.{Section}
-use Rattle.schemas.proofs.Laws.Walks.{section-ends}
+use Rattle.schemas.specs.Laws.Walks.{section-ends}
 
 -- Lengths that the last of them implies.
 gather : (j k n : ℕ) (g : Bool) → j ≤ k → leb j n && (g && leb k n) ≡ leb k n && g

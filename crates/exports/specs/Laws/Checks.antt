@@ -9,7 +9,7 @@ use Rattle.forms.specs.Limits.{as_limits}
 use Rattle.forms.specs.declared.limits.Limits.{Limits as LimitsStruct}
 use Rattle.schemas.specs.SchemaBytes.{entries_end, limits_of, checked}
 use Rattle.schemas.specs.Offsets.{offsets_of}
-use Rattle.schemas.proofs.Laws.Checks.{checked-limits, checked-whole}
+use Rattle.schemas.specs.Laws.Checks.{checked-limits, checked-whole}
 use Rattle.schemas.proofs.Laws.Offsets.{Stands, stands, own-limits}
 use Rattle.schemas.specs.declared.offsets.Offsets.{Offsets}
 use Rattle.schemas.specs.declared.whole.Checked.{Checked}

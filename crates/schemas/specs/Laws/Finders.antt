@@ -22,10 +22,10 @@ use Rattle.schemas.specs.SchemaBytes.{entity_row, action_row, function_row, body
 use Rattle.schemas.specs.SchemaBytes.{section_fits, section_of, section_end, entity_section, action_section, function_section, sections_of, head_fits, whole_s}
 use Rattle.schemas.specs.SchemaBytes.{dec_s, checked}
 use Rattle.schemas.specs.Entries.{entry_at, signature_of, function_at, LaidIn, Sectioned, open_at, body_attrs}
-use Rattle.schemas.proofs.Laws.Walks.{section-ends}
-use Rattle.schemas.proofs.Laws.Bodies.{is_body}
-use Rattle.schemas.proofs.Laws.Checks.{Head, head, checked-whole}
-use Rattle.schemas.proofs.Laws.Entries.{lookup, FoundIn, found_in}
+use Rattle.schemas.specs.Laws.Walks.{section-ends}
+use Rattle.schemas.specs.Laws.Bodies.{is_body}
+use Rattle.schemas.specs.Laws.Checks.{Head, head, checked-whole}
+use Rattle.schemas.specs.Laws.Entries.{lookup, FoundIn, found_in}
 use Rattle.schemas.specs.declared.kinds.SectionKind.TheVariants.{Entities, Actions, Functions}
 use Rattle.schemas.specs.declared.sections.Section.{Section}
 use Rattle.schemas.specs.declared.sections.Sections.{Sections}

@@ -1,0 +1,3 @@
+-- Laws for the exports' proofs.
+pub mod Brief
+pub mod Checks
