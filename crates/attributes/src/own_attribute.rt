@@ -1,6 +1,6 @@
 // The attribute of a record or an action, found in its own form.
 ghost use Rattle.std.specs.Prelude.{◌≡◌, true, ◌+◌, ◌*◌, ◌-◌};
-ghost use Rattle.cedar.specs.Types.{find as findIn};
+ghost use Rattle.cedar.specs.Types.{find as find_in};
 ghost use Rattle.cedar.specs.Attribute.{own_attr};
 ghost use Rattle.cedar.specs.BodyPlace.{body_from, body_place};
 ghost use Rattle.forms.specs.Parts.{rd};
@@ -24,7 +24,7 @@ pub enum Place {
 // The attribute of a list whose count stands at `at`.
 fn listed_attribute(t: &[u8], at: usize, name: usize, levels: usize) -> Place
     requires { Tabled levels «at» t.now }
-    ensures placed { Placed levels t.now (findIn name (attrs_at levels «at» t.now)) result }
+    ensures placed { Placed levels t.now (find_in name (attrs_at levels «at» t.now)) result }
     ensures result_value { span_of result ≡ body_from («at» + 2 + 5 * rd t.now «at») name (attrs_at levels «at» t.now) }
 {
     let n = u16_at(t, at);

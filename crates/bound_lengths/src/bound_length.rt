@@ -1,6 +1,6 @@
 // How long the least upper bound of two types is, or why there is none: one walk.
 ghost use Rattle.std.specs.Prelude.{◌≡◌, true, ◌+◌, ◌*◌, ◌≤◌, ◌-◌, eqb, length, get_or};
-ghost use Rattle.cedar.specs.Types.{find as findAttr};
+ghost use Rattle.cedar.specs.Types.{find as find_attr};
 ghost use Rattle.cedar.specs.TypeForm.{enc};
 ghost use Rattle.cedar.specs.Laws.DirectBound.{direct, direct_names};
 ghost use Rattle.forms.specs.Parts.{rd, rest, kind};
@@ -177,7 +177,7 @@ fn pair_length(
     requires in_bounds { (5 ≤ length e.now) × (get_or e.now 2 0 ≤ 1) }
     requires t_value { whole levels t.now ≡ true }
     requires front { Front levels m (rd e.now 0) f.now c.now }
-    ensures { result ≡ pair_length_of (joined (as_mode mode) (eqb (get_or e.now 2 0) 1) (dec levels t.now) (findAttr (rd e.now 0) (dec_a (dec levels) m f.now c.now))) }
+    ensures { result ≡ pair_length_of (joined (as_mode mode) (eqb (get_or e.now 2 0) 1) (dec levels t.now) (find_attr (rd e.now 0) (dec_a (dec levels) m f.now c.now))) }
 {
     let Found::At(_, _) = find(Width::ATTRIBUTE, f, c, m, u16_at(e, 0)) else {
         return dropped(mode, Refusal::RECORD_WIDTH);

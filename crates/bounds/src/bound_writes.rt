@@ -1,6 +1,6 @@
 // The least upper bound of two types, written where the length pass found it to fit.
 ghost use Rattle.std.specs.Prelude.{◌≡◌, true, ◌+◌, ◌*◌, ◌≤◌, eqb, length, get_or};
-ghost use Rattle.cedar.specs.Types.{strict, ent, find as findAttr};
+ghost use Rattle.cedar.specs.Types.{strict, ent, find as find_attr};
 ghost use Rattle.cedar.specs.TypeForm.{enc};
 ghost use Rattle.cedar.specs.Result.{ok};
 ghost use Rattle.cedar.specs.Bound.{union};
@@ -226,8 +226,8 @@ fn write_pair(
     requires in_bounds { (5 ≤ length e.now) × (get_or e.now 2 0 ≤ 1) }
     requires t_value { whole levels t.now ≡ true }
     requires front { Front levels m (rd e.now 0) f.now c.now }
-    requires ready { Ready pair_form (joined (as_mode mode) (eqb (get_or e.now 2 0) 1) (dec levels t.now) (findAttr (rd e.now 0) (dec_a (dec levels) m f.now c.now))) out.old }
-    ensures { Written (form_of pair_form (joined (as_mode mode) (eqb (get_or e.now 2 0) 1) (dec levels t.now) (findAttr (rd e.now 0) (dec_a (dec levels) m f.now c.now)))) out.old out.new result }
+    requires ready { Ready pair_form (joined (as_mode mode) (eqb (get_or e.now 2 0) 1) (dec levels t.now) (find_attr (rd e.now 0) (dec_a (dec levels) m f.now c.now))) out.old }
+    ensures { Written (form_of pair_form (joined (as_mode mode) (eqb (get_or e.now 2 0) 1) (dec levels t.now) (find_attr (rd e.now 0) (dec_a (dec levels) m f.now c.now)))) out.old out.new result }
 {
     if !pair_kept(mode, e, t, f, c, m, levels) {
         return 0;

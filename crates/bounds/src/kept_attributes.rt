@@ -1,7 +1,7 @@
 // Which attributes a bound keeps, where there is one: strict all of them, permissive those whose types have a bound. Permissive, two
 // records always have one, and loose two sets, so no part of theirs is looked at.
 ghost use Rattle.std.specs.Prelude.{◌≡◌, true, cond, ◌≤◌, eqb, length, get_or};
-ghost use Rattle.cedar.specs.Types.{is_permissive, find as findAttr};
+ghost use Rattle.cedar.specs.Types.{is_permissive, find as find_attr};
 ghost use Rattle.cedar.specs.Laws.DirectBound.{direct};
 ghost use Rattle.forms.specs.Parts.{rd};
 ghost use Rattle.forms.specs.TypeBytes.{whole, dec, dec_a};
@@ -71,8 +71,8 @@ pub fn pair_kept(
     requires in_bounds { 5 ≤ length e.now }
     requires t_value { whole levels t.now ≡ true }
     requires front { Front levels m (rd e.now 0) f.now c.now }
-    requires c_value { is_ok (joined (as_mode mode) (eqb (get_or e.now 2 0) 1) (dec levels t.now) (findAttr (rd e.now 0) (dec_a (dec levels) m f.now c.now))) ≡ true }
-    ensures { result ≡ is_kept (joined (as_mode mode) (eqb (get_or e.now 2 0) 1) (dec levels t.now) (findAttr (rd e.now 0) (dec_a (dec levels) m f.now c.now))) }
+    requires c_value { is_ok (joined (as_mode mode) (eqb (get_or e.now 2 0) 1) (dec levels t.now) (find_attr (rd e.now 0) (dec_a (dec levels) m f.now c.now))) ≡ true }
+    ensures { result ≡ is_kept (joined (as_mode mode) (eqb (get_or e.now 2 0) 1) (dec levels t.now) (find_attr (rd e.now 0) (dec_a (dec levels) m f.now c.now))) }
 {
     if !mode.is_permissive() {
         return true;

@@ -1,6 +1,6 @@
 // Numbers and bytes as text, in ASCII.
 ghost use Rattle.std.specs.Prelude.{◌≡◌, ◌∷◌, [], ◌≤◌, ◌<◌, length};
-ghost use Rattle.cedar.specs.Lines.{digit as digitOf, decimal, hex};
+ghost use Rattle.cedar.specs.Lines.{digit as digit_of, decimal, hex};
 ghost use Rattle.writing.specs.Written.{Written};
 
 use writing::writers::put_one;
@@ -8,7 +8,7 @@ use writing::writers::put_one;
 // A digit of base 16 at most.
 fn digit(d: usize) -> u8
     requires { d < 16 }
-    ensures { result ≡ digitOf d }
+    ensures { result ≡ digit_of d }
 {
     if d < 10 {
         b'0' + d as u8
