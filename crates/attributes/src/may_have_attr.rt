@@ -31,8 +31,8 @@ fn lists_attribute(t: &[u8], name: usize, levels: usize) -> bool
 
 // Whether a record is open or lists the attribute.
 fn record_may_have(t: &[u8], name: usize, levels: usize) -> bool
-    requires t_value { whole levels t.now ≡ true }
-    requires t_value_2 { kind t.now ≡ record_code }
+    requires t_whole { whole levels t.now ≡ true }
+    requires t_record { kind t.now ≡ record_code }
     ensures { result ≡ record_may_have name (dec levels t.now) }
 {
     if t[Offset::OPEN] == Openness::OPEN {
@@ -74,7 +74,7 @@ fn entity_may_have(schema: &[u8], at: Sections, types: &[u8], n: usize, name: us
 // Whether a value of the type might have the attribute.
 pub fn may_have_attr(schema: &[u8], at: Sections, t: &[u8], name: usize) -> bool
     requires sectioned { Sectioned schema.now «at» }
-    requires t_value { whole «at».limits.levels t.now ≡ true }
+    requires t_whole { whole «at».limits.levels t.now ≡ true }
     ensures { result ≡ may_have (dec_s (as_limits «at».limits) schema.now) name (dec «at».limits.levels t.now) }
 {
     let k = t[0];

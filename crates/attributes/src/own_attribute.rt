@@ -25,7 +25,7 @@ pub enum Place {
 fn listed_attribute(t: &[u8], at: usize, name: usize, levels: usize) -> Place
     requires { Tabled levels «at» t.now }
     ensures placed { Placed levels t.now (find_in name (attrs_at levels «at» t.now)) result }
-    ensures result_value { span_of result ≡ body_from («at» + 2 + 5 * rd t.now «at») name (attrs_at levels «at» t.now) }
+    ensures spanned { span_of result ≡ body_from («at» + 2 + 5 * rd t.now «at») name (attrs_at levels «at» t.now) }
 {
     let n = u16_at(t, at);
     let start = at + Width::COUNT;
@@ -48,7 +48,7 @@ fn listed_attribute(t: &[u8], at: usize, name: usize, levels: usize) -> Place
 pub fn own_attribute(t: &[u8], name: usize, levels: usize) -> Place
     requires { whole levels t.now ≡ true }
     ensures placed { Placed (levels - 1) t.now (own_attr name (dec levels t.now)) result }
-    ensures result_value { span_of result ≡ body_place name (dec levels t.now) }
+    ensures spanned { span_of result ≡ body_place name (dec levels t.now) }
 {
     let k = t[0];
     if k == Kind::RECORD {

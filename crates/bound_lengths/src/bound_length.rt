@@ -67,8 +67,8 @@ fn entities_length(mode: Mode, a: &[u8], b: &[u8]) -> FormLength
 // Of two types.
 #[cycle(attributes_length_bound_length_pair_length_record_length)]
 pub fn bound_length(mode: Mode, a: &[u8], b: &[u8], levels: usize) -> FormLength
-    requires a_value { whole levels a.now ≡ true }
-    requires b_value { whole levels b.now ≡ true }
+    requires a_whole { whole levels a.now ≡ true }
+    requires b_whole { whole levels b.now ≡ true }
     ensures { result ≡ form_length_of enc (direct (as_mode mode) (dec levels a.now) (dec levels b.now)) }
 {
     let j = a[0];
@@ -112,8 +112,8 @@ pub fn bound_length(mode: Mode, a: &[u8], b: &[u8], levels: usize) -> FormLength
 // Of two records.
 #[cycle(attributes_length_bound_length_pair_length_record_length)]
 fn record_length(mode: Mode, a: &[u8], b: &[u8], levels: usize) -> FormLength
-    requires a_value { (whole levels a.now ≡ true) × (kind a.now ≡ 8) }
-    requires b_value { (whole levels b.now ≡ true) × (kind b.now ≡ 8) }
+    requires a_whole { (whole levels a.now ≡ true) × (kind a.now ≡ 8) }
+    requires b_whole { (whole levels b.now ≡ true) × (kind b.now ≡ 8) }
     ensures { result ≡ form_length_of enc (direct (as_mode mode) (dec levels a.now) (dec levels b.now)) }
 {
     let x = &a[Offset::RECORD_COUNT..];
@@ -175,7 +175,7 @@ fn pair_length(
     levels: usize,
 ) -> PairLength
     requires in_bounds { (5 ≤ length e.now) × (get_or e.now 2 0 ≤ 1) }
-    requires t_value { whole levels t.now ≡ true }
+    requires t_whole { whole levels t.now ≡ true }
     requires front { Front levels m (rd e.now 0) f.now c.now }
     ensures { result ≡ pair_length_of (joined (as_mode mode) (eqb (get_or e.now 2 0) 1) (dec levels t.now) (find_attr (rd e.now 0) (dec_a (dec levels) m f.now c.now))) }
 {

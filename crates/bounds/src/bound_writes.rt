@@ -67,8 +67,8 @@ pub fn write_bound(
     known: usize,
     out: &mut [u8],
 ) -> usize
-    requires a_value { whole levels a.now ≡ true }
-    requires b_value { whole levels b.now ≡ true }
+    requires a_whole { whole levels a.now ≡ true }
+    requires b_whole { whole levels b.now ≡ true }
     requires ready { Ready enc (direct (as_mode mode) (dec levels a.now) (dec levels b.now)) out.old }
     requires known_length { KnownLength known (form_of enc (direct (as_mode mode) (dec levels a.now) (dec levels b.now))) }
     ensures { Written (form_of enc (direct (as_mode mode) (dec levels a.now) (dec levels b.now))) out.old out.new result }
@@ -106,8 +106,8 @@ pub fn write_bound(
 // Writes the bound of two sets, and says how long it is: the untyped set, or the bound of their elements behind the kind.
 #[cycle(write_action_write_attributes_write_bound_write_pair_write_record_write_set)]
 fn write_set(mode: Mode, a: &[u8], b: &[u8], levels: usize, known: usize, out: &mut [u8]) -> usize
-    requires a_value { (whole levels a.now ≡ true) × (kind a.now ≡ 7) }
-    requires b_value { (whole levels b.now ≡ true) × (kind b.now ≡ 7) }
+    requires a_whole { (whole levels a.now ≡ true) × (kind a.now ≡ 7) }
+    requires b_whole { (whole levels b.now ≡ true) × (kind b.now ≡ 7) }
     requires ready { Ready enc (direct (as_mode mode) (dec levels a.now) (dec levels b.now)) out.old }
     requires known_length { KnownLength known (form_of enc (direct (as_mode mode) (dec levels a.now) (dec levels b.now))) }
     ensures { Written (form_of enc (direct (as_mode mode) (dec levels a.now) (dec levels b.now))) out.old out.new result }
@@ -126,8 +126,8 @@ fn write_set(mode: Mode, a: &[u8], b: &[u8], levels: usize, known: usize, out: &
 // Writes the bound of two records, and says how long it is.
 #[cycle(write_action_write_attributes_write_bound_write_pair_write_record_write_set)]
 fn write_record(mode: Mode, a: &[u8], b: &[u8], levels: usize, out: &mut [u8]) -> usize
-    requires a_value { (whole levels a.now ≡ true) × (kind a.now ≡ 8) }
-    requires b_value { (whole levels b.now ≡ true) × (kind b.now ≡ 8) }
+    requires a_whole { (whole levels a.now ≡ true) × (kind a.now ≡ 8) }
+    requires b_whole { (whole levels b.now ≡ true) × (kind b.now ≡ 8) }
     requires ready { Ready enc (direct (as_mode mode) (dec levels a.now) (dec levels b.now)) out.old }
     ensures { Written (form_of enc (direct (as_mode mode) (dec levels a.now) (dec levels b.now))) out.old out.new result }
 {
@@ -149,9 +149,9 @@ fn write_record(mode: Mode, a: &[u8], b: &[u8], levels: usize, out: &mut [u8]) -
 // Writes the bound of two actions of one name, and says how long it is.
 #[cycle(write_action_write_attributes_write_bound_write_pair_write_record_write_set)]
 fn write_action(a: &[u8], b: &[u8], levels: usize, out: &mut [u8]) -> usize
-    requires a_value { (whole levels a.now ≡ true) × (kind a.now ≡ 11) }
-    requires b_value { (whole levels b.now ≡ true) × (kind b.now ≡ 11) }
-    requires a_value_2 { rd a.now 1 ≡ rd b.now 1 }
+    requires a_whole { (whole levels a.now ≡ true) × (kind a.now ≡ 11) }
+    requires b_whole { (whole levels b.now ≡ true) × (kind b.now ≡ 11) }
+    requires same_name { rd a.now 1 ≡ rd b.now 1 }
     requires ready { Ready enc (direct strict (dec levels a.now) (dec levels b.now)) out.old }
     ensures { Written (form_of enc (direct strict (dec levels a.now) (dec levels b.now))) out.old out.new result }
 {
@@ -175,7 +175,7 @@ fn write_attributes(
 ) -> usize
     requires tabled { Tabled levels 0 a.now }
     requires tabled_2 { Tabled levels 0 b.now }
-    requires n_value { n ≡ count_of (joined_attrs (as_mode mode) (attrs_at levels 0 a.now) (attrs_at levels 0 b.now)) }
+    requires n_kept { n ≡ count_of (joined_attrs (as_mode mode) (attrs_at levels 0 a.now) (attrs_at levels 0 b.now)) }
     requires ready { Ready table (joined_attrs (as_mode mode) (attrs_at levels 0 a.now) (attrs_at levels 0 b.now)) out.old }
     ensures { Written (form_of table (joined_attrs (as_mode mode) (attrs_at levels 0 a.now) (attrs_at levels 0 b.now))) out.old out.new result }
 {
@@ -224,7 +224,7 @@ fn write_pair(
     out: &mut [u8],
 ) -> usize
     requires in_bounds { (5 ≤ length e.now) × (get_or e.now 2 0 ≤ 1) }
-    requires t_value { whole levels t.now ≡ true }
+    requires t_whole { whole levels t.now ≡ true }
     requires front { Front levels m (rd e.now 0) f.now c.now }
     requires ready { Ready pair_form (joined (as_mode mode) (eqb (get_or e.now 2 0) 1) (dec levels t.now) (find_attr (rd e.now 0) (dec_a (dec levels) m f.now c.now))) out.old }
     ensures { Written (form_of pair_form (joined (as_mode mode) (eqb (get_or e.now 2 0) 1) (dec levels t.now) (find_attr (rd e.now 0) (dec_a (dec levels) m f.now c.now)))) out.old out.new result }

@@ -22,8 +22,8 @@ use writing::form_lengths::FormLength;
 
 // Whether the length pass finds a bound.
 fn has_length(mode: Mode, a: &[u8], b: &[u8], levels: usize) -> bool
-    requires a_value { whole levels a.now ≡ true }
-    requires b_value { whole levels b.now ≡ true }
+    requires a_whole { whole levels a.now ≡ true }
+    requires b_whole { whole levels b.now ≡ true }
     ensures { result ≡ is_ok (direct (as_mode mode) (dec levels a.now) (dec levels b.now)) }
 {
     match bound_length(mode, a, b, levels) {
@@ -34,9 +34,9 @@ fn has_length(mode: Mode, a: &[u8], b: &[u8], levels: usize) -> bool
 
 // Whether two types have a bound, permissive. Of one kind, only sets, actions and extensions may have none, and loose no sets.
 pub fn has_bound(mode: Mode, a: &[u8], b: &[u8], levels: usize) -> bool
-    requires mode_value { is_permissive (as_mode mode) ≡ true }
-    requires a_value { whole levels a.now ≡ true }
-    requires b_value { whole levels b.now ≡ true }
+    requires permissive { is_permissive (as_mode mode) ≡ true }
+    requires a_whole { whole levels a.now ≡ true }
+    requires b_whole { whole levels b.now ≡ true }
     ensures { result ≡ is_ok (direct (as_mode mode) (dec levels a.now) (dec levels b.now)) }
 {
     let j = a[0];
@@ -69,9 +69,9 @@ pub fn pair_kept(
     levels: usize,
 ) -> bool
     requires in_bounds { 5 ≤ length e.now }
-    requires t_value { whole levels t.now ≡ true }
+    requires t_whole { whole levels t.now ≡ true }
     requires front { Front levels m (rd e.now 0) f.now c.now }
-    requires c_value { is_ok (joined (as_mode mode) (eqb (get_or e.now 2 0) 1) (dec levels t.now) (find_attr (rd e.now 0) (dec_a (dec levels) m f.now c.now))) ≡ true }
+    requires kept { is_ok (joined (as_mode mode) (eqb (get_or e.now 2 0) 1) (dec levels t.now) (find_attr (rd e.now 0) (dec_a (dec levels) m f.now c.now))) ≡ true }
     ensures { result ≡ is_kept (joined (as_mode mode) (eqb (get_or e.now 2 0) 1) (dec levels t.now) (find_attr (rd e.now 0) (dec_a (dec levels) m f.now c.now))) }
 {
     if !mode.is_permissive() {
@@ -98,7 +98,7 @@ fn one_if(yes: bool) -> usize
 pub fn kept_count(mode: Mode, a: &[u8], b: &[u8], levels: usize) -> usize
     requires tabled { Tabled levels 0 a.now }
     requires tabled_2 { Tabled levels 0 b.now }
-    requires b_value { is_ok (joined_attrs (as_mode mode) (attrs_at levels 0 a.now) (attrs_at levels 0 b.now)) ≡ true }
+    requires joined { is_ok (joined_attrs (as_mode mode) (attrs_at levels 0 a.now) (attrs_at levels 0 b.now)) ≡ true }
     ensures { result ≡ count_of (joined_attrs (as_mode mode) (attrs_at levels 0 a.now) (attrs_at levels 0 b.now)) }
 {
     let mut left = u16_at(a, 0);

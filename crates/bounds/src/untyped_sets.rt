@@ -15,9 +15,9 @@ use forms::offsets::Offset;
 // Whether two sets that have a bound have the untyped one, by their elements. Where the length of the bound is known, and not 0, it
 // tells: no other bound of sets has one byte.
 pub fn is_untyped(mode: Mode, x: &[u8], y: &[u8], levels: usize, known: usize) -> bool
-    requires x_value { whole levels x.now ≡ true }
-    requires y_value { whole levels y.now ≡ true }
-    requires y_value_2 { is_ok (join_set (as_mode mode) (direct (as_mode mode) (dec levels x.now) (dec levels y.now))) ≡ true }
+    requires x_whole { whole levels x.now ≡ true }
+    requires y_whole { whole levels y.now ≡ true }
+    requires bounded { is_ok (join_set (as_mode mode) (direct (as_mode mode) (dec levels x.now) (dec levels y.now))) ≡ true }
     requires known_length { KnownLength known (form_of enc (join_set (as_mode mode) (direct (as_mode mode) (dec levels x.now) (dec levels y.now)))) }
     ensures { result ≡ not (is_ok (direct (as_mode mode) (dec levels x.now) (dec levels y.now))) }
 {

@@ -31,7 +31,7 @@ pub fn call_returns(
     levels: usize,
 ) -> Verdict
     requires sectioned { Sectioned schema.now sections }
-    requires v_value { whole_v_as (whole_v levels) call_kind v.now ≡ true }
+    requires v_whole { whole_v_as (whole_v levels) call_kind v.now ≡ true }
     ensures { result ≡ verdict_of (is_extension (counts_of counts) (dec_s (as_limits sections.limits) schema.now) extension (rd v.now 1, arguments_of levels v.now)) }
 {
     let name = u16_at(v, ValueOffset::FUNCTION);
@@ -60,8 +60,8 @@ fn arguments_fit(
     levels: usize,
 ) -> Verdict
     requires sectioned { Sectioned schema.now sections }
-    requires asked_value { args_fit asked.now ≡ true }
-    requires v_value { whole_v_as (whole_v levels) call_kind v.now ≡ true }
+    requires asked_fit { args_fit asked.now ≡ true }
+    requires v_whole { whole_v_as (whole_v levels) call_kind v.now ≡ true }
     ensures { result ≡ verdict_of (of_arguments (counts_of counts) (dec_s (as_limits sections.limits) schema.now) (arguments_of levels v.now) (args_of asked.now)) }
 {
     let n = u16_at(v, ValueOffset::CALL_COUNT);
@@ -102,7 +102,7 @@ fn argument_fits(
 ) -> Verdict
     requires sectioned { Sectioned schema.now sections }
     requires in_bounds { (3 ≤ length asked.now) × (arg_fits asked.now ≡ true) }
-    requires v_value { whole_v levels v.now ≡ true }
+    requires v_whole { whole_v levels v.now ≡ true }
     ensures { result ≡ verdict_of (of_argument (counts_of counts) (dec_s (as_limits sections.limits) schema.now) (dec_v levels v.now) (arg_at asked.now)) }
 {
     let k = asked[0];

@@ -36,8 +36,8 @@ pub fn conforms(
     levels: usize,
 ) -> Verdict
     requires sectioned { Sectioned schema.now sections }
-    requires t_value { whole levels t.now ≡ true }
-    requires v_value { whole_v levels v.now ≡ true }
+    requires t_whole { whole levels t.now ≡ true }
+    requires v_whole { whole_v levels v.now ≡ true }
     ensures { result ≡ verdict_of (has (counts_of counts) (dec_s (as_limits sections.limits) schema.now) (dec levels t.now) (dec_v levels v.now)) }
 {
     let k = t[0];
@@ -82,8 +82,8 @@ fn members_conform(
     levels: usize,
 ) -> Verdict
     requires sectioned { Sectioned schema.now sections }
-    requires t_value { whole levels t.now ≡ true }
-    requires v_value { whole_v_as (whole_v levels) set_kind v.now ≡ true }
+    requires t_whole { whole levels t.now ≡ true }
+    requires v_whole { whole_v_as (whole_v levels) set_kind v.now ≡ true }
     ensures { result ≡ verdict_of (each_value (λ x. has (counts_of counts) (dec_s (as_limits sections.limits) schema.now) (dec levels t.now) x) (members_of levels v.now)) }
 {
     let n = u16_at(v, ValueOffset::SET_COUNT);
@@ -116,8 +116,8 @@ fn record_conforms(
     levels: usize,
 ) -> Verdict
     requires sectioned { Sectioned schema.now sections }
-    requires t_value { whole_as (whole levels) rec_kind t.now ≡ true }
-    requires v_value { whole_v_as (whole_v levels) record_kind v.now ≡ true }
+    requires t_whole { whole_as (whole levels) rec_kind t.now ≡ true }
+    requires v_whole { whole_v_as (whole_v levels) record_kind v.now ≡ true }
     ensures { result ≡ verdict_of (record_said (counts_of counts) (dec_s (as_limits sections.limits) schema.now) (is_open t.now) (attributes_of levels t.now) (pairs_of levels v.now)) }
 {
     let m = u16_at(t, Offset::RECORD_COUNT);
@@ -169,7 +169,7 @@ fn pair_conforms(
 ) -> Verdict
     requires sectioned { Sectioned schema.now sections }
     requires sound { Sound levels n 0 f.now c.now }
-    requires v_value { whole_v levels v.now ≡ true }
+    requires v_whole { whole_v levels v.now ≡ true }
     ensures { result ≡ verdict_of (conforms_at (counts_of counts) (dec_s (as_limits sections.limits) schema.now) (eqb openness 1) (dec_a (dec levels) n f.now c.now) name (dec_v levels v.now)) }
 {
     let Found::At(i, start) = find(Width::ATTRIBUTE, f, c, n, name) else {

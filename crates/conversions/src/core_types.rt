@@ -87,7 +87,7 @@ fn bool_or(k: u8) -> u8
 // Writes the core type's form, and says how long it is.
 #[cycle(write_core_write_core_attributes)]
 pub fn write_core(t: &[u8], levels: usize, out: &mut [u8]) -> usize
-    requires t_value { whole levels t.now ≡ true }
+    requires t_whole { whole levels t.now ≡ true }
     requires ready { Ready enc (core (dec levels t.now)) out.old }
     ensures { Written (form_of enc (core (dec levels t.now))) out.old out.new result }
 {

@@ -23,8 +23,8 @@ pub enum JoinStep {
     TooLong,
 }
 
-// The bound of the type in the first bytes of `last` and another: written into a half of the workspace, then copied to `last`. The
-// halves cannot be lent at once, so each step reads a copy.
+// The bound of the type in the first bytes of `last` and another: written into a half of the workspace, then copied to `last`. Each
+// step reads that copy, so that one half alone is lent.
 fn write_step(
     mode: Mode,
     last: &mut [u8],
@@ -35,7 +35,7 @@ fn write_step(
     work: &mut [u8],
 ) -> JoinStep
     requires held { Held (as_limits limits) len last.old }
-    requires t_value { whole limits.levels t.now ≡ true }
+    requires t_whole { whole limits.levels t.now ≡ true }
     ensures { Stepped (as_limits limits) (bound (as_mode mode) (dec limits.levels (part 0 len last.old)) (dec limits.levels t.now)) (length work.old) last.new result }
 {
     let half = work.len() / 2;
@@ -70,7 +70,7 @@ pub fn join_step(
     work: &mut [u8],
 ) -> JoinStep
     requires held { Held (as_limits limits) len last.old }
-    requires t_value { whole limits.levels t.now ≡ true }
+    requires t_whole { whole limits.levels t.now ≡ true }
     ensures { Stepped (as_limits limits) (bound (as_mode mode) (dec limits.levels (part 0 len last.old)) (dec limits.levels t.now)) (length work.old) last.new result }
 {
     if !is_subtype(mode, t, &last[0..len], limits.levels) {

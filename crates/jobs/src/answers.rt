@@ -31,7 +31,7 @@ use validator::typecheck_restricted_expr::{
 
 // The fold of a list, with a job's workspace.
 fn fold(schema: &[u8], check: Checked, mode: u8, list: &[u8], res: &mut [u8]) -> Answer
-    requires check_value { check ≡ checked job_limits schema.now }
+    requires own_check { check ≡ checked job_limits schema.now }
     requires res_len { length res.old ≡ job_room }
     ensures { Answered (fold_call standard mode schema.now list.now job_room job_work) res.old res.new result }
 {
@@ -41,7 +41,7 @@ fn fold(schema: &[u8], check: Checked, mode: u8, list: &[u8], res: &mut [u8]) ->
 
 // The lookup of an attribute, with a job's workspace.
 fn lookup(schema: &[u8], check: Checked, attribute: u16, t: &[u8], res: &mut [u8]) -> Answer
-    requires check_value { check ≡ checked job_limits schema.now }
+    requires own_check { check ≡ checked job_limits schema.now }
     requires res_len { length res.old ≡ job_room }
     ensures { Answered (lookup_call standard schema.now attribute t.now job_room job_work) res.old res.new result }
 {
@@ -51,7 +51,7 @@ fn lookup(schema: &[u8], check: Checked, attribute: u16, t: &[u8], res: &mut [u8
 
 // The names of a type's attributes, with a job's workspace.
 fn names(schema: &[u8], check: Checked, t: &[u8], res: &mut [u8]) -> Answer
-    requires check_value { check ≡ checked job_limits schema.now }
+    requires own_check { check ≡ checked job_limits schema.now }
     requires res_len { length res.old ≡ job_room }
     ensures { Answered (names_call standard schema.now t.now job_room job_work) res.old res.new result }
 {
@@ -68,8 +68,8 @@ fn ask(
     second: &[u8],
     res: &mut [u8],
 ) -> Answer
-    requires operation_le_last_operation { q.operation ≤ last_operation }
-    requires check_value { check ≡ checked job_limits schema.now }
+    requires known_operation { q.operation ≤ last_operation }
+    requires own_check { check ≡ checked job_limits schema.now }
     requires res_len { length res.old ≡ job_room }
     ensures { Answered (asked (op_of q.operation) q.mode q.attribute schema.now first.now second.now) res.old res.new result }
 {
@@ -94,8 +94,8 @@ fn ask(
 
 // The answer to the question at which a cursor stands.
 pub fn answer_at(job: &[u8], check: Checked, cursor: Cursor, res: &mut [u8]) -> Answer
-    requires cursor_value { stands_at job.now cursor ≡ true }
-    requires check_value { check ≡ job_check job.now }
+    requires stands { stands_at job.now cursor ≡ true }
+    requires own_check { check ≡ job_check job.now }
     requires res_len { length res.old ≡ job_room }
     ensures { Answered (outcome_at job.now cursor) res.old res.new result }
 {

@@ -37,7 +37,7 @@ fn deeper(form: Form, b: &[u8], levels: usize, most: usize) -> usize
 #[cycle(deeper_deepest_body_type_levels_value_levels)]
 fn deepest_body(form: Form, t: &[u8], at: usize, width: usize, levels: usize) -> usize
     requires at_bound { (at < 4) × (2 ≤ width) × (width ≤ 5) }
-    requires t_value { table_fits (body_row width) (λ _. whole_form form levels) tt at t.now ≡ true }
+    requires t_table { table_fits (body_row width) (λ _. whole_form form levels) tt at t.now ≡ true }
     ensures { result ≡ deepest_at form levels width at t.now }
 {
     let n = u16_at(t, at);

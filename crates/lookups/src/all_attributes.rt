@@ -87,7 +87,7 @@ fn kept_names(
 ) -> Names
     requires sectioned { Sectioned schema.now «at» }
     requires named { Named n types.now }
-    requires at_in_bounds { «at».limits.bytes ≤ length last.old }
+    requires last_room { «at».limits.bytes ≤ length last.old }
     requires entered { Entered m es.now kept.old }
     ensures { NamedBy (keep_found (λ a. lookup_names (step_fits (as_limits «at».limits) (length work.old)) (dec_s (as_limits «at».limits) schema.now) a (names_by 2 n types.now)) (names_by 5 m es.now)) kept.old kept.new result }
 {
@@ -119,8 +119,8 @@ fn entity_names(
 ) -> Names
     requires sectioned { Sectioned schema.now «at» }
     requires named { Named n types.now }
-    requires at_in_bounds { «at».limits.bytes ≤ length last.old }
-    requires at_in_bounds_2 { («at».limits.bytes ≤ length kept.old) × (length kept.old ≤ most_bytes) }
+    requires last_room { «at».limits.bytes ≤ length last.old }
+    requires kept_room { («at».limits.bytes ≤ length kept.old) × (length kept.old ≤ most_bytes) }
     ensures { NamedBy (entity_names (step_fits (as_limits «at».limits) (length work.old)) (dec_s (as_limits «at».limits) schema.now) (names_by 2 n types.now)) kept.old kept.new result }
 {
     if n == 0 {
@@ -154,7 +154,7 @@ pub fn all_names(
 ) -> Names
     requires sectioned { Sectioned schema.now «at» }
     requires asked { Asked (as_limits «at».limits) t.now last.old }
-    requires at_in_bounds { («at».limits.bytes ≤ length kept.old) × (length kept.old ≤ most_bytes) }
+    requires kept_room { («at».limits.bytes ≤ length kept.old) × (length kept.old ≤ most_bytes) }
     ensures { NamedBy (all_names (step_fits (as_limits «at».limits) (length work.old)) (dec_s (as_limits «at».limits) schema.now) (dec «at».limits.levels t.now)) kept.old kept.new result }
 {
     let k = t[0];

@@ -97,7 +97,7 @@ pub fn look_up_types(
 ) -> Looked
     requires sectioned { Sectioned schema.now «at» }
     requires named { Named n types.now }
-    requires at_in_bounds { «at».limits.bytes ≤ length last.old }
+    requires last_room { «at».limits.bytes ≤ length last.old }
     ensures { LookedUp (as_limits «at».limits) (lookup_names (step_fits (as_limits «at».limits) (length work.old)) (dec_s (as_limits «at».limits) schema.now) name (names_by 2 n types.now)) last.new result }
 {
     if n == 0 {

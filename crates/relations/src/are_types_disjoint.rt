@@ -31,8 +31,8 @@ fn type_names(t: &[u8], levels: usize) -> TypeNames
 
 // Whether both types, of at most so many levels, have names and share none.
 pub fn are_types_disjoint(t0: &[u8], t1: &[u8], levels: usize) -> bool
-    requires t0_value { whole levels t0.now ≡ true }
-    requires t1_value { whole levels t1.now ≡ true }
+    requires t0_whole { whole levels t0.now ≡ true }
+    requires t1_whole { whole levels t1.now ≡ true }
     ensures { result ≡ disjoint (dec levels t0.now) (dec levels t1.now) }
 {
     let TypeNames::From(a, n) = type_names(t0, levels) else {

@@ -33,7 +33,7 @@ fn kind_consistent(j: u8, k: u8) -> bool
 
 // Whether a type is consistent with an entity: one that has its name, any entity, or an action of the name.
 fn entity_consistent(t0: &[u8], t1: &[u8], levels: usize) -> bool
-    requires t0_value { whole levels t0.now ≡ true }
+    requires t0_whole { whole levels t0.now ≡ true }
     requires entity_form { EntityForm t1.now }
     ensures { result ≡ consistent_entity (dec levels t0.now) (entity_names t1.now) }
 {
@@ -111,7 +111,7 @@ fn attribute_consistent(
 ) -> bool
     requires left { Left levels n es.now bs.now }
     requires in_bounds { 5 ≤ length f.now }
-    requires u_value { whole levels u.now ≡ true }
+    requires u_whole { whole levels u.now ≡ true }
     ensures { result ≡ met_by (eqb openness 1) f.now (dec levels u.now) (dec_a (dec levels) n es.now bs.now) }
 {
     let Found::At(i, off) = find(Width::ATTRIBUTE, es, bs, n, u16_at(f, 0)) else {
@@ -170,8 +170,8 @@ fn attributes_consistent(
 // Whether t0 is consistent with t1, a core type.
 #[cycle(attribute_consistent_attributes_consistent_is_consistent_with)]
 pub fn is_consistent_with(t0: &[u8], t1: &[u8], levels: usize) -> bool
-    requires t0_value { whole levels t0.now ≡ true }
-    requires t1_value { whole levels t1.now ≡ true }
+    requires t0_whole { whole levels t0.now ≡ true }
+    requires t1_whole { whole levels t1.now ≡ true }
     ensures { result ≡ consistent (dec levels t0.now) (dec levels t1.now) }
 {
     let j = t0[0];

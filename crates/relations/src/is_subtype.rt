@@ -144,8 +144,8 @@ fn attributes_subtype(
 // Whether t0 is a subtype of t1.
 #[cycle(attributes_subtype_is_subtype)]
 pub fn is_subtype(mode: Mode, t0: &[u8], t1: &[u8], levels: usize) -> bool
-    requires t0_value { whole levels t0.now ≡ true }
-    requires t1_value { whole levels t1.now ≡ true }
+    requires t0_whole { whole levels t0.now ≡ true }
+    requires t1_whole { whole levels t1.now ≡ true }
     ensures { result ≡ sub (as_mode mode) (dec levels t0.now) (dec levels t1.now) }
 {
     let j = t0[0];

@@ -16,7 +16,7 @@ use forms::widths::Width;
 #[cycle(bodies_are_textual_body_is_textual_strings_are_text)]
 fn bodies_are_textual(v: &[u8], at: usize, width: usize, levels: usize, outermost: bool) -> bool
     requires at_bound { (at < 4) × (2 ≤ width) × (width ≤ 4) }
-    requires v_value { table_fits (body_row width) (λ _. whole_v levels) tt at v.now ≡ true }
+    requires v_table { table_fits (body_row width) (λ _. whole_v levels) tt at v.now ≡ true }
     ensures { result ≡ textual_values (bodies_at levels width at v.now) }
 {
     let n = u16_at(v, at);

@@ -29,8 +29,8 @@ fn named(
     work: &mut [u8],
 ) -> Answer
     requires sectioned { Sectioned schema.now «at» }
-    requires at_in_bounds { «at».limits.bytes ≤ length last.old }
-    requires at_in_bounds_2 { («at».limits.bytes ≤ length kept.old) × (length kept.old ≤ most_bytes) }
+    requires last_room { «at».limits.bytes ≤ length last.old }
+    requires kept_room { («at».limits.bytes ≤ length kept.old) × (length kept.old ≤ most_bytes) }
     ensures { Answered (names_call (as_limits «at».limits) schema.now t.now (length out.old) (length work.old)) out.old out.new result }
 {
     let limits = at.limits;

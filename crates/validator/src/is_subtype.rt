@@ -22,8 +22,8 @@ fn is_subtype_under(
     t0: &[u8],
     t1: &[u8],
 ) -> Answer
-    requires limits_value { allowed (as_limits limits) ≡ true }
-    requires check_value { check ≡ checked limits schema.now }
+    requires fair { allowed (as_limits limits) ≡ true }
+    requires own_check { check ≡ checked limits schema.now }
     ensures { result ≡ answer_of (subtype_call (as_limits limits) mode schema.now t0.now t1.now) }
 {
     let KnownMode::Of(m) = Mode::from_number(mode) else {

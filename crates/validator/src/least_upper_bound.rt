@@ -28,8 +28,8 @@ fn least_upper_bound_under(
     t1: &[u8],
     out: &mut [u8],
 ) -> Answer
-    requires limits_value { allowed (as_limits limits) ≡ true }
-    requires check_value { check ≡ checked limits schema.now }
+    requires fair { allowed (as_limits limits) ≡ true }
+    requires own_check { check ≡ checked limits schema.now }
     ensures { Answered (bound_call (as_limits limits) mode schema.now t0.now t1.now (length out.old)) out.old out.new result }
 {
     let KnownMode::Of(m) = Mode::from_number(mode) else {

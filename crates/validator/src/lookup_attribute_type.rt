@@ -29,7 +29,7 @@ fn looked_up(
     work: &mut [u8],
 ) -> Answer
     requires sectioned { Sectioned schema.now «at» }
-    requires at_in_bounds { «at».limits.bytes ≤ length last.old }
+    requires last_room { «at».limits.bytes ≤ length last.old }
     ensures { Answered (lookup_call (as_limits «at».limits) schema.now attr t.now (length out.old) (length work.old)) out.old out.new result }
 {
     let limits = at.limits;

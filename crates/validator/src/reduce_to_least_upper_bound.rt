@@ -29,9 +29,9 @@ fn reduced(
     out: &mut [u8],
     work: &mut [u8],
 ) -> Answer
-    requires limits_value { allowed (as_limits limits) ≡ true }
-    requires check_value { check ≡ checked limits schema.now }
-    requires bytes_in_bounds { limits.bytes ≤ length last.old }
+    requires fair { allowed (as_limits limits) ≡ true }
+    requires own_check { check ≡ checked limits schema.now }
+    requires last_room { limits.bytes ≤ length last.old }
     ensures { Answered (fold_call (as_limits limits) mode schema.now list.now (length out.old) (length work.old)) out.old out.new result }
 {
     let KnownMode::Of(m) = Mode::from_number(mode) else {

@@ -16,7 +16,7 @@ pub returns-in_default : goal.returns-in_default
 returns-in_default c =
     let both = place-nothing c.requires c.u16_at-n.result c.u16_at-n.ensures.0 c.args.name c.find.result c.find.ensures
     c.in_default.is in
-    record { placed = both.0; result_value = both.1 }
+    record { placed = both.0; spanned = both.1 }
 
 pub overflow_mul-e : goal.overflow_mul-e
 overflow_mul-e c =
@@ -72,5 +72,5 @@ returns c =
     let bytes = Bytes-index c.args.t.now (λ i. omega (arith, c.type_inv.t i)) in
     record {
       placed = rw c.u16_at.ensures.0 (omega arith, p.inside, p.body, p.is);
-      result_value = rw c.u16_at.ensures.0 (sym (p.place bytes));
+      spanned = rw c.u16_at.ensures.0 (sym (p.place bytes));
     }

@@ -17,8 +17,8 @@ listed_attribute-requires c = record-listed c.args.levels c.args.t.now c.require
 pub returns-then-k-eq-RECORD : goal.returns-then-k-eq-RECORD
 returns-then-k-eq-RECORD c =
     let args = c.args in
-    let both = record-placed args.name args.levels args.t.now c.requires c.listed_attribute.result c.if-k-eq-RECORD.true (c.listed_attribute.ensures.placed, c.listed_attribute.ensures.result_value) in
-    record { placed = both.0; result_value = both.1 }
+    let both = record-placed args.name args.levels args.t.now c.requires c.listed_attribute.result c.if-k-eq-RECORD.true (c.listed_attribute.ensures.placed, c.listed_attribute.ensures.spanned) in
+    record { placed = both.0; spanned = both.1 }
 
 pub overflow_sub-levels-then-k-eq-ACTION : goal.overflow_sub-levels-then-k-eq-ACTION
 overflow_sub-levels-then-k-eq-ACTION c = (is-action c.args.levels c.args.t.now c.requires c.if-k-eq-ACTION.true).deep
@@ -29,10 +29,10 @@ listed_attribute-requires-then-k-eq-ACTION c = action-listed c.args.levels c.arg
 pub returns-then-k-eq-ACTION : goal.returns-then-k-eq-ACTION
 returns-then-k-eq-ACTION c =
     let args = c.args in
-    let both = action-placed args.name args.levels args.t.now c.requires c.listed_attribute-then-k-eq-ACTION.result c.if-k-eq-ACTION.true (c.listed_attribute-then-k-eq-ACTION.ensures.placed, c.listed_attribute-then-k-eq-ACTION.ensures.result_value) in
-    record { placed = both.0; result_value = both.1 }
+    let both = action-placed args.name args.levels args.t.now c.requires c.listed_attribute-then-k-eq-ACTION.result c.if-k-eq-ACTION.true (c.listed_attribute-then-k-eq-ACTION.ensures.placed, c.listed_attribute-then-k-eq-ACTION.ensures.spanned) in
+    record { placed = both.0; spanned = both.1 }
 
 pub returns : goal.returns
 returns c =
     let none-there = other-placed c.args.name c.args.levels c.args.t.now c.requires c.if-k-eq-RECORD.false c.if-k-eq-ACTION.false in
-    record { placed = none-there; result_value = sym (body-none c.args.name (dec c.args.levels c.args.t.now) none-there) }
+    record { placed = none-there; spanned = sym (body-none c.args.name (dec c.args.levels c.args.t.now) none-there) }

@@ -222,106 +222,106 @@ attributes_length-returns t c =
     _ c.loop-left-test.false)
 
 pub bound_length-bounds-a-0 : goal.bound_length-bounds-a-0
-bound_length-bounds-a-0 t c = omega (arith, not-empty c.args.levels c.args.a.now c.requires.a_value)
+bound_length-bounds-a-0 t c = omega (arith, not-empty c.args.levels c.args.a.now c.requires.a_whole)
 
 pub bound_length-bounds-b-0 : goal.bound_length-bounds-b-0
-bound_length-bounds-b-0 t c = omega (arith, not-empty c.args.levels c.args.b.now c.requires.b_value)
+bound_length-bounds-b-0 t c = omega (arith, not-empty c.args.levels c.args.b.now c.requires.b_whole)
 
 pub bound_length-returns-then-j-eq-NEVER : goal.bound_length-returns-then-j-eq-NEVER
 bound_length-returns-then-j-eq-NEVER t c =
     let args = c.args in
-    let by-never-left = never-left (as_mode args.mode) args.levels args.a.now args.b.now c.requires.a_value c.requires.b_value c.if-j-eq-NEVER.true in
-    let by-form-is = form-is args.levels args.b.now c.requires.b_value (λ i. (c.type_inv.b i).fits) in
+    let by-never-left = never-left (as_mode args.mode) args.levels args.a.now args.b.now c.requires.a_whole c.requires.b_whole c.if-j-eq-NEVER.true in
+    let by-form-is = form-is args.levels args.b.now c.requires.b_whole (λ i. (c.type_inv.b i).fits) in
     known-length _ (dec args.levels args.b.now) args.b.now c.capped.result by-never-left by-form-is c.capped.ensures
 
 pub bound_length-returns-then-k-eq-NEVER : goal.bound_length-returns-then-k-eq-NEVER
 bound_length-returns-then-k-eq-NEVER t c =
     let args = c.args in
-    let by-never-right = never-right (as_mode args.mode) args.levels args.a.now args.b.now c.requires.a_value c.requires.b_value c.if-k-eq-NEVER.true in
-    let by-form-is = form-is args.levels args.a.now c.requires.a_value (λ i. (c.type_inv.a i).fits) in
+    let by-never-right = never-right (as_mode args.mode) args.levels args.a.now args.b.now c.requires.a_whole c.requires.b_whole c.if-k-eq-NEVER.true in
+    let by-form-is = form-is args.levels args.a.now c.requires.a_whole (λ i. (c.type_inv.a i).fits) in
     known-length _ (dec args.levels args.a.now) args.a.now c.capped-then-k-eq-NEVER.result by-never-right by-form-is c.capped-then-k-eq-NEVER.ensures
 
 pub bound_length-returns-then-j-k : goal.bound_length-returns-then-j-k
 bound_length-returns-then-j-k t c =
     let args = c.args in
-    let by-unlike-join = unlike-join (as_mode args.mode) args.levels args.a.now args.b.now c.requires.a_value c.requires.b_value
+    let by-unlike-join = unlike-join (as_mode args.mode) args.levels args.a.now args.b.now c.requires.a_whole c.requires.b_whole
     c.if-j-k.true c.if-j-eq-NEVER.false c.if-k-eq-NEVER.false in
     let sym-value = sym by-unlike-join in
     let ap-value = ap (form_length_of enc) sym-value in
     c.unlike_length.ensures ∙ ap-value
 
 pub bound_length-slice_bounds-x-count : goal.bound_length-slice_bounds-x-count
-bound_length-slice_bounds-x-count t c = omega (arith, not-empty c.args.levels c.args.a.now c.requires.a_value)
+bound_length-slice_bounds-x-count t c = omega (arith, not-empty c.args.levels c.args.a.now c.requires.a_whole)
 
 pub bound_length-slice_bounds-x-start : goal.bound_length-slice_bounds-x-start
-bound_length-slice_bounds-x-start t c = omega (arith, not-empty c.args.levels c.args.a.now c.requires.a_value)
+bound_length-slice_bounds-x-start t c = omega (arith, not-empty c.args.levels c.args.a.now c.requires.a_whole)
 
 pub bound_length-slice_bounds-y-count : goal.bound_length-slice_bounds-y-count
-bound_length-slice_bounds-y-count t c = omega (arith, not-empty c.args.levels c.args.b.now c.requires.b_value)
+bound_length-slice_bounds-y-count t c = omega (arith, not-empty c.args.levels c.args.b.now c.requires.b_whole)
 
 pub bound_length-slice_bounds-y-start : goal.bound_length-slice_bounds-y-start
-bound_length-slice_bounds-y-start t c = omega (arith, not-empty c.args.levels c.args.b.now c.requires.b_value)
+bound_length-slice_bounds-y-start t c = omega (arith, not-empty c.args.levels c.args.b.now c.requires.b_whole)
 
 pub bound_length-overflow_sub-levels : goal.bound_length-overflow_sub-levels
-bound_length-overflow_sub-levels t c = omega (arith, (is_set c.args.levels c.args.a.now c.requires.a_value c.in-7.is).deep)
+bound_length-overflow_sub-levels t c = omega (arith, (is_set c.args.levels c.args.a.now c.requires.a_whole c.in-7.is).deep)
 
 pub bound_length-bound_length-requires : goal.bound_length-bound_length-requires
 bound_length-bound_length-requires t c =
     let args = c.args in
-    let by-is-set = is_set args.levels args.a.now c.requires.a_value c.in-7.is in
-    let by-is-set-2 = is_set args.levels args.b.now c.requires.b_value (sym (let z : kind args.a.now ≡ kind args.b.now = omega arith in
+    let by-is-set = is_set args.levels args.a.now c.requires.a_whole c.in-7.is in
+    let by-is-set-2 = is_set args.levels args.b.now c.requires.b_whole (sym (let z : kind args.a.now ≡ kind args.b.now = omega arith in
     z) ∙ c.in-7.is) in
     (omega (arith, c.decreases, by-is-set.deep), (by-is-set.good, by-is-set-2.good))
 
 pub bound_length-record_length-requires : goal.bound_length-record_length-requires
 bound_length-record_length-requires t c =
     let key = c.in-8.is in (
-      omega (arith, c.decreases, (is-record c.args.levels c.args.a.now c.requires.a_value key).deep),
-      ((c.requires.a_value, key), (c.requires.b_value, sym c.if-j-k.false ∙ key)),
+      omega (arith, c.decreases, (is-record c.args.levels c.args.a.now c.requires.a_whole key).deep),
+      ((c.requires.a_whole, key), (c.requires.b_whole, sym c.if-j-k.false ∙ key)),
     )
 
 pub bound_length-entities_length-requires : goal.bound_length-entities_length-requires
 bound_length-entities_length-requires t c =
     let args = c.args in
-    let by-is-entity = is-entity args.levels args.b.now c.requires.b_value (sym (let z : kind args.a.now ≡ kind args.b.now = omega arith in
+    let by-is-entity = is-entity args.levels args.b.now c.requires.b_whole (sym (let z : kind args.a.now ≡ kind args.b.now = omega arith in
     z) ∙ c.in-10.is) in
-    let by-is-entity-2 = is-entity args.levels args.a.now c.requires.a_value c.in-10.is in
+    let by-is-entity-2 = is-entity args.levels args.a.now c.requires.a_whole c.in-10.is in
     record { a_len = (by-is-entity-2.sized, by-is-entity-2.up); b_len = (by-is-entity.sized, by-is-entity.up) }
 
 pub bound_length-u16_at-requires : goal.bound_length-u16_at-requires
-bound_length-u16_at-requires t c = omega (arith, (is-action c.args.levels c.args.a.now c.requires.a_value c.in-11.is).some)
+bound_length-u16_at-requires t c = omega (arith, (is-action c.args.levels c.args.a.now c.requires.a_whole c.in-11.is).some)
 
 pub bound_length-u16_at-requires-in-11 : goal.bound_length-u16_at-requires-in-11
 bound_length-u16_at-requires-in-11 t c =
     let args = c.args in
-    let by-is-action = is-action args.levels args.b.now c.requires.b_value (sym (let z : kind args.a.now ≡ kind args.b.now = omega arith in
+    let by-is-action = is-action args.levels args.b.now c.requires.b_whole (sym (let z : kind args.a.now ≡ kind args.b.now = omega arith in
     z) ∙ c.in-11.is) in
     omega (arith, by-is-action.some)
 
 pub bound_length-slice_bounds-x-count-then-u16_at : goal.bound_length-slice_bounds-x-count-then-u16_at
-bound_length-slice_bounds-x-count-then-u16_at t c = omega (arith, (is-action c.args.levels c.args.a.now c.requires.a_value c.in-11.is).some)
+bound_length-slice_bounds-x-count-then-u16_at t c = omega (arith, (is-action c.args.levels c.args.a.now c.requires.a_whole c.in-11.is).some)
 
 pub bound_length-slice_bounds-x-start-then-u16_at : goal.bound_length-slice_bounds-x-start-then-u16_at
-bound_length-slice_bounds-x-start-then-u16_at t c = omega (arith, (is-action c.args.levels c.args.a.now c.requires.a_value c.in-11.is).some)
+bound_length-slice_bounds-x-start-then-u16_at t c = omega (arith, (is-action c.args.levels c.args.a.now c.requires.a_whole c.in-11.is).some)
 
 pub bound_length-slice_bounds-y-count-then-u16_at : goal.bound_length-slice_bounds-y-count-then-u16_at
 bound_length-slice_bounds-y-count-then-u16_at t c =
-    omega (arith, (is-action c.args.levels c.args.b.now c.requires.b_value (sym c.if-j-k.false ∙ c.in-11.is)).some)
+    omega (arith, (is-action c.args.levels c.args.b.now c.requires.b_whole (sym c.if-j-k.false ∙ c.in-11.is)).some)
 
 pub bound_length-slice_bounds-y-start-then-u16_at : goal.bound_length-slice_bounds-y-start-then-u16_at
 bound_length-slice_bounds-y-start-then-u16_at t c =
-    omega (arith, (is-action c.args.levels c.args.b.now c.requires.b_value (sym c.if-j-k.false ∙ c.in-11.is)).some)
+    omega (arith, (is-action c.args.levels c.args.b.now c.requires.b_whole (sym c.if-j-k.false ∙ c.in-11.is)).some)
 
 pub bound_length-overflow_sub-levels-then-u16_at : goal.bound_length-overflow_sub-levels-then-u16_at
-bound_length-overflow_sub-levels-then-u16_at t c = omega (arith, (is-action c.args.levels c.args.a.now c.requires.a_value c.in-11.is).deep)
+bound_length-overflow_sub-levels-then-u16_at t c = omega (arith, (is-action c.args.levels c.args.a.now c.requires.a_whole c.in-11.is).deep)
 
 pub bound_length-attributes_length-kept-requires : goal.bound_length-attributes_length-kept-requires
 bound_length-attributes_length-kept-requires t c =
     let key = c.in-11.is in
     let other = sym c.if-j-k.false ∙ key in
     let args = c.args in (
-      omega (arith, c.decreases, (is-action args.levels args.a.now c.requires.a_value key).deep),
-      (action-tabled args.levels args.a.now c.requires.a_value key, action-tabled args.levels args.b.now c.requires.b_value other),
+      omega (arith, c.decreases, (is-action args.levels args.a.now c.requires.a_whole key).deep),
+      (action-tabled args.levels args.a.now c.requires.a_whole key, action-tabled args.levels args.b.now c.requires.b_whole other),
     )
 
 pub bound_length-returns-then-u16_at : goal.bound_length-returns-then-u16_at
@@ -330,24 +330,24 @@ bound_length-returns-then-u16_at t c =
     let other = sym c.if-j-k.false ∙ key in
     let args = c.args in
     let attributes-length-2 = c.attributes_length-kept in
-    actions-length (as_mode args.mode) args.levels args.a.now args.b.now c.requires.a_value c.requires.b_value key other
+    actions-length (as_mode args.mode) args.levels args.a.now args.b.now c.requires.a_whole c.requires.b_whole key other
     c.u16_at.result c.u16_at-in-11.result c.u16_at.ensures.0 c.u16_at-in-11.ensures.0
     c.if-u16_at.true attributes-length-2.result _ attributes-length-2.ensures c.behind.ensures
 
 pub bound_length-u16_at-requires-in-12 : goal.bound_length-u16_at-requires-in-12
-bound_length-u16_at-requires-in-12 t c = omega (arith, (is-extension c.args.levels c.args.a.now c.requires.a_value c.in-12.is).sized)
+bound_length-u16_at-requires-in-12 t c = omega (arith, (is-extension c.args.levels c.args.a.now c.requires.a_whole c.in-12.is).sized)
 
 pub bound_length-u16_at-requires-in-12-2 : goal.bound_length-u16_at-requires-in-12-2
 bound_length-u16_at-requires-in-12-2 t c =
     let args = c.args in
-    let by-is-extension = is-extension args.levels args.b.now c.requires.b_value (sym (let z : kind args.a.now ≡ kind args.b.now = omega arith in
+    let by-is-extension = is-extension args.levels args.b.now c.requires.b_whole (sym (let z : kind args.a.now ≡ kind args.b.now = omega arith in
     z) ∙ c.in-12.is) in
     omega (arith, by-is-extension.sized)
 
 pub bound_length-returns-then-u16_at-2 : goal.bound_length-returns-then-u16_at-2
 bound_length-returns-then-u16_at-2 t c =
     let args = c.args in
-    of_length _ _ 3 (extension-join (as_mode args.mode) args.levels args.a.now args.b.now c.requires.a_value c.requires.b_value
+    of_length _ _ 3 (extension-join (as_mode args.mode) args.levels args.a.now args.b.now c.requires.a_whole c.requires.b_whole
     c.in-12.is (sym (let z : kind args.a.now ≡ kind args.b.now = omega arith in
     z) ∙ c.in-12.is) _ _ c.u16_at-in-12.ensures.0 c.u16_at-in-12-2.ensures.0 c.if-u16_at-2.true) (extension-long _)
     (omega arith)
@@ -357,7 +357,7 @@ bound_length-returns-in-7 t c =
     let args = c.args in
     let key = c.in-7.is in
     let same : kind args.a.now ≡ kind args.b.now = omega arith in
-    sets-length (as_mode args.mode) args.levels args.a.now args.b.now c.requires.a_value c.requires.b_value key (sym same ∙ key)
+    sets-length (as_mode args.mode) args.levels args.a.now args.b.now c.requires.a_whole c.requires.b_whole key (sym same ∙ key)
     _ _ c.bound_length.ensures c.set_length.ensures
 
 pub bound_length-returns-in-8 : goal.bound_length-returns-in-8
@@ -366,7 +366,7 @@ bound_length-returns-in-8 t c = c.record_length.ensures
 pub bound_length-returns-in-10 : goal.bound_length-returns-in-10
 bound_length-returns-in-10 t c =
     let args = c.args in
-    let by-entity-join = entity-join (as_mode args.mode) args.levels args.a.now args.b.now c.requires.a_value c.requires.b_value
+    let by-entity-join = entity-join (as_mode args.mode) args.levels args.a.now args.b.now c.requires.a_whole c.requires.b_whole
     c.in-10.is (sym (let z : kind args.a.now ≡ kind args.b.now = omega arith in
     z) ∙ c.in-10.is) in
     let sym-value = sym by-entity-join in
@@ -382,7 +382,7 @@ bound_length-returns-else-u16_at t c =
     c.unlike_length-in-11.ensures ∙
     ap (form_length_of enc)
     (ap₂ (unlike (as_mode args.mode)) keys4 (sym-value ∙ keys4) ∙
-    sym (action-apart (as_mode args.mode) args.levels args.a.now args.b.now c.requires.a_value c.requires.b_value keys4
+    sym (action-apart (as_mode args.mode) args.levels args.a.now args.b.now c.requires.a_whole c.requires.b_whole keys4
     (sym-value ∙ keys4) _ _ c.u16_at.ensures.0 c.u16_at-in-11.ensures.0 c.if-u16_at.false))
 
 pub bound_length-returns-else-u16_at-2 : goal.bound_length-returns-else-u16_at-2
@@ -394,14 +394,14 @@ bound_length-returns-else-u16_at-2 t c =
     c.unlike_length-in-12.ensures ∙
     ap (form_length_of enc)
     (ap₂ (unlike (as_mode args.mode)) keys5 (sym-value ∙ keys5) ∙
-    sym (extension-apart (as_mode args.mode) args.levels args.a.now args.b.now c.requires.a_value c.requires.b_value keys5
+    sym (extension-apart (as_mode args.mode) args.levels args.a.now args.b.now c.requires.a_whole c.requires.b_whole keys5
     (sym-value ∙ keys5) _ _ c.u16_at-in-12.ensures.0 c.u16_at-in-12-2.ensures.0 c.if-u16_at-2.false))
 
 pub bound_length-returns-in_default : goal.bound_length-returns-in_default
 bound_length-returns-in_default t c =
     let m = c.in_default.in_default-own.rest in
     let args = c.args in
-    let z = atoms-join (as_mode args.mode) args.levels args.a.now args.b.now c.requires.a_value c.requires.b_value
+    let z = atoms-join (as_mode args.mode) args.levels args.a.now args.b.now c.requires.a_whole c.requires.b_whole
     (let z : kind args.a.now ≡ kind args.b.now = omega arith in
     z) m.0.0.0.0.1 m.0.0.0.1 m.0.0.1 m.0.1 m.1 in
     of_length _ (atom z.0) 1 z.1.0 (ap length (atom-form z.0)) (omega arith)
@@ -449,7 +449,7 @@ pair_length-bound_length-requires t c =
     let ap-value = ap (λ (n : ℕ). find n (dec_a (dec args.levels) args.m args.f.now args.c.now)) (sym c.u16_at.ensures.0) in (
       omega (arith, c.decreases),
       (
-        c.requires.t_value,
+        c.requires.t_whole,
         front-body c.requires.front
             _ (ap-value ∙ (found-at c.requires.front.sound c.u16_at.result c.find.result c.find.ensures _ _
             c.in-At.is).is) c.u16_at-len.result c.u16_at-len.ensures.0,
@@ -507,30 +507,30 @@ pair_length-returns-in-Not t c =
     c.dropped-in-Not.result c.in-Not.is c.dropped-in-Not.ensures
 
 pub record_length-slice_bounds-x-count : goal.record_length-slice_bounds-x-count
-record_length-slice_bounds-x-count t c = omega (arith, (is-record c.args.levels c.args.a.now c.requires.a_value.0 c.requires.a_value.1).some)
+record_length-slice_bounds-x-count t c = omega (arith, (is-record c.args.levels c.args.a.now c.requires.a_whole.0 c.requires.a_whole.1).some)
 
 pub record_length-slice_bounds-x-start : goal.record_length-slice_bounds-x-start
-record_length-slice_bounds-x-start t c = omega (arith, (is-record c.args.levels c.args.a.now c.requires.a_value.0 c.requires.a_value.1).some)
+record_length-slice_bounds-x-start t c = omega (arith, (is-record c.args.levels c.args.a.now c.requires.a_whole.0 c.requires.a_whole.1).some)
 
 pub record_length-slice_bounds-y-count : goal.record_length-slice_bounds-y-count
-record_length-slice_bounds-y-count t c = omega (arith, (is-record c.args.levels c.args.b.now c.requires.b_value.0 c.requires.b_value.1).some)
+record_length-slice_bounds-y-count t c = omega (arith, (is-record c.args.levels c.args.b.now c.requires.b_whole.0 c.requires.b_whole.1).some)
 
 pub record_length-slice_bounds-y-start : goal.record_length-slice_bounds-y-start
-record_length-slice_bounds-y-start t c = omega (arith, (is-record c.args.levels c.args.b.now c.requires.b_value.0 c.requires.b_value.1).some)
+record_length-slice_bounds-y-start t c = omega (arith, (is-record c.args.levels c.args.b.now c.requires.b_whole.0 c.requires.b_whole.1).some)
 
 pub record_length-overflow_sub-levels : goal.record_length-overflow_sub-levels
-record_length-overflow_sub-levels t c = omega (arith, (is-record c.args.levels c.args.a.now c.requires.a_value.0 c.requires.a_value.1).deep)
+record_length-overflow_sub-levels t c = omega (arith, (is-record c.args.levels c.args.a.now c.requires.a_whole.0 c.requires.a_whole.1).deep)
 
 pub record_length-attributes_length-requires : goal.record_length-attributes_length-requires
 record_length-attributes_length-requires t c =
     let args = c.args in (
-      omega (arith, c.decreases, (is-record args.levels args.a.now c.requires.a_value.0 c.requires.a_value.1).deep),
-      (record-tabled args.levels args.a.now c.requires.a_value.0 c.requires.a_value.1, record-tabled args.levels args.b.now c.requires.b_value.0 c.requires.b_value.1),
+      omega (arith, c.decreases, (is-record args.levels args.a.now c.requires.a_whole.0 c.requires.a_whole.1).deep),
+      (record-tabled args.levels args.a.now c.requires.a_whole.0 c.requires.a_whole.1, record-tabled args.levels args.b.now c.requires.b_whole.0 c.requires.b_whole.1),
     )
 
 pub record_length-returns : goal.record_length-returns
 record_length-returns t c =
     let args = c.args in
     let attributes-length-2 = c.attributes_length in
-    records-length (as_mode args.mode) args.levels args.a.now args.b.now c.requires.a_value.0 c.requires.b_value.0 c.requires.a_value.1 c.requires.b_value.1
+    records-length (as_mode args.mode) args.levels args.a.now args.b.now c.requires.a_whole.0 c.requires.b_whole.0 c.requires.a_whole.1 c.requires.b_whole.1
     attributes-length-2.result _ attributes-length-2.ensures c.behind.ensures

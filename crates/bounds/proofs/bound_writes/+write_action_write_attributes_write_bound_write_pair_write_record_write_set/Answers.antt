@@ -26,105 +26,105 @@ use Rattle.bounds.proofs.bound_writes.+write_action_write_attributes_write_bound
 -- Assumes nothing.
 
 pub write_action-slice_bounds-copy-end : goal.write_action-slice_bounds-copy-end
-write_action-slice_bounds-copy-end t c = omega (arith, (is-action c.args.levels c.args.a.now c.requires.a_value.0 c.requires.a_value.1).some)
+write_action-slice_bounds-copy-end t c = omega (arith, (is-action c.args.levels c.args.a.now c.requires.a_whole.0 c.requires.a_whole.1).some)
 
 pub write_action-copy-requires : goal.write_action-copy-requires
 write_action-copy-requires t c =
-    let same = c.requires.a_value.1 ∙ sym c.requires.b_value.1 in
+    let same = c.requires.a_whole.1 ∙ sym c.requires.b_whole.1 in
     let args = c.args in
-    let g = given strict args.levels args.a.now args.b.now c.requires.a_value.0 c.requires.b_value.0
+    let g = given strict args.levels args.a.now args.b.now c.requires.a_whole.0 c.requires.b_whole.0
     (λ i. (c.type_inv.a i).fits) (λ i. (c.type_inv.b i).fits)
     c.requires.ready in
-    let cut = actions-cut g same c.requires.a_value.1 _ _ refl refl c.requires.a_value_2 in
+    let cut = actions-cut g same c.requires.a_whole.1 _ _ refl refl c.requires.same_name in
     behind-front cut g.ready
 
 pub write_action-slice_bounds-x-count : goal.write_action-slice_bounds-x-count
-write_action-slice_bounds-x-count t c = omega (arith, (is-action c.args.levels c.args.a.now c.requires.a_value.0 c.requires.a_value.1).some)
+write_action-slice_bounds-x-count t c = omega (arith, (is-action c.args.levels c.args.a.now c.requires.a_whole.0 c.requires.a_whole.1).some)
 
 pub write_action-slice_bounds-x-start : goal.write_action-slice_bounds-x-start
-write_action-slice_bounds-x-start t c = omega (arith, (is-action c.args.levels c.args.a.now c.requires.a_value.0 c.requires.a_value.1).some)
+write_action-slice_bounds-x-start t c = omega (arith, (is-action c.args.levels c.args.a.now c.requires.a_whole.0 c.requires.a_whole.1).some)
 
 pub write_action-slice_bounds-y-count : goal.write_action-slice_bounds-y-count
-write_action-slice_bounds-y-count t c = omega (arith, (is-action c.args.levels c.args.b.now c.requires.b_value.0 c.requires.b_value.1).some)
+write_action-slice_bounds-y-count t c = omega (arith, (is-action c.args.levels c.args.b.now c.requires.b_whole.0 c.requires.b_whole.1).some)
 
 pub write_action-slice_bounds-y-start : goal.write_action-slice_bounds-y-start
-write_action-slice_bounds-y-start t c = omega (arith, (is-action c.args.levels c.args.b.now c.requires.b_value.0 c.requires.b_value.1).some)
+write_action-slice_bounds-y-start t c = omega (arith, (is-action c.args.levels c.args.b.now c.requires.b_whole.0 c.requires.b_whole.1).some)
 
 pub write_action-u16_at-n-requires : goal.write_action-u16_at-n-requires
 write_action-u16_at-n-requires t c =
-    omega (arith, (is-action c.args.levels c.args.a.now c.requires.a_value.0 c.requires.a_value.1).some, length_rest 3 c.args.a.now)
+    omega (arith, (is-action c.args.levels c.args.a.now c.requires.a_whole.0 c.requires.a_whole.1).some, length_rest 3 c.args.a.now)
 
 pub write_action-overflow_sub-levels : goal.write_action-overflow_sub-levels
-write_action-overflow_sub-levels t c = omega (arith, (is-action c.args.levels c.args.a.now c.requires.a_value.0 c.requires.a_value.1).deep)
+write_action-overflow_sub-levels t c = omega (arith, (is-action c.args.levels c.args.a.now c.requires.a_whole.0 c.requires.a_whole.1).deep)
 
 pub write_action-slice_bounds-write_attributes-count : goal.write_action-slice_bounds-write_attributes-count
 write_action-slice_bounds-write_attributes-count t c =
-    let same = c.requires.a_value.1 ∙ sym c.requires.b_value.1 in
+    let same = c.requires.a_whole.1 ∙ sym c.requires.b_whole.1 in
     let args = c.args in
-    let g = given strict args.levels args.a.now args.b.now c.requires.a_value.0 c.requires.b_value.0
+    let g = given strict args.levels args.a.now args.b.now c.requires.a_whole.0 c.requires.b_whole.0
     (λ i. (c.type_inv.a i).fits) (λ i. (c.type_inv.b i).fits)
     c.requires.ready in
-    let cut = actions-cut g same c.requires.a_value.1 _ _ refl refl c.requires.a_value_2 in
+    let cut = actions-cut g same c.requires.a_whole.1 _ _ refl refl c.requires.same_name in
     let put = c.copy in
-    let front = actions-front g same c.requires.a_value.1 _ _ refl refl in
+    let front = actions-front g same c.requires.a_whole.1 _ _ refl refl in
     omega (arith, behind-at cut g.ready put.new.out 5 put.ensures front)
 
 pub write_action-slice_bounds-write_attributes-start : goal.write_action-slice_bounds-write_attributes-start
 write_action-slice_bounds-write_attributes-start t c =
-    let same = c.requires.a_value.1 ∙ sym c.requires.b_value.1 in
+    let same = c.requires.a_whole.1 ∙ sym c.requires.b_whole.1 in
     let args = c.args in
-    let g = given strict args.levels args.a.now args.b.now c.requires.a_value.0 c.requires.b_value.0
+    let g = given strict args.levels args.a.now args.b.now c.requires.a_whole.0 c.requires.b_whole.0
     (λ i. (c.type_inv.a i).fits) (λ i. (c.type_inv.b i).fits)
     c.requires.ready in
-    let cut = actions-cut g same c.requires.a_value.1 _ _ refl refl c.requires.a_value_2 in
+    let cut = actions-cut g same c.requires.a_whole.1 _ _ refl refl c.requires.same_name in
     let put = c.copy in
-    let front = actions-front g same c.requires.a_value.1 _ _ refl refl in
+    let front = actions-front g same c.requires.a_whole.1 _ _ refl refl in
     omega (arith, behind-at cut g.ready put.new.out 5 put.ensures front)
 
 pub write_action-write_attributes-requires : goal.write_action-write_attributes-requires
 write_action-write_attributes-requires t c =
-    let same = c.requires.a_value.1 ∙ sym c.requires.b_value.1 in
+    let same = c.requires.a_whole.1 ∙ sym c.requires.b_whole.1 in
     let args = c.args in
-    let g = given strict args.levels args.a.now args.b.now c.requires.a_value.0 c.requires.b_value.0
+    let g = given strict args.levels args.a.now args.b.now c.requires.a_whole.0 c.requires.b_whole.0
     (λ i. (c.type_inv.a i).fits) (λ i. (c.type_inv.b i).fits)
     c.requires.ready in
-    let cut = actions-cut g same c.requires.a_value.1 _ _ refl refl c.requires.a_value_2 in
+    let cut = actions-cut g same c.requires.a_whole.1 _ _ refl refl c.requires.same_name in
     let put = c.copy in
-    let front = actions-front g same c.requires.a_value.1 _ _ refl refl in
+    let front = actions-front g same c.requires.a_whole.1 _ _ refl refl in
     let ready = behind-ready cut g.ready put.new.out 5 put.ensures front in (
-      omega (arith, c.decreases, (is-action args.levels args.a.now c.requires.a_value.0 c.requires.a_value.1).deep),
+      omega (arith, c.decreases, (is-action args.levels args.a.now c.requires.a_whole.0 c.requires.a_whole.1).deep),
       (
-        action-tabled args.levels args.a.now c.requires.a_value.0 c.requires.a_value.1,
+        action-tabled args.levels args.a.now c.requires.a_whole.0 c.requires.a_whole.1,
         (
-          action-tabled args.levels args.b.now c.requires.b_value.0 c.requires.b_value.1,
-          (actions-many g same c.requires.a_value.1 _ _ refl refl ready c.u16_at-n.result c.u16_at-n.ensures.0, ready),
+          action-tabled args.levels args.b.now c.requires.b_whole.0 c.requires.b_whole.1,
+          (actions-many g same c.requires.a_whole.1 _ _ refl refl ready c.u16_at-n.result c.u16_at-n.ensures.0, ready),
         ),
       ),
     )
 
 pub write_action-overflow_add-result : goal.write_action-overflow_add-result
 write_action-overflow_add-result t c =
-    let same = c.requires.a_value.1 ∙ sym c.requires.b_value.1 in
+    let same = c.requires.a_whole.1 ∙ sym c.requires.b_whole.1 in
     let args = c.args in
-    let g = given strict args.levels args.a.now args.b.now c.requires.a_value.0 c.requires.b_value.0
+    let g = given strict args.levels args.a.now args.b.now c.requires.a_whole.0 c.requires.b_whole.0
     (λ i. (c.type_inv.a i).fits) (λ i. (c.type_inv.b i).fits)
     c.requires.ready in
-    let cut = actions-cut g same c.requires.a_value.1 _ _ refl refl c.requires.a_value_2 in
+    let cut = actions-cut g same c.requires.a_whole.1 _ _ refl refl c.requires.same_name in
     let put = c.copy in
-    let front = actions-front g same c.requires.a_value.1 _ _ refl refl in
+    let front = actions-front g same c.requires.a_whole.1 _ _ refl refl in
     let rows = c.write_attributes in
     omega (arith, behind-small cut g.ready put.new.out 5 put.ensures front rows.new.out rows.result rows.ensures)
 
 pub write_action-returns : goal.write_action-returns
 write_action-returns t c =
-    let same = c.requires.a_value.1 ∙ sym c.requires.b_value.1 in
+    let same = c.requires.a_whole.1 ∙ sym c.requires.b_whole.1 in
     let args = c.args in
-    let g = given strict args.levels args.a.now args.b.now c.requires.a_value.0 c.requires.b_value.0
+    let g = given strict args.levels args.a.now args.b.now c.requires.a_whole.0 c.requires.b_whole.0
     (λ i. (c.type_inv.a i).fits) (λ i. (c.type_inv.b i).fits)
     c.requires.ready in
-    let cut = actions-cut g same c.requires.a_value.1 _ _ refl refl c.requires.a_value_2 in
+    let cut = actions-cut g same c.requires.a_whole.1 _ _ refl refl c.requires.same_name in
     let put = c.copy in
-    let front = actions-front g same c.requires.a_value.1 _ _ refl refl in
+    let front = actions-front g same c.requires.a_whole.1 _ _ refl refl in
     let rows = c.write_attributes in
     behind-written cut g.ready put.new.out 5 put.ensures front rows.new.out rows.result rows.ensures
 
@@ -147,13 +147,13 @@ pub write_attributes-bodies_at-c-requires : goal.write_attributes-bodies_at-c-re
 write_attributes-bodies_at-c-requires t c = (c.requires.tabled_2.front, c.requires.tabled_2.fit)
 
 pub write_attributes-overflow_mul-pos : goal.write_attributes-overflow_mul-pos
-write_attributes-overflow_mul-pos t c = omega (arith, kept-few c.requires.ready c.args.n c.requires.n_value)
+write_attributes-overflow_mul-pos t c = omega (arith, kept-few c.requires.ready c.args.n c.requires.n_kept)
 
 pub write_attributes-loop-left-init : goal.write_attributes-loop-left-init
 write_attributes-loop-left-init t c =
     let first = split c.u16_at-left.ensures.0 c.entries_at-e.ensures c.bodies_at-s.ensures in
     let second = split c.u16_at-m.ensures.0 c.entries_at-f.ensures c.bodies_at-c.ensures in
-    joining-start c.requires.tabled c.requires.tabled_2 first second c.u16_at-m.ensures.1 (as_mode c.args.mode) c.args.n c.requires.n_value
+    joining-start c.requires.tabled c.requires.tabled_2 first second c.u16_at-m.ensures.1 (as_mode c.args.mode) c.args.n c.requires.n_kept
     c.requires.ready
 
 pub write_attributes-u16_at-name-requires : goal.write_attributes-u16_at-name-requires
@@ -402,15 +402,15 @@ pub write_attributes-returns : goal.write_attributes-returns
 write_attributes-returns t c = joining-end c.loop-left.invariant c.loop-left-test.false
 
 pub write_bound-bounds-a-0 : goal.write_bound-bounds-a-0
-write_bound-bounds-a-0 t c = omega (arith, not-empty c.args.levels c.args.a.now c.requires.a_value)
+write_bound-bounds-a-0 t c = omega (arith, not-empty c.args.levels c.args.a.now c.requires.a_whole)
 
 pub write_bound-bounds-b-0 : goal.write_bound-bounds-b-0
-write_bound-bounds-b-0 t c = omega (arith, not-empty c.args.levels c.args.b.now c.requires.b_value)
+write_bound-bounds-b-0 t c = omega (arith, not-empty c.args.levels c.args.b.now c.requires.b_whole)
 
 pub write_bound-put_bytes-requires : goal.write_bound-put_bytes-requires
 write_bound-put_bytes-requires t c =
     let args = c.args in
-    let g = given (as_mode args.mode) args.levels args.a.now args.b.now c.requires.a_value c.requires.b_value
+    let g = given (as_mode args.mode) args.levels args.a.now args.b.now c.requires.a_whole c.requires.b_whole
     (λ i. (c.type_inv.a i).fits) (λ i. (c.type_inv.b i).fits)
     c.requires.ready in
     (second-copied g c.if-j-eq-NEVER.true).room
@@ -418,7 +418,7 @@ write_bound-put_bytes-requires t c =
 pub write_bound-returns-then-j-eq-NEVER : goal.write_bound-returns-then-j-eq-NEVER
 write_bound-returns-then-j-eq-NEVER t c =
     let args = c.args in
-    let g = given (as_mode args.mode) args.levels args.a.now args.b.now c.requires.a_value c.requires.b_value
+    let g = given (as_mode args.mode) args.levels args.a.now args.b.now c.requires.a_whole c.requires.b_whole
     (λ i. (c.type_inv.a i).fits) (λ i. (c.type_inv.b i).fits)
     c.requires.ready in
     (second-copied g c.if-j-eq-NEVER.true).written _ _ c.put_bytes.ensures
@@ -426,7 +426,7 @@ write_bound-returns-then-j-eq-NEVER t c =
 pub write_bound-put_bytes-requires-then-k-eq-NEVER : goal.write_bound-put_bytes-requires-then-k-eq-NEVER
 write_bound-put_bytes-requires-then-k-eq-NEVER t c =
     let args = c.args in
-    let g = given (as_mode args.mode) args.levels args.a.now args.b.now c.requires.a_value c.requires.b_value
+    let g = given (as_mode args.mode) args.levels args.a.now args.b.now c.requires.a_whole c.requires.b_whole
     (λ i. (c.type_inv.a i).fits) (λ i. (c.type_inv.b i).fits)
     c.requires.ready in
     (first-copied g c.if-k-eq-NEVER.true).room
@@ -434,7 +434,7 @@ write_bound-put_bytes-requires-then-k-eq-NEVER t c =
 pub write_bound-returns-then-k-eq-NEVER : goal.write_bound-returns-then-k-eq-NEVER
 write_bound-returns-then-k-eq-NEVER t c =
     let args = c.args in
-    let g = given (as_mode args.mode) args.levels args.a.now args.b.now c.requires.a_value c.requires.b_value
+    let g = given (as_mode args.mode) args.levels args.a.now args.b.now c.requires.a_whole c.requires.b_whole
     (λ i. (c.type_inv.a i).fits) (λ i. (c.type_inv.b i).fits)
     c.requires.ready in
     (first-copied g c.if-k-eq-NEVER.true).written _ _ c.put_bytes-then-k-eq-NEVER.ensures
@@ -442,7 +442,7 @@ write_bound-returns-then-k-eq-NEVER t c =
 pub write_bound-write_unlike-requires : goal.write_bound-write_unlike-requires
 write_bound-write_unlike-requires t c =
     let args = c.args in
-    let g = given (as_mode args.mode) args.levels args.a.now args.b.now c.requires.a_value c.requires.b_value
+    let g = given (as_mode args.mode) args.levels args.a.now args.b.now c.requires.a_whole c.requires.b_whole
     (λ i. (c.type_inv.a i).fits) (λ i. (c.type_inv.b i).fits)
     c.requires.ready in
     (unlike-forms g c.if-j-k.true c.if-j-eq-NEVER.false c.if-k-eq-NEVER.false).ready
@@ -450,7 +450,7 @@ write_bound-write_unlike-requires t c =
 pub write_bound-returns-then-j-k : goal.write_bound-returns-then-j-k
 write_bound-returns-then-j-k t c =
     let args = c.args in
-    let g = given (as_mode args.mode) args.levels args.a.now args.b.now c.requires.a_value c.requires.b_value
+    let g = given (as_mode args.mode) args.levels args.a.now args.b.now c.requires.a_whole c.requires.b_whole
     (λ i. (c.type_inv.a i).fits) (λ i. (c.type_inv.b i).fits)
     c.requires.ready in
     (unlike-forms g c.if-j-k.true c.if-j-eq-NEVER.false c.if-k-eq-NEVER.false).written _ _ c.write_unlike.ensures
@@ -458,27 +458,27 @@ write_bound-returns-then-j-k t c =
 pub write_bound-write_set-requires : goal.write_bound-write_set-requires
 write_bound-write_set-requires t c =
     let key = c.in-7.is in (
-      omega (arith, c.decreases, (is_set c.args.levels c.args.a.now c.requires.a_value key).deep),
-      ((c.requires.a_value, key), ((c.requires.b_value, sym c.if-j-k.false ∙ key), (c.requires.ready, c.requires.known_length))),
+      omega (arith, c.decreases, (is_set c.args.levels c.args.a.now c.requires.a_whole key).deep),
+      ((c.requires.a_whole, key), ((c.requires.b_whole, sym c.if-j-k.false ∙ key), (c.requires.ready, c.requires.known_length))),
     )
 
 pub write_bound-write_record-requires : goal.write_bound-write_record-requires
 write_bound-write_record-requires t c =
     let key = c.in-8.is in (
-      omega (arith, c.decreases, (is-record c.args.levels c.args.a.now c.requires.a_value key).deep),
-      ((c.requires.a_value, key), ((c.requires.b_value, sym c.if-j-k.false ∙ key), c.requires.ready)),
+      omega (arith, c.decreases, (is-record c.args.levels c.args.a.now c.requires.a_whole key).deep),
+      ((c.requires.a_whole, key), ((c.requires.b_whole, sym c.if-j-k.false ∙ key), c.requires.ready)),
     )
 
 pub write_bound-write_entities-requires : goal.write_bound-write_entities-requires
 write_bound-write_entities-requires t c =
     let args = c.args in
-    let g = given (as_mode args.mode) args.levels args.a.now args.b.now c.requires.a_value c.requires.b_value
+    let g = given (as_mode args.mode) args.levels args.a.now args.b.now c.requires.a_whole c.requires.b_whole
     (λ i. (c.type_inv.a i).fits) (λ i. (c.type_inv.b i).fits)
     c.requires.ready in
     let same = c.if-j-k.false in
     let keys3 = c.in-10.is in
-    let first = is-entity args.levels args.a.now c.requires.a_value keys3 in
-    let second = is-entity args.levels args.b.now c.requires.b_value (sym same ∙ keys3) in
+    let first = is-entity args.levels args.a.now c.requires.a_whole keys3 in
+    let second = is-entity args.levels args.b.now c.requires.b_whole (sym same ∙ keys3) in
     let by-entities-union = entities-union g same keys3 (sym c.is_permissive.ensures ∙ c.if-is_permissive.true) in
     record {
       a_len = rw rest_0 (first.sized, first.up);
@@ -489,7 +489,7 @@ write_bound-write_entities-requires t c =
 pub write_bound-returns-then-is_permissive : goal.write_bound-returns-then-is_permissive
 write_bound-returns-then-is_permissive t c =
     let args = c.args in
-    let g = given (as_mode args.mode) args.levels args.a.now args.b.now c.requires.a_value c.requires.b_value
+    let g = given (as_mode args.mode) args.levels args.a.now args.b.now c.requires.a_whole c.requires.b_whole
     (λ i. (c.type_inv.a i).fits) (λ i. (c.type_inv.b i).fits)
     c.requires.ready in
     let same = c.if-j-k.false in
@@ -499,23 +499,23 @@ write_bound-returns-then-is_permissive t c =
 pub write_bound-put_bytes-requires-in-10 : goal.write_bound-put_bytes-requires-in-10
 write_bound-put_bytes-requires-in-10 t c =
     let args = c.args in
-    let g = given (as_mode args.mode) args.levels args.a.now args.b.now c.requires.a_value c.requires.b_value
+    let g = given (as_mode args.mode) args.levels args.a.now args.b.now c.requires.a_whole c.requires.b_whole
     (λ i. (c.type_inv.a i).fits) (λ i. (c.type_inv.b i).fits)
     c.requires.ready in
     let same = c.if-j-k.false in
     (entities-copied g same c.in-10.is (sym c.is_permissive.ensures ∙ c.if-is_permissive.false)).room
 
 pub write_bound-u16_at-requires : goal.write_bound-u16_at-requires
-write_bound-u16_at-requires t c = omega (arith, (is-action c.args.levels c.args.a.now c.requires.a_value c.in-11.is).some)
+write_bound-u16_at-requires t c = omega (arith, (is-action c.args.levels c.args.a.now c.requires.a_whole c.in-11.is).some)
 
 pub write_bound-u16_at-requires-in-11 : goal.write_bound-u16_at-requires-in-11
 write_bound-u16_at-requires-in-11 t c =
-    omega (arith, (is-action c.args.levels c.args.b.now c.requires.b_value (sym c.if-j-k.false ∙ c.in-11.is)).some)
+    omega (arith, (is-action c.args.levels c.args.b.now c.requires.b_whole (sym c.if-j-k.false ∙ c.in-11.is)).some)
 
 pub write_bound-write_unlike-requires-then-u16_at : goal.write_bound-write_unlike-requires-then-u16_at
 write_bound-write_unlike-requires-then-u16_at t c =
     let args = c.args in
-    let g = given (as_mode args.mode) args.levels args.a.now args.b.now c.requires.a_value c.requires.b_value
+    let g = given (as_mode args.mode) args.levels args.a.now args.b.now c.requires.a_whole c.requires.b_whole
     (λ i. (c.type_inv.a i).fits) (λ i. (c.type_inv.b i).fits)
     c.requires.ready in
     let same = c.if-j-k.false in
@@ -526,7 +526,7 @@ write_bound-write_unlike-requires-then-u16_at t c =
 pub write_bound-returns-then-u16_at : goal.write_bound-returns-then-u16_at
 write_bound-returns-then-u16_at t c =
     let args = c.args in
-    let g = given (as_mode args.mode) args.levels args.a.now args.b.now c.requires.a_value c.requires.b_value
+    let g = given (as_mode args.mode) args.levels args.a.now args.b.now c.requires.a_whole c.requires.b_whole
     (λ i. (c.type_inv.a i).fits) (λ i. (c.type_inv.b i).fits)
     c.requires.ready in
     let same = c.if-j-k.false in
@@ -538,7 +538,7 @@ write_bound-returns-then-u16_at t c =
 pub write_bound-write_action-requires : goal.write_bound-write_action-requires
 write_bound-write_action-requires t c =
     let args = c.args in
-    let g = given (as_mode args.mode) args.levels args.a.now args.b.now c.requires.a_value c.requires.b_value
+    let g = given (as_mode args.mode) args.levels args.a.now args.b.now c.requires.a_whole c.requires.b_whole
     (λ i. (c.type_inv.a i).fits) (λ i. (c.type_inv.b i).fits)
     c.requires.ready in
     let same = c.if-j-k.false in
@@ -546,11 +546,11 @@ write_bound-write_action-requires t c =
     let i = c.u16_at-in-11 in
     let key = c.in-11.is in
     let named = c.if-u16_at.false in (
-      omega (arith, c.decreases, (is-action args.levels args.a.now c.requires.a_value key).deep),
+      omega (arith, c.decreases, (is-action args.levels args.a.now c.requires.a_whole key).deep),
       rw (rest_0 args.a.now, rest_0 args.b.now) (
-        (c.requires.a_value, key),
+        (c.requires.a_whole, key),
         (
-          (c.requires.b_value, sym same ∙ key),
+          (c.requires.b_whole, sym same ∙ key),
           (sym n.ensures.0 ∙ named ∙ i.ensures.0, (actions-strict g same key n.result i.result n.ensures.0 i.ensures.0 named).ready),
         ),
       ),
@@ -559,7 +559,7 @@ write_bound-write_action-requires t c =
 pub write_bound-put_bytes-requires-in_default : goal.write_bound-put_bytes-requires-in_default
 write_bound-put_bytes-requires-in_default t c =
     let args = c.args in
-    let g = given (as_mode args.mode) args.levels args.a.now args.b.now c.requires.a_value c.requires.b_value
+    let g = given (as_mode args.mode) args.levels args.a.now args.b.now c.requires.a_whole c.requires.b_whole
     (λ i. (c.type_inv.a i).fits) (λ i. (c.type_inv.b i).fits)
     c.requires.ready in
     let same = c.if-j-k.false in
@@ -575,7 +575,7 @@ write_bound-returns-in-8 t c = c.write_record.ensures
 pub write_bound-returns-else-is_permissive : goal.write_bound-returns-else-is_permissive
 write_bound-returns-else-is_permissive t c =
     let args = c.args in
-    let g = given (as_mode args.mode) args.levels args.a.now args.b.now c.requires.a_value c.requires.b_value
+    let g = given (as_mode args.mode) args.levels args.a.now args.b.now c.requires.a_whole c.requires.b_whole
     (λ i. (c.type_inv.a i).fits) (λ i. (c.type_inv.b i).fits)
     c.requires.ready in
     let same = c.if-j-k.false in
@@ -585,7 +585,7 @@ write_bound-returns-else-is_permissive t c =
 pub write_bound-returns-else-u16_at : goal.write_bound-returns-else-u16_at
 write_bound-returns-else-u16_at t c =
     let args = c.args in
-    let g = given (as_mode args.mode) args.levels args.a.now args.b.now c.requires.a_value c.requires.b_value
+    let g = given (as_mode args.mode) args.levels args.a.now args.b.now c.requires.a_whole c.requires.b_whole
     (λ i. (c.type_inv.a i).fits) (λ i. (c.type_inv.b i).fits)
     c.requires.ready in
     let same = c.if-j-k.false in
@@ -597,7 +597,7 @@ write_bound-returns-else-u16_at t c =
 pub write_bound-returns-in_default : goal.write_bound-returns-in_default
 write_bound-returns-in_default t c =
     let args = c.args in
-    let g = given (as_mode args.mode) args.levels args.a.now args.b.now c.requires.a_value c.requires.b_value
+    let g = given (as_mode args.mode) args.levels args.a.now args.b.now c.requires.a_whole c.requires.b_whole
     (λ i. (c.type_inv.a i).fits) (λ i. (c.type_inv.b i).fits)
     c.requires.ready in
     let same = c.if-j-k.false in
@@ -608,7 +608,7 @@ pub write_pair-pair_kept-requires : goal.write_pair-pair_kept-requires
 write_pair-pair_kept-requires t c =
     let args = c.args in
     let by-met-known = met-known args.e.now c.requires.front (as_mode args.mode) (dec args.levels args.t.now) c.requires.ready in
-    record { in_bounds = c.requires.in_bounds.0; t_value = c.requires.t_value; front = c.requires.front; c_value = by-met-known }
+    record { in_bounds = c.requires.in_bounds.0; t_whole = c.requires.t_whole; front = c.requires.front; kept = by-met-known }
 
 pub write_pair-returns-then-not-pair_kept : goal.write_pair-returns-then-not-pair_kept
 write_pair-returns-then-not-pair_kept t c =
@@ -643,7 +643,7 @@ write_pair-write_bound-requires t c =
     c.if-not-pair_kept.false-raw len.result len.ensures.0 c.requires.ready in
     let by-met-body = met-body args.e.now c.requires.front (as_mode args.mode) (dec args.levels args.t.now) kept.result kept.ensures
     c.if-not-pair_kept.false-raw len.result len.ensures.0 in
-    (omega (arith, c.decreases), (c.requires.t_value, (by-met-body.1, (by-met-ready, λ p. absurd (omega arith)))))
+    (omega (arith, c.decreases), (c.requires.t_whole, (by-met-body.1, (by-met-ready, λ p. absurd (omega arith)))))
 
 pub write_pair-returns : goal.write_pair-returns
 write_pair-returns t c =
@@ -654,105 +654,105 @@ write_pair-returns t c =
     c.if-not-pair_kept.false-raw len.result len.ensures.0 _ _ c.write_bound.ensures
 
 pub write_record-slice_bounds-x-count : goal.write_record-slice_bounds-x-count
-write_record-slice_bounds-x-count t c = omega (arith, (is-record c.args.levels c.args.a.now c.requires.a_value.0 c.requires.a_value.1).some)
+write_record-slice_bounds-x-count t c = omega (arith, (is-record c.args.levels c.args.a.now c.requires.a_whole.0 c.requires.a_whole.1).some)
 
 pub write_record-slice_bounds-x-start : goal.write_record-slice_bounds-x-start
-write_record-slice_bounds-x-start t c = omega (arith, (is-record c.args.levels c.args.a.now c.requires.a_value.0 c.requires.a_value.1).some)
+write_record-slice_bounds-x-start t c = omega (arith, (is-record c.args.levels c.args.a.now c.requires.a_whole.0 c.requires.a_whole.1).some)
 
 pub write_record-slice_bounds-y-count : goal.write_record-slice_bounds-y-count
-write_record-slice_bounds-y-count t c = omega (arith, (is-record c.args.levels c.args.b.now c.requires.b_value.0 c.requires.b_value.1).some)
+write_record-slice_bounds-y-count t c = omega (arith, (is-record c.args.levels c.args.b.now c.requires.b_whole.0 c.requires.b_whole.1).some)
 
 pub write_record-slice_bounds-y-start : goal.write_record-slice_bounds-y-start
-write_record-slice_bounds-y-start t c = omega (arith, (is-record c.args.levels c.args.b.now c.requires.b_value.0 c.requires.b_value.1).some)
+write_record-slice_bounds-y-start t c = omega (arith, (is-record c.args.levels c.args.b.now c.requires.b_whole.0 c.requires.b_whole.1).some)
 
 pub write_record-overflow_sub-levels : goal.write_record-overflow_sub-levels
-write_record-overflow_sub-levels t c = omega (arith, (is-record c.args.levels c.args.a.now c.requires.a_value.0 c.requires.a_value.1).deep)
+write_record-overflow_sub-levels t c = omega (arith, (is-record c.args.levels c.args.a.now c.requires.a_whole.0 c.requires.a_whole.1).deep)
 
 pub write_record-kept_count-n-requires : goal.write_record-kept_count-n-requires
 write_record-kept_count-n-requires t c =
-    let same = c.requires.a_value.1 ∙ sym c.requires.b_value.1 in
+    let same = c.requires.a_whole.1 ∙ sym c.requires.b_whole.1 in
     let args = c.args in
-    let g = given (as_mode args.mode) args.levels args.a.now args.b.now c.requires.a_value.0 c.requires.b_value.0
+    let g = given (as_mode args.mode) args.levels args.a.now args.b.now c.requires.a_whole.0 c.requires.b_whole.0
     (λ i. (c.type_inv.a i).fits) (λ i. (c.type_inv.b i).fits)
     c.requires.ready in
     record {
-      tabled = record-tabled args.levels args.a.now c.requires.a_value.0 c.requires.a_value.1;
-      tabled_2 = record-tabled args.levels args.b.now c.requires.b_value.0 c.requires.b_value.1;
-      b_value = records-known g same c.requires.a_value.1;
+      tabled = record-tabled args.levels args.a.now c.requires.a_whole.0 c.requires.a_whole.1;
+      tabled_2 = record-tabled args.levels args.b.now c.requires.b_whole.0 c.requires.b_whole.1;
+      joined = records-known g same c.requires.a_whole.1;
     }
 
 pub write_record-bounds-a-1 : goal.write_record-bounds-a-1
-write_record-bounds-a-1 t c = omega (arith, (is-record c.args.levels c.args.a.now c.requires.a_value.0 c.requires.a_value.1).some)
+write_record-bounds-a-1 t c = omega (arith, (is-record c.args.levels c.args.a.now c.requires.a_whole.0 c.requires.a_whole.1).some)
 
 pub write_record-bounds-b-1 : goal.write_record-bounds-b-1
-write_record-bounds-b-1 t c = omega (arith, (is-record c.args.levels c.args.b.now c.requires.b_value.0 c.requires.b_value.1).some)
+write_record-bounds-b-1 t c = omega (arith, (is-record c.args.levels c.args.b.now c.requires.b_whole.0 c.requires.b_whole.1).some)
 
 pub write_record-u16_at-requires : goal.write_record-u16_at-requires
 write_record-u16_at-requires t c =
-    omega (arith, (is-record c.args.levels c.args.a.now c.requires.a_value.0 c.requires.a_value.1).some, length_rest 2 c.args.a.now)
+    omega (arith, (is-record c.args.levels c.args.a.now c.requires.a_whole.0 c.requires.a_whole.1).some, length_rest 2 c.args.a.now)
 
 pub write_record-u16_at-requires-2 : goal.write_record-u16_at-requires-2
 write_record-u16_at-requires-2 t c =
     let args = c.args in
-    omega (arith, (is-record args.levels args.b.now c.requires.b_value.0 c.requires.b_value.1).some, length_rest 2 args.b.now)
+    omega (arith, (is-record args.levels args.b.now c.requires.b_whole.0 c.requires.b_whole.1).some, length_rest 2 args.b.now)
 
 pub write_record-put_record-requires : goal.write_record-put_record-requires
 write_record-put_record-requires t c =
-    let same = c.requires.a_value.1 ∙ sym c.requires.b_value.1 in
+    let same = c.requires.a_whole.1 ∙ sym c.requires.b_whole.1 in
     let args = c.args in
-    let g = given (as_mode args.mode) args.levels args.a.now args.b.now c.requires.a_value.0 c.requires.b_value.0
+    let g = given (as_mode args.mode) args.levels args.a.now args.b.now c.requires.a_whole.0 c.requires.b_whole.0
     (λ i. (c.type_inv.a i).fits) (λ i. (c.type_inv.b i).fits)
     c.requires.ready in
     let kept = c.kept_count-n in
-    let cut = records-cut g same c.requires.a_value.1 kept.result c.u16_at.result c.u16_at-2.result c.open_byte-is_open.result
+    let cut = records-cut g same c.requires.a_whole.1 kept.result c.u16_at.result c.u16_at-2.result c.open_byte-is_open.result
     kept.ensures c.u16_at.ensures.0 c.u16_at-2.ensures.0 c.open_byte-is_open.ensures in
     (behind-front cut g.ready, kept-few (behind-ready cut g.ready _ 4 refl refl) kept.result kept.ensures)
 
 pub write_record-overflow_sub-levels-2 : goal.write_record-overflow_sub-levels-2
-write_record-overflow_sub-levels-2 t c = omega (arith, (is-record c.args.levels c.args.a.now c.requires.a_value.0 c.requires.a_value.1).deep)
+write_record-overflow_sub-levels-2 t c = omega (arith, (is-record c.args.levels c.args.a.now c.requires.a_whole.0 c.requires.a_whole.1).deep)
 
 pub write_record-slice_bounds-write_attributes-count : goal.write_record-slice_bounds-write_attributes-count
 write_record-slice_bounds-write_attributes-count t c =
-    let same = c.requires.a_value.1 ∙ sym c.requires.b_value.1 in
+    let same = c.requires.a_whole.1 ∙ sym c.requires.b_whole.1 in
     let args = c.args in
-    let g = given (as_mode args.mode) args.levels args.a.now args.b.now c.requires.a_value.0 c.requires.b_value.0
+    let g = given (as_mode args.mode) args.levels args.a.now args.b.now c.requires.a_whole.0 c.requires.b_whole.0
     (λ i. (c.type_inv.a i).fits) (λ i. (c.type_inv.b i).fits)
     c.requires.ready in
     let kept = c.kept_count-n in
-    let cut = records-cut g same c.requires.a_value.1 kept.result c.u16_at.result c.u16_at-2.result c.open_byte-is_open.result
+    let cut = records-cut g same c.requires.a_whole.1 kept.result c.u16_at.result c.u16_at-2.result c.open_byte-is_open.result
     kept.ensures c.u16_at.ensures.0 c.u16_at-2.ensures.0 c.open_byte-is_open.ensures in
     let put = c.put_record in
     omega (arith, behind-at cut g.ready put.new.out 4 put.ensures refl)
 
 pub write_record-slice_bounds-write_attributes-start : goal.write_record-slice_bounds-write_attributes-start
 write_record-slice_bounds-write_attributes-start t c =
-    let same = c.requires.a_value.1 ∙ sym c.requires.b_value.1 in
+    let same = c.requires.a_whole.1 ∙ sym c.requires.b_whole.1 in
     let args = c.args in
-    let g = given (as_mode args.mode) args.levels args.a.now args.b.now c.requires.a_value.0 c.requires.b_value.0
+    let g = given (as_mode args.mode) args.levels args.a.now args.b.now c.requires.a_whole.0 c.requires.b_whole.0
     (λ i. (c.type_inv.a i).fits) (λ i. (c.type_inv.b i).fits)
     c.requires.ready in
     let kept = c.kept_count-n in
-    let cut = records-cut g same c.requires.a_value.1 kept.result c.u16_at.result c.u16_at-2.result c.open_byte-is_open.result
+    let cut = records-cut g same c.requires.a_whole.1 kept.result c.u16_at.result c.u16_at-2.result c.open_byte-is_open.result
     kept.ensures c.u16_at.ensures.0 c.u16_at-2.ensures.0 c.open_byte-is_open.ensures in
     let put = c.put_record in
     omega (arith, behind-at cut g.ready put.new.out 4 put.ensures refl)
 
 pub write_record-write_attributes-requires : goal.write_record-write_attributes-requires
 write_record-write_attributes-requires t c =
-    let same = c.requires.a_value.1 ∙ sym c.requires.b_value.1 in
+    let same = c.requires.a_whole.1 ∙ sym c.requires.b_whole.1 in
     let args = c.args in
-    let g = given (as_mode args.mode) args.levels args.a.now args.b.now c.requires.a_value.0 c.requires.b_value.0
+    let g = given (as_mode args.mode) args.levels args.a.now args.b.now c.requires.a_whole.0 c.requires.b_whole.0
     (λ i. (c.type_inv.a i).fits) (λ i. (c.type_inv.b i).fits)
     c.requires.ready in
     let kept = c.kept_count-n in
-    let cut = records-cut g same c.requires.a_value.1 kept.result c.u16_at.result c.u16_at-2.result c.open_byte-is_open.result
+    let cut = records-cut g same c.requires.a_whole.1 kept.result c.u16_at.result c.u16_at-2.result c.open_byte-is_open.result
     kept.ensures c.u16_at.ensures.0 c.u16_at-2.ensures.0 c.open_byte-is_open.ensures in
     let put = c.put_record in (
-      omega (arith, c.decreases, (is-record args.levels args.a.now c.requires.a_value.0 c.requires.a_value.1).deep),
+      omega (arith, c.decreases, (is-record args.levels args.a.now c.requires.a_whole.0 c.requires.a_whole.1).deep),
       (
-        record-tabled args.levels args.a.now c.requires.a_value.0 c.requires.a_value.1,
+        record-tabled args.levels args.a.now c.requires.a_whole.0 c.requires.a_whole.1,
         (
-          record-tabled args.levels args.b.now c.requires.b_value.0 c.requires.b_value.1,
+          record-tabled args.levels args.b.now c.requires.b_whole.0 c.requires.b_whole.1,
           (kept.ensures, behind-ready cut g.ready put.new.out 4 put.ensures refl),
         ),
       ),
@@ -760,13 +760,13 @@ write_record-write_attributes-requires t c =
 
 pub write_record-overflow_add-result : goal.write_record-overflow_add-result
 write_record-overflow_add-result t c =
-    let same = c.requires.a_value.1 ∙ sym c.requires.b_value.1 in
+    let same = c.requires.a_whole.1 ∙ sym c.requires.b_whole.1 in
     let args = c.args in
-    let g = given (as_mode args.mode) args.levels args.a.now args.b.now c.requires.a_value.0 c.requires.b_value.0
+    let g = given (as_mode args.mode) args.levels args.a.now args.b.now c.requires.a_whole.0 c.requires.b_whole.0
     (λ i. (c.type_inv.a i).fits) (λ i. (c.type_inv.b i).fits)
     c.requires.ready in
     let kept = c.kept_count-n in
-    let cut = records-cut g same c.requires.a_value.1 kept.result c.u16_at.result c.u16_at-2.result c.open_byte-is_open.result
+    let cut = records-cut g same c.requires.a_whole.1 kept.result c.u16_at.result c.u16_at-2.result c.open_byte-is_open.result
     kept.ensures c.u16_at.ensures.0 c.u16_at-2.ensures.0 c.open_byte-is_open.ensures in
     let put = c.put_record in
     let rows = c.write_attributes in
@@ -774,139 +774,139 @@ write_record-overflow_add-result t c =
 
 pub write_record-returns : goal.write_record-returns
 write_record-returns t c =
-    let same = c.requires.a_value.1 ∙ sym c.requires.b_value.1 in
+    let same = c.requires.a_whole.1 ∙ sym c.requires.b_whole.1 in
     let args = c.args in
-    let g = given (as_mode args.mode) args.levels args.a.now args.b.now c.requires.a_value.0 c.requires.b_value.0
+    let g = given (as_mode args.mode) args.levels args.a.now args.b.now c.requires.a_whole.0 c.requires.b_whole.0
     (λ i. (c.type_inv.a i).fits) (λ i. (c.type_inv.b i).fits)
     c.requires.ready in
     let kept = c.kept_count-n in
-    let cut = records-cut g same c.requires.a_value.1 kept.result c.u16_at.result c.u16_at-2.result c.open_byte-is_open.result
+    let cut = records-cut g same c.requires.a_whole.1 kept.result c.u16_at.result c.u16_at-2.result c.open_byte-is_open.result
     kept.ensures c.u16_at.ensures.0 c.u16_at-2.ensures.0 c.open_byte-is_open.ensures in
     let put = c.put_record in
     let rows = c.write_attributes in
     behind-written cut g.ready put.new.out 4 put.ensures refl rows.new.out rows.result rows.ensures
 
 pub write_set-slice_bounds-x-count : goal.write_set-slice_bounds-x-count
-write_set-slice_bounds-x-count t c = omega (arith, not-empty c.args.levels c.args.a.now c.requires.a_value.0)
+write_set-slice_bounds-x-count t c = omega (arith, not-empty c.args.levels c.args.a.now c.requires.a_whole.0)
 
 pub write_set-slice_bounds-x-start : goal.write_set-slice_bounds-x-start
-write_set-slice_bounds-x-start t c = omega (arith, not-empty c.args.levels c.args.a.now c.requires.a_value.0)
+write_set-slice_bounds-x-start t c = omega (arith, not-empty c.args.levels c.args.a.now c.requires.a_whole.0)
 
 pub write_set-slice_bounds-y-count : goal.write_set-slice_bounds-y-count
-write_set-slice_bounds-y-count t c = omega (arith, not-empty c.args.levels c.args.b.now c.requires.b_value.0)
+write_set-slice_bounds-y-count t c = omega (arith, not-empty c.args.levels c.args.b.now c.requires.b_whole.0)
 
 pub write_set-slice_bounds-y-start : goal.write_set-slice_bounds-y-start
-write_set-slice_bounds-y-start t c = omega (arith, not-empty c.args.levels c.args.b.now c.requires.b_value.0)
+write_set-slice_bounds-y-start t c = omega (arith, not-empty c.args.levels c.args.b.now c.requires.b_whole.0)
 
 pub write_set-overflow_sub-levels : goal.write_set-overflow_sub-levels
-write_set-overflow_sub-levels t c = omega (arith, (is_set c.args.levels c.args.a.now c.requires.a_value.0 c.requires.a_value.1).deep)
+write_set-overflow_sub-levels t c = omega (arith, (is_set c.args.levels c.args.a.now c.requires.a_whole.0 c.requires.a_whole.1).deep)
 
 pub write_set-is_untyped-requires : goal.write_set-is_untyped-requires
 write_set-is_untyped-requires t c =
-    let key = c.requires.a_value.1 in
-    let same = key ∙ sym c.requires.b_value.1 in
+    let key = c.requires.a_whole.1 in
+    let same = key ∙ sym c.requires.b_whole.1 in
     let args = c.args in
-    let g = given (as_mode args.mode) args.levels args.a.now args.b.now c.requires.a_value.0 c.requires.b_value.0
+    let g = given (as_mode args.mode) args.levels args.a.now args.b.now c.requires.a_whole.0 c.requires.b_whole.0
     (λ i. (c.type_inv.a i).fits) (λ i. (c.type_inv.b i).fits)
     c.requires.ready in
-    let first = is_set args.levels args.a.now c.requires.a_value.0 key in
-    let second = is_set args.levels args.b.now c.requires.b_value.0 c.requires.b_value.1 in
+    let first = is_set args.levels args.a.now c.requires.a_whole.0 key in
+    let second = is_set args.levels args.b.now c.requires.b_whole.0 c.requires.b_whole.1 in
     record {
-      x_value = first.good;
-      y_value = second.good;
-      y_value_2 = sets-known g same key;
+      x_whole = first.good;
+      y_whole = second.good;
+      bounded = sets-known g same key;
       known_length = sets-length g same key args.known c.requires.known_length;
     }
 
 pub write_set-put_one-requires : goal.write_set-put_one-requires
 write_set-put_one-requires t c =
-    let same = c.requires.a_value.1 ∙ sym c.requires.b_value.1 in
+    let same = c.requires.a_whole.1 ∙ sym c.requires.b_whole.1 in
     let args = c.args in
-    let g = given (as_mode args.mode) args.levels args.a.now args.b.now c.requires.a_value.0 c.requires.b_value.0
+    let g = given (as_mode args.mode) args.levels args.a.now args.b.now c.requires.a_whole.0 c.requires.b_whole.0
     (λ i. (c.type_inv.a i).fits) (λ i. (c.type_inv.b i).fits)
     c.requires.ready in
-    (sets-untyped g same c.requires.a_value.1 c.is_untyped.result c.is_untyped.ensures c.if-is_untyped.true).room
+    (sets-untyped g same c.requires.a_whole.1 c.is_untyped.result c.is_untyped.ensures c.if-is_untyped.true).room
 
 pub write_set-returns-then-is_untyped : goal.write_set-returns-then-is_untyped
 write_set-returns-then-is_untyped t c =
-    let same = c.requires.a_value.1 ∙ sym c.requires.b_value.1 in
+    let same = c.requires.a_whole.1 ∙ sym c.requires.b_whole.1 in
     let args = c.args in
-    let g = given (as_mode args.mode) args.levels args.a.now args.b.now c.requires.a_value.0 c.requires.b_value.0
+    let g = given (as_mode args.mode) args.levels args.a.now args.b.now c.requires.a_whole.0 c.requires.b_whole.0
     (λ i. (c.type_inv.a i).fits) (λ i. (c.type_inv.b i).fits)
     c.requires.ready in
-    let untyped = sets-untyped g same c.requires.a_value.1 c.is_untyped.result c.is_untyped.ensures c.if-is_untyped.true in
+    let untyped = sets-untyped g same c.requires.a_whole.1 c.is_untyped.result c.is_untyped.ensures c.if-is_untyped.true in
     untyped.written _ 1 record { bytes = c.put_one.ensures; many = refl }
 
 pub write_set-put_one-requires-2 : goal.write_set-put_one-requires-2
 write_set-put_one-requires-2 t c =
-    let same = c.requires.a_value.1 ∙ sym c.requires.b_value.1 in
+    let same = c.requires.a_whole.1 ∙ sym c.requires.b_whole.1 in
     let args = c.args in
-    let g = given (as_mode args.mode) args.levels args.a.now args.b.now c.requires.a_value.0 c.requires.b_value.0
+    let g = given (as_mode args.mode) args.levels args.a.now args.b.now c.requires.a_whole.0 c.requires.b_whole.0
     (λ i. (c.type_inv.a i).fits) (λ i. (c.type_inv.b i).fits)
     c.requires.ready in
-    let cut = sets-cut g same c.requires.a_value.1 c.is_untyped.result c.is_untyped.ensures c.if-is_untyped.false in
+    let cut = sets-cut g same c.requires.a_whole.1 c.is_untyped.result c.is_untyped.ensures c.if-is_untyped.false in
     behind-front cut g.ready
 
 pub write_set-overflow_sub-levels-2 : goal.write_set-overflow_sub-levels-2
-write_set-overflow_sub-levels-2 t c = omega (arith, (is_set c.args.levels c.args.a.now c.requires.a_value.0 c.requires.a_value.1).deep)
+write_set-overflow_sub-levels-2 t c = omega (arith, (is_set c.args.levels c.args.a.now c.requires.a_whole.0 c.requires.a_whole.1).deep)
 
 pub write_set-slice_bounds-write_bound-count : goal.write_set-slice_bounds-write_bound-count
 write_set-slice_bounds-write_bound-count t c =
-    let same = c.requires.a_value.1 ∙ sym c.requires.b_value.1 in
+    let same = c.requires.a_whole.1 ∙ sym c.requires.b_whole.1 in
     let args = c.args in
-    let g = given (as_mode args.mode) args.levels args.a.now args.b.now c.requires.a_value.0 c.requires.b_value.0
+    let g = given (as_mode args.mode) args.levels args.a.now args.b.now c.requires.a_whole.0 c.requires.b_whole.0
     (λ i. (c.type_inv.a i).fits) (λ i. (c.type_inv.b i).fits)
     c.requires.ready in
-    let cut = sets-cut g same c.requires.a_value.1 c.is_untyped.result c.is_untyped.ensures c.if-is_untyped.false in
+    let cut = sets-cut g same c.requires.a_whole.1 c.is_untyped.result c.is_untyped.ensures c.if-is_untyped.false in
     let put = c.put_one-2 in
     omega (arith, behind-at cut g.ready put.new.out 1 put.ensures refl)
 
 pub write_set-slice_bounds-write_bound-start : goal.write_set-slice_bounds-write_bound-start
 write_set-slice_bounds-write_bound-start t c =
-    let same = c.requires.a_value.1 ∙ sym c.requires.b_value.1 in
+    let same = c.requires.a_whole.1 ∙ sym c.requires.b_whole.1 in
     let args = c.args in
-    let g = given (as_mode args.mode) args.levels args.a.now args.b.now c.requires.a_value.0 c.requires.b_value.0
+    let g = given (as_mode args.mode) args.levels args.a.now args.b.now c.requires.a_whole.0 c.requires.b_whole.0
     (λ i. (c.type_inv.a i).fits) (λ i. (c.type_inv.b i).fits)
     c.requires.ready in
-    let cut = sets-cut g same c.requires.a_value.1 c.is_untyped.result c.is_untyped.ensures c.if-is_untyped.false in
+    let cut = sets-cut g same c.requires.a_whole.1 c.is_untyped.result c.is_untyped.ensures c.if-is_untyped.false in
     let put = c.put_one-2 in
     omega (arith, behind-at cut g.ready put.new.out 1 put.ensures refl)
 
 pub write_set-write_bound-requires : goal.write_set-write_bound-requires
 write_set-write_bound-requires t c =
-    let same = c.requires.a_value.1 ∙ sym c.requires.b_value.1 in
+    let same = c.requires.a_whole.1 ∙ sym c.requires.b_whole.1 in
     let args = c.args in
-    let g = given (as_mode args.mode) args.levels args.a.now args.b.now c.requires.a_value.0 c.requires.b_value.0
+    let g = given (as_mode args.mode) args.levels args.a.now args.b.now c.requires.a_whole.0 c.requires.b_whole.0
     (λ i. (c.type_inv.a i).fits) (λ i. (c.type_inv.b i).fits)
     c.requires.ready in
-    let cut = sets-cut g same c.requires.a_value.1 c.is_untyped.result c.is_untyped.ensures c.if-is_untyped.false in
+    let cut = sets-cut g same c.requires.a_whole.1 c.is_untyped.result c.is_untyped.ensures c.if-is_untyped.false in
     let put = c.put_one-2 in
-    let first = is_set args.levels args.a.now c.requires.a_value.0 c.requires.a_value.1 in
-    let second = is_set args.levels args.b.now c.requires.b_value.0 c.requires.b_value.1 in
-    let known = elements-length g same c.requires.a_value.1 c.is_untyped.result c.is_untyped.ensures c.if-is_untyped.false args.known c.requires.known_length in
+    let first = is_set args.levels args.a.now c.requires.a_whole.0 c.requires.a_whole.1 in
+    let second = is_set args.levels args.b.now c.requires.b_whole.0 c.requires.b_whole.1 in
+    let known = elements-length g same c.requires.a_whole.1 c.is_untyped.result c.is_untyped.ensures c.if-is_untyped.false args.known c.requires.known_length in
     let ready = behind-ready cut g.ready put.new.out 1 put.ensures refl in
     (omega (arith, c.decreases, first.deep), (first.good, (second.good, (ready, rw c.element_length-element.ensures known))))
 
 pub write_set-overflow_add-result : goal.write_set-overflow_add-result
 write_set-overflow_add-result t c =
-    let same = c.requires.a_value.1 ∙ sym c.requires.b_value.1 in
+    let same = c.requires.a_whole.1 ∙ sym c.requires.b_whole.1 in
     let args = c.args in
-    let g = given (as_mode args.mode) args.levels args.a.now args.b.now c.requires.a_value.0 c.requires.b_value.0
+    let g = given (as_mode args.mode) args.levels args.a.now args.b.now c.requires.a_whole.0 c.requires.b_whole.0
     (λ i. (c.type_inv.a i).fits) (λ i. (c.type_inv.b i).fits)
     c.requires.ready in
-    let cut = sets-cut g same c.requires.a_value.1 c.is_untyped.result c.is_untyped.ensures c.if-is_untyped.false in
+    let cut = sets-cut g same c.requires.a_whole.1 c.is_untyped.result c.is_untyped.ensures c.if-is_untyped.false in
     let put = c.put_one-2 in
     let element = c.write_bound in
     omega (arith, behind-small cut g.ready put.new.out 1 put.ensures refl element.new.out element.result element.ensures)
 
 pub write_set-returns : goal.write_set-returns
 write_set-returns t c =
-    let same = c.requires.a_value.1 ∙ sym c.requires.b_value.1 in
+    let same = c.requires.a_whole.1 ∙ sym c.requires.b_whole.1 in
     let args = c.args in
-    let g = given (as_mode args.mode) args.levels args.a.now args.b.now c.requires.a_value.0 c.requires.b_value.0
+    let g = given (as_mode args.mode) args.levels args.a.now args.b.now c.requires.a_whole.0 c.requires.b_whole.0
     (λ i. (c.type_inv.a i).fits) (λ i. (c.type_inv.b i).fits)
     c.requires.ready in
-    let cut = sets-cut g same c.requires.a_value.1 c.is_untyped.result c.is_untyped.ensures c.if-is_untyped.false in
+    let cut = sets-cut g same c.requires.a_whole.1 c.is_untyped.result c.is_untyped.ensures c.if-is_untyped.false in
     let put = c.put_one-2 in
     let element = c.write_bound in
     behind-written cut g.ready put.new.out 1 put.ensures refl element.new.out element.result element.ensures

@@ -16,7 +16,7 @@ returns-then-not-is_permissive c =
     let args = c.args in
     let strict = sym c.is_permissive.ensures ∙ not-true _ c.if-not-is_permissive.true-raw in
     let left = c.u16_at-left in
-    strict-all (as_mode args.mode) strict args.levels 0 args.a.now args.b.now left.result left.ensures.0 c.requires.b_value
+    strict-all (as_mode args.mode) strict args.levels 0 args.a.now args.b.now left.result left.ensures.0 c.requires.joined
 
 pub entries_at-e-requires : goal.entries_at-e-requires
 entries_at-e-requires c = (c.requires.tabled.front, c.requires.tabled.fit)
@@ -37,7 +37,7 @@ pub loop-left-init : goal.loop-left-init
 loop-left-init c =
     let by-split = split c.u16_at-left.ensures.0 c.entries_at-e.ensures c.bodies_at-s.ensures in
     let by-split-2 = split c.u16_at-m.ensures.0 c.entries_at-f.ensures c.bodies_at-c.ensures in
-    counting-start c.requires.tabled c.requires.tabled_2 by-split by-split-2 c.u16_at-m.ensures.1 (as_mode c.args.mode) c.requires.b_value
+    counting-start c.requires.tabled c.requires.tabled_2 by-split by-split-2 c.u16_at-m.ensures.1 (as_mode c.args.mode) c.requires.joined
 
 pub u16_at-len-requires : goal.u16_at-len-requires
 u16_at-len-requires c = omega (arith, counting-entry c.loop-left.invariant c.loop-left-test.true)
@@ -115,9 +115,9 @@ pair_kept-requires c =
     u16-at3-ensures in
     record {
       in_bounds = counting-entry c.loop-left.invariant loop-test-taken;
-      t_value = by-counting-body.1;
+      t_whole = by-counting-body.1;
       front = by-counting-front;
-      c_value = by-counting-known;
+      kept = by-counting-known;
     }
 
 pub overflow_add-count : goal.overflow_add-count

@@ -17,7 +17,7 @@ returns-then-not-is_permissive c =
     let args = c.args in
     let strict = sym c.is_permissive.ensures ∙ not-true _ c.if-not-is_permissive.true-raw in
     strict-kept (as_mode args.mode) (eqb (get_or args.e.now 2 0) 1) (dec args.levels args.t.now)
-    (find (rd args.e.now 0) (dec_a (dec args.levels) args.m args.f.now args.c.now)) strict c.requires.c_value
+    (find (rd args.e.now 0) (dec_a (dec args.levels) args.m args.f.now args.c.now)) strict c.requires.kept
 
 pub find-requires : goal.find-requires
 find-requires c = laid c.requires.front.sound
@@ -50,7 +50,7 @@ has_bound-requires c =
     let name = c.u16_at in
     let y = name-found c.args.e.now c.requires.front name.result name.ensures.0 c.find.result c.find.ensures _ _ c.in-At.is in
     let len = c.u16_at-len in
-    record { mode_value = permissive; a_value = c.requires.t_value; b_value = front-body c.requires.front y.0 y.1 len.result len.ensures.0 }
+    record { permissive = permissive; a_whole = c.requires.t_whole; b_whole = front-body c.requires.front y.0 y.1 len.result len.ensures.0 }
 
 pub returns : goal.returns
 returns c =

@@ -18,41 +18,41 @@ pub argument_fits-bounds-asked-0 : goal.argument_fits-bounds-asked-0
 argument_fits-bounds-asked-0 t c = omega (arith, c.requires.in_bounds.0)
 
 pub argument_fits-bounds-v-0 : goal.argument_fits-bounds-v-0
-argument_fits-bounds-v-0 t c = value-first c.args.levels c.args.v.now c.requires.v_value
+argument_fits-bounds-v-0 t c = value-first c.args.levels c.args.v.now c.requires.v_whole
 
 pub argument_fits-returns-then-j-ne-CALL : goal.argument_fits-returns-then-j-ne-CALL
 argument_fits-returns-then-j-ne-CALL t c =
     let m = c.in_default.in_default-own.rest in
     let args = c.args in
-    fit-not _ _ args.asked.now args.levels args.v.now c.requires.in_bounds.1 c.requires.v_value m.0.0.1 m.0.1 m.1 c.if-j-ne-CALL.true
+    fit-not _ _ args.asked.now args.levels args.v.now c.requires.in_bounds.1 c.requires.v_whole m.0.0.1 m.0.1 m.1 c.if-j-ne-CALL.true
 
 pub argument_fits-u16_at-name-requires : goal.argument_fits-u16_at-name-requires
 argument_fits-u16_at-name-requires t c = omega (arith, c.requires.in_bounds.0)
 
 pub argument_fits-overflow_sub-levels : goal.argument_fits-overflow_sub-levels
-argument_fits-overflow_sub-levels t c = omega (arith, value-level c.args.levels c.args.v.now c.requires.v_value)
+argument_fits-overflow_sub-levels t c = omega (arith, value-level c.args.levels c.args.v.now c.requires.v_whole)
 
 pub argument_fits-call_returns-requires : goal.argument_fits-call_returns-requires
 argument_fits-call_returns-requires t c =
     let args = c.args in (
-      omega (arith, c.decreases, value-level args.levels args.v.now c.requires.v_value),
-      (c.requires.sectioned, value_as args.levels args.v.now c.requires.v_value 7 c.if-j-ne-CALL.false),
+      omega (arith, c.decreases, value-level args.levels args.v.now c.requires.v_whole),
+      (c.requires.sectioned, value_as args.levels args.v.now c.requires.v_whole 7 c.if-j-ne-CALL.false),
     )
 
 pub argument_fits-returns-in-1 : goal.argument_fits-returns-in-1
 argument_fits-returns-in-1 t c =
     let args = c.args in
-    c.tested.ensures ∙ fit-bool _ _ args.asked.now args.levels args.v.now c.requires.in_bounds.1 c.requires.v_value c.in-1.is
+    c.tested.ensures ∙ fit-bool _ _ args.asked.now args.levels args.v.now c.requires.in_bounds.1 c.requires.v_whole c.in-1.is
 
 pub argument_fits-returns-in-2 : goal.argument_fits-returns-in-2
 argument_fits-returns-in-2 t c =
     let args = c.args in
-    c.tested-in-2.ensures ∙ fit-long _ _ args.asked.now args.levels args.v.now c.requires.in_bounds.1 c.requires.v_value c.in-2.is
+    c.tested-in-2.ensures ∙ fit-long _ _ args.asked.now args.levels args.v.now c.requires.in_bounds.1 c.requires.v_whole c.in-2.is
 
 pub argument_fits-returns-in-3 : goal.argument_fits-returns-in-3
 argument_fits-returns-in-3 t c =
     let args = c.args in
-    c.tested-in-3.ensures ∙ fit-string _ _ args.asked.now args.levels args.v.now c.requires.in_bounds.1 c.requires.v_value c.in-3.is
+    c.tested-in-3.ensures ∙ fit-string _ _ args.asked.now args.levels args.v.now c.requires.in_bounds.1 c.requires.v_whole c.in-3.is
 
 pub argument_fits-returns-else-j-ne-CALL : goal.argument_fits-returns-else-j-ne-CALL
 argument_fits-returns-else-j-ne-CALL t c =
@@ -61,17 +61,17 @@ argument_fits-returns-else-j-ne-CALL t c =
     let if1 = c.if-j-ne-CALL in
     let m = c.in_default.in_default-own.rest in
     let args = c.args in
-    c.inside.ensures ∙ fit-call _ _ args.asked.now args.levels args.v.now c.requires.in_bounds.1 c.requires.v_value m.0.0.1 m.0.1 m.1
+    c.inside.ensures ∙ fit-call _ _ args.asked.now args.levels args.v.now c.requires.in_bounds.1 c.requires.v_whole m.0.0.1 m.0.1 m.1
     if1.false u16-at.result u16-at.ensures.0 call-returns-step.result call-returns-step.ensures
 
 pub arguments_fit-u16_at-n-requires : goal.arguments_fit-u16_at-n-requires
-arguments_fit-u16_at-n-requires t c = omega (arith, table-count member_row (λ _. whole_v c.args.levels) tt 3 c.args.v.now c.requires.v_value)
+arguments_fit-u16_at-n-requires t c = omega (arith, table-count member_row (λ _. whole_v c.args.levels) tt 3 c.args.v.now c.requires.v_whole)
 
 pub arguments_fit-slice_bounds-e-count : goal.arguments_fit-slice_bounds-e-count
 arguments_fit-slice_bounds-e-count t c =
     omega (
       arith,
-      table-entries member_row (λ _. whole_v c.args.levels) tt 3 c.args.v.now c.requires.v_value c.u16_at-n.result
+      table-entries member_row (λ _. whole_v c.args.levels) tt 3 c.args.v.now c.requires.v_whole c.u16_at-n.result
           c.u16_at-n.ensures.0,
     )
 
@@ -79,14 +79,14 @@ pub arguments_fit-slice_bounds-e-end : goal.arguments_fit-slice_bounds-e-end
 arguments_fit-slice_bounds-e-end t c =
     omega (
       arith,
-      table-entries member_row (λ _. whole_v c.args.levels) tt 3 c.args.v.now c.requires.v_value c.u16_at-n.result
+      table-entries member_row (λ _. whole_v c.args.levels) tt 3 c.args.v.now c.requires.v_whole c.u16_at-n.result
           c.u16_at-n.ensures.0,
     )
 
 pub arguments_fit-slice_bounds-b-count : goal.arguments_fit-slice_bounds-b-count
 arguments_fit-slice_bounds-b-count t c =
     let u16-at = c.u16_at-n in
-    omega (arith, table-entries member_row (λ _. whole_v c.args.levels) tt 3 c.args.v.now c.requires.v_value u16-at.result u16-at.ensures.0)
+    omega (arith, table-entries member_row (λ _. whole_v c.args.levels) tt 3 c.args.v.now c.requires.v_whole u16-at.result u16-at.ensures.0)
 
 pub arguments_fit-slice_bounds-b-start : goal.arguments_fit-slice_bounds-b-start
 arguments_fit-slice_bounds-b-start t c = arguments_fit-slice_bounds-b-count t c
@@ -95,7 +95,7 @@ pub arguments_fit-loop-left-init : goal.arguments_fit-loop-left-init
 arguments_fit-loop-left-init t c =
     let u16-at = c.u16_at-n in
     let args = c.args in
-    arguments-start args.levels _ _ args.v.now args.asked.now c.requires.v_value c.requires.asked_value u16-at.result u16-at.ensures.0
+    arguments-start args.levels _ _ args.v.now args.asked.now c.requires.v_whole c.requires.asked_fit u16-at.result u16-at.ensures.0
 
 pub arguments_fit-returns-then-k-eq0 : goal.arguments_fit-returns-then-k-eq0
 arguments_fit-returns-then-k-eq0 t c =
@@ -188,7 +188,7 @@ arguments_fit-returns t c =
     arguments-end loop.invariant loop-test.false c.if-k-gt0.false
 
 pub call_returns-u16_at-name-requires : goal.call_returns-u16_at-name-requires
-call_returns-u16_at-name-requires t c = omega (arith, table-count member_row (λ _. whole_v c.args.levels) tt 3 c.args.v.now c.requires.v_value)
+call_returns-u16_at-name-requires t c = omega (arith, table-count member_row (λ _. whole_v c.args.levels) tt 3 c.args.v.now c.requires.v_whole)
 
 pub call_returns-find_function-requires : goal.call_returns-find_function-requires
 call_returns-find_function-requires t c = c.requires.sectioned
@@ -243,7 +243,7 @@ call_returns-arguments_fit-requires t c =
     let y = c.find_function in
     let u16-at = c.u16_at-name in
     let g = function-at c.requires.sectioned u16-at.result y.result y.ensures c.in-At.f c.in-At.is in
-    (omega (arith, c.decreases), (c.requires.sectioned, (g.args, c.requires.v_value)))
+    (omega (arith, c.decreases), (c.requires.sectioned, (g.args, c.requires.v_whole)))
 
 pub call_returns-returns : goal.call_returns-returns
 call_returns-returns t c =

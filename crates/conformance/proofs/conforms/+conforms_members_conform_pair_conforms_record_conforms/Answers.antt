@@ -20,25 +20,25 @@ use native.Mathlib.Omega.{arith}
 use Rattle.conformance.proofs.conforms.+conforms_members_conform_pair_conforms_record_conforms.Goals as goal
 
 pub conforms-bounds-t-0 : goal.conforms-bounds-t-0
-conforms-bounds-t-0 t c = not-empty c.args.levels c.args.t.now c.requires.t_value
+conforms-bounds-t-0 t c = not-empty c.args.levels c.args.t.now c.requires.t_whole
 
 pub conforms-bounds-v-0 : goal.conforms-bounds-v-0
-conforms-bounds-v-0 t c = value-first c.args.levels c.args.v.now c.requires.v_value
+conforms-bounds-v-0 t c = value-first c.args.levels c.args.v.now c.requires.v_whole
 
 pub conforms-returns-then-not-takes_kind : goal.conforms-returns-then-not-takes_kind
 conforms-returns-then-not-takes_kind t c =
     let q = c.takes_kind in
     let args = c.args in
-    kind-not _ _ args.levels args.t.now args.v.now c.requires.t_value c.requires.v_value q.result q.ensures c.if-not-takes_kind.true-raw
+    kind-not _ _ args.levels args.t.now args.v.now c.requires.t_whole c.requires.v_whole q.result q.ensures c.if-not-takes_kind.true-raw
 
 pub conforms-slice_bounds-members_conform-count : goal.conforms-slice_bounds-members_conform-count
-conforms-slice_bounds-members_conform-count t c = omega (arith, not-empty c.args.levels c.args.t.now c.requires.t_value)
+conforms-slice_bounds-members_conform-count t c = omega (arith, not-empty c.args.levels c.args.t.now c.requires.t_whole)
 
 pub conforms-slice_bounds-members_conform-start : goal.conforms-slice_bounds-members_conform-start
 conforms-slice_bounds-members_conform-start t c = conforms-slice_bounds-members_conform-count t c
 
 pub conforms-overflow_sub-levels : goal.conforms-overflow_sub-levels
-conforms-overflow_sub-levels t c = omega (arith, value-level c.args.levels c.args.v.now c.requires.v_value)
+conforms-overflow_sub-levels t c = omega (arith, value-level c.args.levels c.args.v.now c.requires.v_whole)
 
 pub conforms-members_conform-requires : goal.conforms-members_conform-requires
 conforms-members_conform-requires t c =
@@ -46,34 +46,34 @@ conforms-members_conform-requires t c =
     let q = c.takes_kind in
     let args = c.args in
     let by-taken-kind = taken-kind args.t.now args.v.now q.result q.ensures if1.false-raw 7 5 c.in-7.is refl in
-    let by-value-as = value_as args.levels args.v.now c.requires.v_value 5 by-taken-kind in (
-      omega (arith, c.decreases, value-level args.levels args.v.now c.requires.v_value),
-      (c.requires.sectioned, ((is_set args.levels args.t.now c.requires.t_value c.in-7.is).good, rw (rest_0 args.v.now) by-value-as)),
+    let by-value-as = value_as args.levels args.v.now c.requires.v_whole 5 by-taken-kind in (
+      omega (arith, c.decreases, value-level args.levels args.v.now c.requires.v_whole),
+      (c.requires.sectioned, ((is_set args.levels args.t.now c.requires.t_whole c.in-7.is).good, rw (rest_0 args.v.now) by-value-as)),
     )
 
 pub conforms-overflow_sub-levels-in-8 : goal.conforms-overflow_sub-levels-in-8
-conforms-overflow_sub-levels-in-8 t c = omega (arith, value-level c.args.levels c.args.v.now c.requires.v_value)
+conforms-overflow_sub-levels-in-8 t c = omega (arith, value-level c.args.levels c.args.v.now c.requires.v_whole)
 
 pub conforms-record_conforms-requires : goal.conforms-record_conforms-requires
 conforms-record_conforms-requires t c =
     let if1 = c.if-not-takes_kind in
     let q = c.takes_kind in
     let args = c.args in
-    let by-record-parts = record-parts args.levels args.t.now args.v.now c.requires.t_value c.requires.v_value c.in-8.is in
+    let by-record-parts = record-parts args.levels args.t.now args.v.now c.requires.t_whole c.requires.v_whole c.in-8.is in
     let by-taken-kind = taken-kind args.t.now args.v.now q.result q.ensures if1.false-raw 8 6 c.in-8.is refl in
-    let by-value-as = value_as args.levels args.v.now c.requires.v_value 6 by-taken-kind in (
-      omega (arith, c.decreases, value-level args.levels args.v.now c.requires.v_value),
+    let by-value-as = value_as args.levels args.v.now c.requires.v_whole 6 by-taken-kind in (
+      omega (arith, c.decreases, value-level args.levels args.v.now c.requires.v_whole),
       (c.requires.sectioned, (rw (rest_0 args.t.now) by-record-parts, rw (rest_0 args.v.now) by-value-as)),
     )
 
 pub conforms-slice_bounds-stands-count : goal.conforms-slice_bounds-stands-count
-conforms-slice_bounds-stands-count t c = omega (arith, (is-entity c.args.levels c.args.t.now c.requires.t_value c.in-10.is).some)
+conforms-slice_bounds-stands-count t c = omega (arith, (is-entity c.args.levels c.args.t.now c.requires.t_whole c.in-10.is).some)
 
 pub conforms-slice_bounds-stands-start : goal.conforms-slice_bounds-stands-start
 conforms-slice_bounds-stands-start t c = conforms-slice_bounds-stands-count t c
 
 pub conforms-u16_at-requires : goal.conforms-u16_at-requires
-conforms-u16_at-requires t c = omega (arith, (is-entity c.args.levels c.args.t.now c.requires.t_value c.in-10.is).some)
+conforms-u16_at-requires t c = omega (arith, (is-entity c.args.levels c.args.t.now c.requires.t_whole c.in-10.is).some)
 
 pub conforms-u16_at-requires-in-10 : goal.conforms-u16_at-requires-in-10
 conforms-u16_at-requires-in-10 t c =
@@ -81,7 +81,7 @@ conforms-u16_at-requires-in-10 t c =
     let q = c.takes_kind in
     let args = c.args in
     let by-taken-kind = taken-kind args.t.now args.v.now q.result q.ensures if1.false-raw 10 4 c.in-10.is refl in
-    let by-uid-length = uid-length args.levels args.t.now args.v.now c.requires.t_value c.requires.v_value by-taken-kind in
+    let by-uid-length = uid-length args.levels args.t.now args.v.now c.requires.t_whole c.requires.v_whole by-taken-kind in
     omega (arith, by-uid-length)
 
 pub conforms-stands-requires : goal.conforms-stands-requires
@@ -90,7 +90,7 @@ conforms-stands-requires t c =
     omega (
       arith,
       length_rest 3 args.t.now,
-      (is-entity args.levels args.t.now c.requires.t_value c.in-10.is).sized,
+      (is-entity args.levels args.t.now c.requires.t_whole c.in-10.is).sized,
       c.u16_at.ensures.0,
     )
 
@@ -99,17 +99,17 @@ conforms-u16_at-requires-in-11 t c =
     let q = c.takes_kind in
     let args = c.args in
     let by-taken-kind = taken-kind args.t.now args.v.now q.result q.ensures c.if-not-takes_kind.false-raw 11 4 c.in-11.is refl in
-    let by-uid-length = uid-length args.levels args.t.now args.v.now c.requires.t_value c.requires.v_value by-taken-kind in
+    let by-uid-length = uid-length args.levels args.t.now args.v.now c.requires.t_whole c.requires.v_whole by-taken-kind in
     omega (arith, by-uid-length)
 
 pub conforms-u16_at-requires-in-11-2 : goal.conforms-u16_at-requires-in-11-2
-conforms-u16_at-requires-in-11-2 t c = omega (arith, (is-action c.args.levels c.args.t.now c.requires.t_value c.in-11.is).some)
+conforms-u16_at-requires-in-11-2 t c = omega (arith, (is-action c.args.levels c.args.t.now c.requires.t_whole c.in-11.is).some)
 
 pub conforms-u16_at-name-requires : goal.conforms-u16_at-name-requires
-conforms-u16_at-name-requires t c = omega (arith, (is-extension c.args.levels c.args.t.now c.requires.t_value c.in-12.is).sized)
+conforms-u16_at-name-requires t c = omega (arith, (is-extension c.args.levels c.args.t.now c.requires.t_whole c.in-12.is).sized)
 
 pub conforms-overflow_sub-levels-in-12 : goal.conforms-overflow_sub-levels-in-12
-conforms-overflow_sub-levels-in-12 t c = omega (arith, value-level c.args.levels c.args.v.now c.requires.v_value)
+conforms-overflow_sub-levels-in-12 t c = omega (arith, value-level c.args.levels c.args.v.now c.requires.v_whole)
 
 pub conforms-call_returns-requires : goal.conforms-call_returns-requires
 conforms-call_returns-requires t c =
@@ -117,8 +117,8 @@ conforms-call_returns-requires t c =
     let q = c.takes_kind in
     let args = c.args in
     let by-taken-kind = taken-kind args.t.now args.v.now q.result q.ensures if1.false-raw 12 7 c.in-12.is refl in
-    let by-value-as = value_as args.levels args.v.now c.requires.v_value 7 by-taken-kind in
-    record { sectioned = c.requires.sectioned; v_value = rw (rest_0 args.v.now) by-value-as }
+    let by-value-as = value_as args.levels args.v.now c.requires.v_whole 7 by-taken-kind in
+    record { sectioned = c.requires.sectioned; v_whole = rw (rest_0 args.v.now) by-value-as }
 
 pub conforms-returns-in-7 : goal.conforms-returns-in-7
 conforms-returns-in-7 t c =
@@ -127,7 +127,7 @@ conforms-returns-in-7 t c =
     let args = c.args in
     let by-taken-kind = taken-kind args.t.now args.v.now q.result q.ensures if1.false-raw 7 5 c.in-7.is refl in
     (rw (rest_0 args.v.now) at c.members_conform.ensures) ∙
-    set-members _ _ args.levels args.t.now args.v.now c.requires.t_value c.requires.v_value c.in-7.is by-taken-kind
+    set-members _ _ args.levels args.t.now args.v.now c.requires.t_whole c.requires.v_whole c.in-7.is by-taken-kind
 
 pub conforms-returns-in-8 : goal.conforms-returns-in-8
 conforms-returns-in-8 t c =
@@ -136,7 +136,7 @@ conforms-returns-in-8 t c =
     let args = c.args in
     let by-taken-kind = taken-kind args.t.now args.v.now q.result q.ensures if1.false-raw 8 6 c.in-8.is refl in
     (rw (rest_0 args.t.now, rest_0 args.v.now) at c.record_conforms.ensures) ∙
-    record-pairs _ _ args.levels args.t.now args.v.now c.requires.t_value c.requires.v_value c.in-8.is by-taken-kind
+    record-pairs _ _ args.levels args.t.now args.v.now c.requires.t_whole c.requires.v_whole c.in-8.is by-taken-kind
 
 pub conforms-returns-in-10 : goal.conforms-returns-in-10
 conforms-returns-in-10 t c =
@@ -147,7 +147,7 @@ conforms-returns-in-10 t c =
     let args = c.args in
     let by-taken-kind = taken-kind args.t.now args.v.now q.result q.ensures if1.false-raw 10 4 c.in-10.is refl in
     c.tested.ensures ∙ ap (λ (b : Bool). verdict_of (verdict b)) c.stands.ensures ∙
-    entity-names _ _ args.levels args.t.now args.v.now c.requires.t_value c.requires.v_value c.in-10.is by-taken-kind u16-at.result
+    entity-names _ _ args.levels args.t.now args.v.now c.requires.t_whole c.requires.v_whole c.in-10.is by-taken-kind u16-at.result
     u16-at2.result u16-at.ensures.0 u16-at2.ensures.0
 
 pub conforms-returns-in-11 : goal.conforms-returns-in-11
@@ -159,7 +159,7 @@ conforms-returns-in-11 t c =
     let args = c.args in
     let by-taken-kind = taken-kind args.t.now args.v.now q.result q.ensures if1.false-raw 11 4 c.in-11.is refl in
     c.tested-in-11.ensures ∙ ap (λ (b : Bool). verdict_of (verdict b)) c.is_action_of.ensures ∙
-    action-name _ _ args.levels args.t.now args.v.now c.requires.t_value c.requires.v_value c.in-11.is by-taken-kind u16-at3.result
+    action-name _ _ args.levels args.t.now args.v.now c.requires.t_whole c.requires.v_whole c.in-11.is by-taken-kind u16-at3.result
     u16-at4.result u16-at3.ensures.0 u16-at4.ensures.0
 
 pub conforms-returns-in-12 : goal.conforms-returns-in-12
@@ -170,7 +170,7 @@ conforms-returns-in-12 t c =
     let args = c.args in
     let by-taken-kind = taken-kind args.t.now args.v.now q.result q.ensures if1.false-raw 12 7 c.in-12.is refl in
     (rw (rest_0 args.v.now) at c.call_returns.ensures) ∙
-    extension-call _ _ args.levels args.t.now args.v.now c.requires.t_value c.requires.v_value c.in-12.is by-taken-kind u16-at5.result
+    extension-call _ _ args.levels args.t.now args.v.now c.requires.t_whole c.requires.v_whole c.in-12.is by-taken-kind u16-at5.result
     u16-at5.ensures.0
 
 pub conforms-returns-in_default : goal.conforms-returns-in_default
@@ -178,17 +178,17 @@ conforms-returns-in_default t c =
     let q = c.takes_kind in
     let m = c.in_default.in_default-own.rest in
     let args = c.args in
-    kind-atom-yes _ _ args.levels args.t.now args.v.now c.requires.t_value c.requires.v_value q.result q.ensures c.if-not-takes_kind.false-raw
+    kind-atom-yes _ _ args.levels args.t.now args.v.now c.requires.t_whole c.requires.v_whole q.result q.ensures c.if-not-takes_kind.false-raw
     m.0.0.0.0.1 m.0.0.0.1 m.0.0.1 m.0.1 m.1
 
 pub members_conform-u16_at-n-requires : goal.members_conform-u16_at-n-requires
-members_conform-u16_at-n-requires t c = omega (arith, table-count member_row (λ _. whole_v c.args.levels) tt 1 c.args.v.now c.requires.v_value)
+members_conform-u16_at-n-requires t c = omega (arith, table-count member_row (λ _. whole_v c.args.levels) tt 1 c.args.v.now c.requires.v_whole)
 
 pub members_conform-slice_bounds-e-count : goal.members_conform-slice_bounds-e-count
 members_conform-slice_bounds-e-count t c =
     omega (
       arith,
-      table-entries member_row (λ _. whole_v c.args.levels) tt 1 c.args.v.now c.requires.v_value c.u16_at-n.result
+      table-entries member_row (λ _. whole_v c.args.levels) tt 1 c.args.v.now c.requires.v_whole c.u16_at-n.result
           c.u16_at-n.ensures.0,
     )
 
@@ -196,14 +196,14 @@ pub members_conform-slice_bounds-e-end : goal.members_conform-slice_bounds-e-end
 members_conform-slice_bounds-e-end t c =
     omega (
       arith,
-      table-entries member_row (λ _. whole_v c.args.levels) tt 1 c.args.v.now c.requires.v_value c.u16_at-n.result
+      table-entries member_row (λ _. whole_v c.args.levels) tt 1 c.args.v.now c.requires.v_whole c.u16_at-n.result
           c.u16_at-n.ensures.0,
     )
 
 pub members_conform-slice_bounds-b-count : goal.members_conform-slice_bounds-b-count
 members_conform-slice_bounds-b-count t c =
     let u16-at = c.u16_at-n in
-    omega (arith, table-entries member_row (λ _. whole_v c.args.levels) tt 1 c.args.v.now c.requires.v_value u16-at.result u16-at.ensures.0)
+    omega (arith, table-entries member_row (λ _. whole_v c.args.levels) tt 1 c.args.v.now c.requires.v_whole u16-at.result u16-at.ensures.0)
 
 pub members_conform-slice_bounds-b-start : goal.members_conform-slice_bounds-b-start
 members_conform-slice_bounds-b-start t c = members_conform-slice_bounds-b-count t c
@@ -211,7 +211,7 @@ members_conform-slice_bounds-b-start t c = members_conform-slice_bounds-b-count 
 pub members_conform-loop-left-init : goal.members_conform-loop-left-init
 members_conform-loop-left-init t c =
     let u16-at = c.u16_at-n in
-    members-start c.args.levels _ c.args.v.now c.requires.v_value u16-at.result u16-at.ensures.0
+    members-start c.args.levels _ c.args.v.now c.requires.v_whole u16-at.result u16-at.ensures.0
 
 pub members_conform-u16_at-len-requires : goal.members_conform-u16_at-len-requires
 members_conform-u16_at-len-requires t c = omega (arith, ahead-room c.loop-left.invariant.rows c.loop-left-test.true)
@@ -226,7 +226,7 @@ members_conform-conforms-said-requires t c =
     let u16-at2 = c.u16_at-len in
     let loop-test = c.loop-left-test in
     let loop = c.loop-left in
-    (omega (arith, c.decreases), (c.requires.sectioned, (c.requires.t_value, ahead-body loop.invariant.rows loop-test.true u16-at2.result u16-at2.ensures.0)))
+    (omega (arith, c.decreases), (c.requires.sectioned, (c.requires.t_whole, ahead-body loop.invariant.rows loop-test.true u16-at2.result u16-at2.ensures.0)))
 
 pub members_conform-returns-in_default : goal.members_conform-returns-in_default
 members_conform-returns-in_default t c =
@@ -339,7 +339,7 @@ pair_conforms-conforms-requires t c =
     let args = c.args in
     let by-pair-whole = pair-whole args.levels args.n args.name args.f.now args.c.now c.requires.sound f.result f.ensures c.in-At.i
     c.in-At.start c.in-At.is u16-at.result u16-at.ensures.0 in
-    (omega (arith, c.decreases), (c.requires.sectioned, (by-pair-whole, c.requires.v_value)))
+    (omega (arith, c.decreases), (c.requires.sectioned, (by-pair-whole, c.requires.v_whole)))
 
 pub pair_conforms-returns : goal.pair_conforms-returns
 pair_conforms-returns t c =
@@ -352,10 +352,10 @@ pair_conforms-returns t c =
 pub record_conforms-u16_at-m-requires : goal.record_conforms-u16_at-m-requires
 record_conforms-u16_at-m-requires t c =
     let args = c.args in
-    omega (arith, table-count attr_row (λ _. whole args.levels) 0 2 args.t.now (records-table args.levels args.t.now c.requires.t_value))
+    omega (arith, table-count attr_row (λ _. whole args.levels) 0 2 args.t.now (records-table args.levels args.t.now c.requires.t_whole))
 
 pub record_conforms-u16_at-n-requires : goal.record_conforms-u16_at-n-requires
-record_conforms-u16_at-n-requires t c = omega (arith, table-count pair_row (λ _. whole_v c.args.levels) 0 1 c.args.v.now c.requires.v_value)
+record_conforms-u16_at-n-requires t c = omega (arith, table-count pair_row (λ _. whole_v c.args.levels) 0 1 c.args.v.now c.requires.v_whole)
 
 pub record_conforms-slice_bounds-f-count : goal.record_conforms-slice_bounds-f-count
 record_conforms-slice_bounds-f-count t c =
@@ -363,7 +363,7 @@ record_conforms-slice_bounds-f-count t c =
     let args = c.args in
     omega (
       arith,
-      table-entries attr_row (λ _. whole args.levels) 0 2 args.t.now (records-table args.levels args.t.now c.requires.t_value)
+      table-entries attr_row (λ _. whole args.levels) 0 2 args.t.now (records-table args.levels args.t.now c.requires.t_whole)
           u16-at.result u16-at.ensures.0,
     )
 
@@ -373,7 +373,7 @@ record_conforms-slice_bounds-f-end t c =
     let args = c.args in
     omega (
       arith,
-      table-entries attr_row (λ _. whole args.levels) 0 2 args.t.now (records-table args.levels args.t.now c.requires.t_value)
+      table-entries attr_row (λ _. whole args.levels) 0 2 args.t.now (records-table args.levels args.t.now c.requires.t_whole)
           u16-at.result u16-at.ensures.0,
     )
 
@@ -383,7 +383,7 @@ record_conforms-slice_bounds-c-count t c =
     let args = c.args in
     omega (
       arith,
-      table-entries attr_row (λ _. whole args.levels) 0 2 args.t.now (records-table args.levels args.t.now c.requires.t_value)
+      table-entries attr_row (λ _. whole args.levels) 0 2 args.t.now (records-table args.levels args.t.now c.requires.t_whole)
           u16-at.result u16-at.ensures.0,
     )
 
@@ -393,17 +393,17 @@ record_conforms-slice_bounds-c-start t c = record_conforms-slice_bounds-c-count 
 pub record_conforms-slice_bounds-e-count : goal.record_conforms-slice_bounds-e-count
 record_conforms-slice_bounds-e-count t c =
     let u16-at2 = c.u16_at-n in
-    omega (arith, table-entries pair_row (λ _. whole_v c.args.levels) 0 1 c.args.v.now c.requires.v_value u16-at2.result u16-at2.ensures.0)
+    omega (arith, table-entries pair_row (λ _. whole_v c.args.levels) 0 1 c.args.v.now c.requires.v_whole u16-at2.result u16-at2.ensures.0)
 
 pub record_conforms-slice_bounds-e-end : goal.record_conforms-slice_bounds-e-end
 record_conforms-slice_bounds-e-end t c =
     let u16-at2 = c.u16_at-n in
-    omega (arith, table-entries pair_row (λ _. whole_v c.args.levels) 0 1 c.args.v.now c.requires.v_value u16-at2.result u16-at2.ensures.0)
+    omega (arith, table-entries pair_row (λ _. whole_v c.args.levels) 0 1 c.args.v.now c.requires.v_whole u16-at2.result u16-at2.ensures.0)
 
 pub record_conforms-slice_bounds-b-count : goal.record_conforms-slice_bounds-b-count
 record_conforms-slice_bounds-b-count t c =
     let u16-at2 = c.u16_at-n in
-    omega (arith, table-entries pair_row (λ _. whole_v c.args.levels) 0 1 c.args.v.now c.requires.v_value u16-at2.result u16-at2.ensures.0)
+    omega (arith, table-entries pair_row (λ _. whole_v c.args.levels) 0 1 c.args.v.now c.requires.v_whole u16-at2.result u16-at2.ensures.0)
 
 pub record_conforms-slice_bounds-b-start : goal.record_conforms-slice_bounds-b-start
 record_conforms-slice_bounds-b-start t c = record_conforms-slice_bounds-b-count t c
@@ -413,7 +413,7 @@ record_conforms-loop-left-init t c =
     let u16-at2 = c.u16_at-n in
     let u16-at = c.u16_at-m in
     let args = c.args in
-    record-start args.levels _ _ args.t.now args.v.now c.requires.t_value c.requires.v_value u16-at.result u16-at2.result u16-at.ensures.0
+    record-start args.levels _ _ args.t.now args.v.now c.requires.t_whole c.requires.v_whole u16-at.result u16-at2.result u16-at.ensures.0
     u16-at2.ensures.0 u16-at.ensures.1 _
 
 pub record_conforms-u16_at-name-requires : goal.record_conforms-u16_at-name-requires
@@ -477,7 +477,7 @@ record_conforms-slice_bounds-x-end t c =
 pub record_conforms-bounds-t-1 : goal.record_conforms-bounds-t-1
 record_conforms-bounds-t-1 t c =
     let args = c.args in
-    omega (arith, table-count attr_row (λ _. whole args.levels) 0 2 args.t.now (records-table args.levels args.t.now c.requires.t_value))
+    omega (arith, table-count attr_row (λ _. whole args.levels) 0 2 args.t.now (records-table args.levels args.t.now c.requires.t_whole))
 
 pub record_conforms-pair_conforms-said-requires : goal.record_conforms-pair_conforms-said-requires
 record_conforms-pair_conforms-said-requires t c =
@@ -536,7 +536,7 @@ record_conforms-loop-left-preserved t c =
     c.in-Holds.is
 
 pub record_conforms-has_required-requires : goal.record_conforms-has_required-requires
-record_conforms-has_required-requires t c = record { level = c.args.levels; type = c.requires.t_value; value = c.requires.v_value }
+record_conforms-has_required-requires t c = record { level = c.args.levels; type = c.requires.t_whole; value = c.requires.v_whole }
 
 pub record_conforms-returns : goal.record_conforms-returns
 record_conforms-returns t c =

@@ -9,31 +9,31 @@ use Rattle.conversions.specs.Laws.CoreTypes.{core-entry, core-small, core-more}
 use Rattle.conversions.proofs.core_types.+write_core_write_core_attributes.Goals as goal
 
 pub write_core-bounds-t-0 : goal.write_core-bounds-t-0
-write_core-bounds-t-0 t c = omega (arith, not-empty c.args.levels c.args.t.now c.requires.t_value)
+write_core-bounds-t-0 t c = omega (arith, not-empty c.args.levels c.args.t.now c.requires.t_whole)
 
 pub write_core-put_one-requires : goal.write_core-put_one-requires
-write_core-put_one-requires t c = behind-front (set-cut c.args.levels c.args.t.now c.requires.t_value c.in-7.is) c.requires.ready
+write_core-put_one-requires t c = behind-front (set-cut c.args.levels c.args.t.now c.requires.t_whole c.in-7.is) c.requires.ready
 
 pub write_core-slice_bounds-write_core-count : goal.write_core-slice_bounds-write_core-count
-write_core-slice_bounds-write_core-count t c = omega (arith, not-empty c.args.levels c.args.t.now c.requires.t_value)
+write_core-slice_bounds-write_core-count t c = omega (arith, not-empty c.args.levels c.args.t.now c.requires.t_whole)
 
 pub write_core-slice_bounds-write_core-start : goal.write_core-slice_bounds-write_core-start
-write_core-slice_bounds-write_core-start t c = omega (arith, not-empty c.args.levels c.args.t.now c.requires.t_value)
+write_core-slice_bounds-write_core-start t c = omega (arith, not-empty c.args.levels c.args.t.now c.requires.t_whole)
 
 pub write_core-overflow_sub-levels : goal.write_core-overflow_sub-levels
-write_core-overflow_sub-levels t c = omega (arith, (is_set c.args.levels c.args.t.now c.requires.t_value c.in-7.is).deep)
+write_core-overflow_sub-levels t c = omega (arith, (is_set c.args.levels c.args.t.now c.requires.t_whole c.in-7.is).deep)
 
 pub write_core-slice_bounds-write_core-count-in-7 : goal.write_core-slice_bounds-write_core-count-in-7
 write_core-slice_bounds-write_core-count-in-7 t c =
     let put_one = c.put_one in
-    let by-set-cut = set-cut c.args.levels c.args.t.now c.requires.t_value c.in-7.is in
+    let by-set-cut = set-cut c.args.levels c.args.t.now c.requires.t_whole c.in-7.is in
     let by-behind-at = behind-at by-set-cut c.requires.ready put_one.new.out 1 put_one.ensures refl in
     omega (arith, by-behind-at)
 
 pub write_core-slice_bounds-write_core-start-in-7 : goal.write_core-slice_bounds-write_core-start-in-7
 write_core-slice_bounds-write_core-start-in-7 t c =
     let put_one = c.put_one in
-    let by-set-cut = set-cut c.args.levels c.args.t.now c.requires.t_value c.in-7.is in
+    let by-set-cut = set-cut c.args.levels c.args.t.now c.requires.t_whole c.in-7.is in
     let by-behind-at = behind-at by-set-cut c.requires.ready put_one.new.out 1 put_one.ensures refl in
     omega (arith, by-behind-at)
 
@@ -41,8 +41,8 @@ pub write_core-write_core-requires : goal.write_core-write_core-requires
 write_core-write_core-requires t c =
     let put_one = c.put_one in
     let args = c.args in
-    let by-is-set = is_set args.levels args.t.now c.requires.t_value c.in-7.is in
-    let by-behind-ready = behind-ready (set-cut args.levels args.t.now c.requires.t_value c.in-7.is) c.requires.ready put_one.new.out 1
+    let by-is-set = is_set args.levels args.t.now c.requires.t_whole c.in-7.is in
+    let by-behind-ready = behind-ready (set-cut args.levels args.t.now c.requires.t_whole c.in-7.is) c.requires.ready put_one.new.out 1
     put_one.ensures refl in
     (omega (arith, c.decreases, by-is-set.deep), (by-is-set.good, by-behind-ready))
 
@@ -50,37 +50,37 @@ pub write_core-overflow_add-result : goal.write_core-overflow_add-result
 write_core-overflow_add-result t c =
     let write-core-step = c.write_core in
     let put_one = c.put_one in
-    let by-set-cut = set-cut c.args.levels c.args.t.now c.requires.t_value c.in-7.is in
+    let by-set-cut = set-cut c.args.levels c.args.t.now c.requires.t_whole c.in-7.is in
     let by-behind-small = behind-small by-set-cut c.requires.ready put_one.new.out 1 put_one.ensures refl write-core-step.new.out
     write-core-step.result write-core-step.ensures in
     omega (arith, by-behind-small)
 
 pub write_core-u16_at-n-requires : goal.write_core-u16_at-n-requires
-write_core-u16_at-n-requires t c = omega (arith, (is-record c.args.levels c.args.t.now c.requires.t_value c.in-8.is).some)
+write_core-u16_at-n-requires t c = omega (arith, (is-record c.args.levels c.args.t.now c.requires.t_whole c.in-8.is).some)
 
 pub write_core-bounds-t-1 : goal.write_core-bounds-t-1
-write_core-bounds-t-1 t c = omega (arith, (is-record c.args.levels c.args.t.now c.requires.t_value c.in-8.is).some)
+write_core-bounds-t-1 t c = omega (arith, (is-record c.args.levels c.args.t.now c.requires.t_whole c.in-8.is).some)
 
 pub write_core-put_record-requires : goal.write_core-put_record-requires
 write_core-put_record-requires t c =
     let u16-at = c.u16_at-n in
-    (record-front c.args.levels c.args.t.now c.requires.t_value c.requires.ready c.in-8.is, u16-at.ensures.1)
+    (record-front c.args.levels c.args.t.now c.requires.t_whole c.requires.ready c.in-8.is, u16-at.ensures.1)
 
 pub write_core-entries_at-requires : goal.write_core-entries_at-requires
-write_core-entries_at-requires t c = (omega arith, (is-record c.args.levels c.args.t.now c.requires.t_value c.in-8.is).fit)
+write_core-entries_at-requires t c = (omega arith, (is-record c.args.levels c.args.t.now c.requires.t_whole c.in-8.is).fit)
 
 pub write_core-bodies_at-requires : goal.write_core-bodies_at-requires
-write_core-bodies_at-requires t c = (omega arith, (is-record c.args.levels c.args.t.now c.requires.t_value c.in-8.is).fit)
+write_core-bodies_at-requires t c = (omega arith, (is-record c.args.levels c.args.t.now c.requires.t_whole c.in-8.is).fit)
 
 pub write_core-overflow_sub-levels-in-8 : goal.write_core-overflow_sub-levels-in-8
-write_core-overflow_sub-levels-in-8 t c = omega (arith, (is-record c.args.levels c.args.t.now c.requires.t_value c.in-8.is).deep)
+write_core-overflow_sub-levels-in-8 t c = omega (arith, (is-record c.args.levels c.args.t.now c.requires.t_whole c.in-8.is).deep)
 
 pub write_core-slice_bounds-write_core_attributes-count : goal.write_core-slice_bounds-write_core_attributes-count
 write_core-slice_bounds-write_core_attributes-count t c =
     let put_record = c.put_record in
     let u16-at = c.u16_at-n in
     let by-split = split u16-at.ensures.0 c.entries_at.ensures c.bodies_at.ensures in
-    let by-record-cut = record-cut c.args.levels c.args.t.now c.requires.t_value c.in-8.is by-split in
+    let by-record-cut = record-cut c.args.levels c.args.t.now c.requires.t_whole c.in-8.is by-split in
     let by-behind-at = behind-at by-record-cut c.requires.ready put_record.new.out 4 put_record.ensures refl in
     omega (arith, by-behind-at)
 
@@ -89,7 +89,7 @@ write_core-slice_bounds-write_core_attributes-start t c =
     let put_record = c.put_record in
     let u16-at = c.u16_at-n in
     let by-split = split u16-at.ensures.0 c.entries_at.ensures c.bodies_at.ensures in
-    let by-record-cut = record-cut c.args.levels c.args.t.now c.requires.t_value c.in-8.is by-split in
+    let by-record-cut = record-cut c.args.levels c.args.t.now c.requires.t_whole c.in-8.is by-split in
     let by-behind-at = behind-at by-record-cut c.requires.ready put_record.new.out 4 put_record.ensures refl in
     omega (arith, by-behind-at)
 
@@ -101,10 +101,10 @@ write_core-write_core_attributes-requires t c =
     let u16-at = c.u16_at-n in
     let args = c.args in
     let by-split = split u16-at.ensures.0 entries_at.ensures bodies-at.ensures in
-    let by-record-cut = record-cut args.levels args.t.now c.requires.t_value c.in-8.is by-split in
+    let by-record-cut = record-cut args.levels args.t.now c.requires.t_whole c.in-8.is by-split in
     let by-behind-ready = behind-ready by-record-cut c.requires.ready put_record.new.out 4 put_record.ensures refl in
-    let by-record-sound = record-sound args.levels args.t.now c.requires.t_value c.in-8.is by-split in
-    (omega (arith, c.decreases, (is-record args.levels args.t.now c.requires.t_value c.in-8.is).deep), (by-record-sound, by-behind-ready))
+    let by-record-sound = record-sound args.levels args.t.now c.requires.t_whole c.in-8.is by-split in
+    (omega (arith, c.decreases, (is-record args.levels args.t.now c.requires.t_whole c.in-8.is).deep), (by-record-sound, by-behind-ready))
 
 pub write_core-overflow_add-result-in-8 : goal.write_core-overflow_add-result-in-8
 write_core-overflow_add-result-in-8 t c =
@@ -113,50 +113,50 @@ write_core-overflow_add-result-in-8 t c =
     let entries_at = c.entries_at in
     let put_record = c.put_record in
     let u16-at = c.u16_at-n in
-    let by-record-cut = record-cut c.args.levels c.args.t.now c.requires.t_value c.in-8.is
+    let by-record-cut = record-cut c.args.levels c.args.t.now c.requires.t_whole c.in-8.is
     (split u16-at.ensures.0 entries_at.ensures bodies-at.ensures) in
     let by-behind-small = behind-small by-record-cut c.requires.ready put_record.new.out 4 put_record.ensures
     refl write-core-attributes-step.new.out write-core-attributes-step.result write-core-attributes-step.ensures in
     omega (arith, by-behind-small)
 
 pub write_core-u16_at-requires : goal.write_core-u16_at-requires
-write_core-u16_at-requires t c = omega (arith, (is-entity c.args.levels c.args.t.now c.requires.t_value c.in-10.is).some)
+write_core-u16_at-requires t c = omega (arith, (is-entity c.args.levels c.args.t.now c.requires.t_whole c.in-10.is).some)
 
 pub write_core-put_entity-requires : goal.write_core-put_entity-requires
 write_core-put_entity-requires t c =
     let args = c.args in
-    let by-one-name = one_name args.levels args.t.now c.requires.t_value c.requires.ready c.in-10.is in
-    (entity-room args.levels args.t.now c.requires.t_value c.requires.ready _ by-one-name, c.u16_at.ensures.1)
+    let by-one-name = one_name args.levels args.t.now c.requires.t_whole c.requires.ready c.in-10.is in
+    (entity-room args.levels args.t.now c.requires.t_whole c.requires.ready _ by-one-name, c.u16_at.ensures.1)
 
 pub write_core-u16_at-requires-in-11 : goal.write_core-u16_at-requires-in-11
-write_core-u16_at-requires-in-11 t c = omega (arith, (is-action c.args.levels c.args.t.now c.requires.t_value c.in-11.is).some)
+write_core-u16_at-requires-in-11 t c = omega (arith, (is-action c.args.levels c.args.t.now c.requires.t_whole c.in-11.is).some)
 
 pub write_core-put_entity-requires-in-11 : goal.write_core-put_entity-requires-in-11
 write_core-put_entity-requires-in-11 t c =
     let args = c.args in (
-      entity-room args.levels args.t.now c.requires.t_value c.requires.ready _ (action-core args.levels args.t.now c.requires.t_value c.in-11.is),
+      entity-room args.levels args.t.now c.requires.t_whole c.requires.ready _ (action-core args.levels args.t.now c.requires.t_whole c.in-11.is),
       c.u16_at-in-11.ensures.1,
     )
 
 pub write_core-u16_at-requires-in-12 : goal.write_core-u16_at-requires-in-12
-write_core-u16_at-requires-in-12 t c = omega (arith, (is-extension c.args.levels c.args.t.now c.requires.t_value c.in-12.is).sized)
+write_core-u16_at-requires-in-12 t c = omega (arith, (is-extension c.args.levels c.args.t.now c.requires.t_whole c.in-12.is).sized)
 
 pub write_core-put_kind-requires : goal.write_core-put_kind-requires
 write_core-put_kind-requires t c =
-    (extension-room c.args.levels c.args.t.now c.requires.t_value c.requires.ready c.in-12.is, c.u16_at-in-12.ensures.1)
+    (extension-room c.args.levels c.args.t.now c.requires.t_whole c.requires.ready c.in-12.is, c.u16_at-in-12.ensures.1)
 
 pub write_core-put_one-requires-in_default : goal.write_core-put_one-requires-in_default
 write_core-put_one-requires-in_default t c =
     let args = c.args in
     (let m = c.in_default.in_default-own.rest in
-    atom-written args.levels args.t.now c.requires.t_value m.0.0.0.0.1 m.0.0.0.1 m.0.0.1 m.0.1 m.1
-    (never-not args.levels args.t.now c.requires.t_value c.requires.ready) (any-not args.levels args.t.now c.requires.t_value c.requires.ready) c.requires.ready).0
+    atom-written args.levels args.t.now c.requires.t_whole m.0.0.0.0.1 m.0.0.0.1 m.0.0.1 m.0.1 m.1
+    (never-not args.levels args.t.now c.requires.t_whole c.requires.ready) (any-not args.levels args.t.now c.requires.t_whole c.requires.ready) c.requires.ready).0
 
 pub write_core-returns-in-7 : goal.write_core-returns-in-7
 write_core-returns-in-7 t c =
     let write-core-step = c.write_core in
     let put_one = c.put_one in
-    let by-set-cut = set-cut c.args.levels c.args.t.now c.requires.t_value c.in-7.is in
+    let by-set-cut = set-cut c.args.levels c.args.t.now c.requires.t_whole c.in-7.is in
     behind-written by-set-cut c.requires.ready put_one.new.out 1 put_one.ensures refl write-core-step.new.out write-core-step.result
     write-core-step.ensures
 
@@ -167,7 +167,7 @@ write_core-returns-in-8 t c =
     let entries_at = c.entries_at in
     let put_record = c.put_record in
     let u16-at = c.u16_at-n in
-    let by-record-cut = record-cut c.args.levels c.args.t.now c.requires.t_value c.in-8.is
+    let by-record-cut = record-cut c.args.levels c.args.t.now c.requires.t_whole c.in-8.is
     (split u16-at.ensures.0 entries_at.ensures bodies-at.ensures) in
     behind-written by-record-cut c.requires.ready put_record.new.out 4 put_record.ensures refl write-core-attributes-step.new.out
     write-core-attributes-step.result write-core-attributes-step.ensures
@@ -177,8 +177,8 @@ write_core-returns-in-10 t c =
     let put-entity = c.put_entity in
     let u16-at2 = c.u16_at in
     let args = c.args in
-    let by-one-name = one_name args.levels args.t.now c.requires.t_value c.requires.ready c.in-10.is in
-    entity-written args.levels args.t.now c.requires.t_value c.requires.ready _ u16-at2.result put-entity.new.out by-one-name u16-at2.ensures.0
+    let by-one-name = one_name args.levels args.t.now c.requires.t_whole c.requires.ready c.in-10.is in
+    entity-written args.levels args.t.now c.requires.t_whole c.requires.ready _ u16-at2.result put-entity.new.out by-one-name u16-at2.ensures.0
     put-entity.ensures
 
 pub write_core-returns-in-11 : goal.write_core-returns-in-11
@@ -186,14 +186,14 @@ write_core-returns-in-11 t c =
     let put-entity2 = c.put_entity-in-11 in
     let u16-at3 = c.u16_at-in-11 in
     let args = c.args in
-    entity-written args.levels args.t.now c.requires.t_value c.requires.ready _ u16-at3.result put-entity2.new.out
-    (action-core args.levels args.t.now c.requires.t_value c.in-11.is) u16-at3.ensures.0 put-entity2.ensures
+    entity-written args.levels args.t.now c.requires.t_whole c.requires.ready _ u16-at3.result put-entity2.new.out
+    (action-core args.levels args.t.now c.requires.t_whole c.in-11.is) u16-at3.ensures.0 put-entity2.ensures
 
 pub write_core-returns-in-12 : goal.write_core-returns-in-12
 write_core-returns-in-12 t c =
     let put-kind = c.put_kind in
     let u16-at4 = c.u16_at-in-12 in
-    extension-written c.args.levels c.args.t.now c.requires.t_value c.requires.ready c.in-12.is u16-at4.result
+    extension-written c.args.levels c.args.t.now c.requires.t_whole c.requires.ready c.in-12.is u16-at4.result
     put-kind.new.out u16-at4.ensures.0 put-kind.ensures
 
 pub write_core-returns-in_default : goal.write_core-returns-in_default
@@ -202,8 +202,8 @@ write_core-returns-in_default t c =
     let bool-or = c.bool_or in
     let args = c.args in
     (let m = c.in_default.in_default-own.rest in
-    atom-written args.levels args.t.now c.requires.t_value m.0.0.0.0.1 m.0.0.0.1 m.0.0.1 m.0.1 m.1
-    (never-not args.levels args.t.now c.requires.t_value c.requires.ready) (any-not args.levels args.t.now c.requires.t_value c.requires.ready) c.requires.ready).1
+    atom-written args.levels args.t.now c.requires.t_whole m.0.0.0.0.1 m.0.0.0.1 m.0.0.1 m.0.1 m.1
+    (never-not args.levels args.t.now c.requires.t_whole c.requires.ready) (any-not args.levels args.t.now c.requires.t_whole c.requires.ready) c.requires.ready).1
     bool-or.result put-one2.new.out bool-or.ensures put-one2.ensures
 
 pub write_core_attributes-overflow_mul-pos : goal.write_core_attributes-overflow_mul-pos

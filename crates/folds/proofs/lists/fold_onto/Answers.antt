@@ -38,7 +38,7 @@ slice_bounds-join_step-end c =
 pub join_step-requires : goal.join_step-requires
 join_step-requires c =
     let by-folding-type = folding-type c.loop-left.invariant.0 c.loop-left-test.true c.u16_at-size.result c.u16_at-size.ensures.0 in
-    record { held = c.loop-left.invariant.0.held; t_value = by-folding-type }
+    record { held = c.loop-left.invariant.0.held; t_whole = by-folding-type }
 
 pub returns-in-Not : goal.returns-in-Not
 returns-in-Not c =

@@ -13,7 +13,7 @@ returns-in-Not c =
     let args = c.args in
     let said = c.bound_length in
     let from =
-    stepping c.requires.held c.requires.t_value (λ i. grind arith)
+    stepping c.requires.held c.requires.t_whole (λ i. grind arith)
     (λ i. (c.type_inv.t i).fits) in
     step-none (as_mode args.mode) from said.result said.ensures (length args.work.now) c.in-Not.e c.in-Not.is
 
@@ -22,7 +22,7 @@ returns-then-half-n c =
     let args = c.args in
     let said = c.bound_length in
     let from =
-    stepping c.requires.held c.requires.t_value (λ i. grind arith)
+    stepping c.requires.held c.requires.t_whole (λ i. grind arith)
     (λ i. (c.type_inv.t i).fits) in
     step-over-half (as_mode args.mode) from said.result said.ensures (length args.work.now) c.in-Of.n c.in-Of.is
     c.if-half-n.true
@@ -32,7 +32,7 @@ returns-then-limits-n c =
     let args = c.args in
     let said = c.bound_length in
     let from =
-    stepping c.requires.held c.requires.t_value (λ i. grind arith)
+    stepping c.requires.held c.requires.t_whole (λ i. grind arith)
     (λ i. (c.type_inv.t i).fits) in
     step-over-form (as_mode args.mode) from said.result said.ensures (length args.work.now) c.in-Of.n c.in-Of.is
     c.if-limits-n.true
@@ -43,14 +43,14 @@ write_bound-requires c =
     let said = c.bound_length in
     let half = length args.work.now / 2 in
     let room = rest half args.work.now in
-    let from = stepping c.requires.held c.requires.t_value (λ i. grind arith)
+    let from = stepping c.requires.held c.requires.t_whole (λ i. grind arith)
     (λ i. (c.type_inv.t i).fits) in
     let ready = step-ready (as_mode args.mode) from said.result said.ensures (length args.work.now) c.in-Of.n c.in-Of.is
     c.if-half-n.false c.if-limits-n.false room (omega (arith, length_rest half args.work.now, c.if-half-n.false)) in
     let exact = step-length (as_mode args.mode) from said.result said.ensures (length args.work.now) c.in-Of.n
     c.in-Of.is
     c.if-half-n.false c.if-limits-n.false in
-    record { a_value = c.requires.held.good; b_value = c.requires.t_value; ready = ready; known_length = λ p. exact }
+    record { a_whole = c.requires.held.good; b_whole = c.requires.t_whole; ready = ready; known_length = λ p. exact }
 
 pub returns-then-second : goal.returns-then-second
 returns-then-second c =
@@ -59,7 +59,7 @@ returns-then-second c =
     let wrote = c.write_bound in
     let copied = c.copy in
     let from =
-    stepping c.requires.held c.requires.t_value (λ i. grind arith)
+    stepping c.requires.held c.requires.t_whole (λ i. grind arith)
     (λ i. (c.type_inv.t i).fits) in
     step-second (as_mode args.mode) from said.result said.ensures (length args.work.now) c.in-Of.n c.in-Of.is
     c.if-half-n.false c.if-limits-n.false
@@ -74,14 +74,14 @@ write_bound-requires-2 c =
     let said = c.bound_length in
     let half = length args.work.now / 2 in
     let room = take half args.work.now in
-    let from = stepping c.requires.held c.requires.t_value (λ i. grind arith)
+    let from = stepping c.requires.held c.requires.t_whole (λ i. grind arith)
     (λ i. (c.type_inv.t i).fits) in
     let ready = step-ready (as_mode args.mode) from said.result said.ensures (length args.work.now) c.in-Of.n c.in-Of.is
     c.if-half-n.false c.if-limits-n.false room (omega (arith, length-take half args.work.now, c.if-half-n.false)) in
     let exact = step-length (as_mode args.mode) from said.result said.ensures (length args.work.now) c.in-Of.n
     c.in-Of.is
     c.if-half-n.false c.if-limits-n.false in
-    record { a_value = c.requires.held.good; b_value = c.requires.t_value; ready = ready; known_length = λ p. exact }
+    record { a_whole = c.requires.held.good; b_whole = c.requires.t_whole; ready = ready; known_length = λ p. exact }
 
 pub returns : goal.returns
 returns c =
@@ -90,7 +90,7 @@ returns c =
     let wrote = c.write_bound-2 in
     let copied = c.copy-2 in
     let from =
-    stepping c.requires.held c.requires.t_value (λ i. grind arith)
+    stepping c.requires.held c.requires.t_whole (λ i. grind arith)
     (λ i. (c.type_inv.t i).fits) in
     step-first (as_mode args.mode) from said.result said.ensures (length args.work.now) c.in-Of.n c.in-Of.is
     c.if-half-n.false c.if-limits-n.false

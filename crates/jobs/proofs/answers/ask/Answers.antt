@@ -14,22 +14,22 @@ use Prim.Native.Nat.{ℕ}
 use Rattle.jobs.proofs.answers.ask.Goals as goal
 
 pub is_subtype_checked-requires : goal.is_subtype_checked-requires
-is_subtype_checked-requires c = checked-own job_limits c.args.schema.now c.args.check c.requires.check_value
+is_subtype_checked-requires c = checked-own job_limits c.args.schema.now c.args.check c.requires.own_check
 
 pub least_upper_bound_checked-requires : goal.least_upper_bound_checked-requires
-least_upper_bound_checked-requires c = checked-own job_limits c.args.schema.now c.args.check c.requires.check_value
+least_upper_bound_checked-requires c = checked-own job_limits c.args.schema.now c.args.check c.requires.own_check
 
 pub may_have_attr_checked-requires : goal.may_have_attr_checked-requires
-may_have_attr_checked-requires c = checked-own job_limits c.args.schema.now c.args.check c.requires.check_value
+may_have_attr_checked-requires c = checked-own job_limits c.args.schema.now c.args.check c.requires.own_check
 
 pub typecheck_restricted_expr_checked-requires : goal.typecheck_restricted_expr_checked-requires
-typecheck_restricted_expr_checked-requires c = checked-own job_limits c.args.schema.now c.args.check c.requires.check_value
+typecheck_restricted_expr_checked-requires c = checked-own job_limits c.args.schema.now c.args.check c.requires.own_check
 
 pub euid_literal_checked-requires : goal.euid_literal_checked-requires
-euid_literal_checked-requires c = checked-own job_limits c.args.schema.now c.args.check c.requires.check_value
+euid_literal_checked-requires c = checked-own job_limits c.args.schema.now c.args.check c.requires.own_check
 
 pub typecheck_restricted_expr_exact_checked-requires : goal.typecheck_restricted_expr_exact_checked-requires
-typecheck_restricted_expr_exact_checked-requires c = checked-own job_limits c.args.schema.now c.args.check c.requires.check_value
+typecheck_restricted_expr_exact_checked-requires c = checked-own job_limits c.args.schema.now c.args.check c.requires.own_check
 
 pub returns-in-0 : goal.returns-in-0
 returns-in-0 c =
@@ -37,7 +37,7 @@ returns-in-0 c =
     asked_is _ _ _ _ _ subtype_op at.q.operation
     (ap op_of c.in-0.is)
     (answered-quiet at.res.now (quiet-subtype at.q.mode at.schema.now at.first.now at.second.now) (checked_under job_limits
-    at.schema.now at.check c.requires.check_value
+    at.schema.now at.check c.requires.own_check
     (λ (lim : Limits). c.is_subtype_checked.result ≡ answer_of (subtype_call lim at.q.mode at.schema.now at.first.now at.second.now))
     c.is_subtype_checked.ensures))
 
@@ -46,7 +46,7 @@ returns-in-1 c =
     let least-upper-bound-checked = c.least_upper_bound_checked in
     let at = c.args in
     let by-answered-room = answered-room (λ (n : ℕ). bound_call standard at.q.mode at.schema.now at.first.now at.second.now n) c.requires.res_len
-    (checked_under job_limits at.schema.now at.check c.requires.check_value
+    (checked_under job_limits at.schema.now at.check c.requires.own_check
     (λ (lim : Limits). Answered (bound_call lim at.q.mode at.schema.now at.first.now at.second.now (length at.res.now)) at.res.now
     least-upper-bound-checked.new.out least-upper-bound-checked.result) least-upper-bound-checked.ensures) in
     asked_is _ _ _ _ _ bound_op at.q.operation (ap op_of c.in-1.is) by-answered-room
@@ -71,7 +71,7 @@ returns-in-4 c =
     asked_is _ _ _ _ _ may_have_op at.q.operation
     (ap op_of c.in-4.is)
     (answered-quiet at.res.now (quiet-may-have at.schema.now at.q.attribute at.first.now) (checked_under job_limits at.schema.now
-    at.check c.requires.check_value
+    at.check c.requires.own_check
     (λ (lim : Limits). c.may_have_attr_checked.result ≡ answer_of (may_have_call lim at.schema.now at.q.attribute at.first.now))
     c.may_have_attr_checked.ensures))
 
@@ -105,7 +105,7 @@ returns-in-8 c =
     asked_is _ _ _ _ _ conforms_op at.q.operation
     (ap op_of c.in-8.is)
     (answered-quiet at.res.now (quiet-conforms shorter at.schema.now at.first.now at.second.now) (checked_under job_limits at.schema.now
-    at.check c.requires.check_value
+    at.check c.requires.own_check
     (λ (lim : Limits). c.typecheck_restricted_expr_checked.result ≡ answer_of (conforms_call lim at.schema.now at.first.now at.second.now))
     c.typecheck_restricted_expr_checked.ensures))
 
@@ -119,7 +119,7 @@ returns-in-10 c =
     let euid-literal-checked = c.euid_literal_checked in
     let at = c.args in
     let by-answered-room = answered-room (λ (n : ℕ). literal_call standard at.schema.now at.first.now n) c.requires.res_len
-    (checked_under job_limits at.schema.now at.check c.requires.check_value
+    (checked_under job_limits at.schema.now at.check c.requires.own_check
     (λ (lim : Limits). Answered (literal_call lim at.schema.now at.first.now (length at.res.now)) at.res.now
     euid-literal-checked.new.out euid-literal-checked.result) euid-literal-checked.ensures) in
     asked_is _ _ _ _ _ literal_op at.q.operation (ap op_of c.in-10.is) by-answered-room
@@ -128,11 +128,11 @@ pub returns-in_default : goal.returns-in_default
 returns-in_default c =
     let at = c.args in
     let m = c.in_default.in_default-own.rest in
-    let by-full-is = full_is at.q.operation c.requires.operation_le_last_operation m.0.0.0.0.0.0.0.0.0.0.1 m.0.0.0.0.0.0.0.0.0.1
+    let by-full-is = full_is at.q.operation c.requires.known_operation m.0.0.0.0.0.0.0.0.0.0.1 m.0.0.0.0.0.0.0.0.0.1
     m.0.0.0.0.0.0.0.0.1 m.0.0.0.0.0.0.0.1 m.0.0.0.0.0.0.1 m.0.0.0.0.0.1 m.0.0.0.0.1 m.0.0.0.1 m.0.0.1
     m.0.1 m.1 in
     asked_is _ _ _ _ _ full_op at.q.operation by-full-is
     (answered-quiet at.res.now (quiet-conforms exact at.schema.now at.first.now at.second.now) (checked_under job_limits at.schema.now
-    at.check c.requires.check_value
+    at.check c.requires.own_check
     (λ (lim : Limits). c.typecheck_restricted_expr_exact_checked.result ≡ answer_of (full_call lim at.schema.now at.first.now at.second.now))
     c.typecheck_restricted_expr_exact_checked.ensures))

@@ -10,13 +10,13 @@ use Prim.Native.Nat.{ℕ}
 use Rattle.jobs.proofs.answers.names.Goals as goal
 
 pub all_attributes_checked-requires : goal.all_attributes_checked-requires
-all_attributes_checked-requires c = checked-own job_limits c.args.schema.now c.args.check c.requires.check_value
+all_attributes_checked-requires c = checked-own job_limits c.args.schema.now c.args.check c.requires.own_check
 
 pub returns : goal.returns
 returns c =
     let called = c.all_attributes_checked in
     let args = c.args in
-    let under = checked_under job_limits args.schema.now args.check c.requires.check_value
+    let under = checked_under job_limits args.schema.now args.check c.requires.own_check
     (λ (lim : Limits). Answered (names_call lim args.schema.now args.t.now (length args.res.now) job_work) args.res.now
     called.new.out called.result)
     (answered-in called.ensures) in

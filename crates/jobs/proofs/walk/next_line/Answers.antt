@@ -12,7 +12,7 @@ returns-then-not-stands c =
 pub answer_at-answer-requires : goal.answer_at-answer-requires
 answer_at-answer-requires c =
     let asked = c.stands in
-    record { cursor_value = sym asked.ensures ∙ not-false asked.result c.if-not-stands.false-raw; check_value = c.requires; res_len = refl }
+    record { stands = sym asked.ensures ∙ not-false asked.result c.if-not-stands.false-raw; own_check = c.requires; res_len = refl }
 
 pub put_line-n-requires : goal.put_line-n-requires
 put_line-n-requires c =

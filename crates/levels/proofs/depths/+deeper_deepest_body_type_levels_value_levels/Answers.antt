@@ -48,62 +48,62 @@ deeper-returns-in-Values t c =
 pub deepest_body-u16_at-n-requires : goal.deepest_body-u16_at-n-requires
 deepest_body-u16_at-n-requires t c =
     let args = c.args in
-    omega (arith, table-count (body_row args.width) (λ _. whole_form args.form args.levels) tt args.at args.t.now c.requires.t_value)
+    omega (arith, table-count (body_row args.width) (λ _. whole_form args.form args.levels) tt args.at args.t.now c.requires.t_table)
 
 pub deepest_body-overflow_mul-end : goal.deepest_body-overflow_mul-end
 deepest_body-overflow_mul-end t c =
     let count = c.u16_at-n in
     let args = c.args in
-    omega (arith, table-entries (body_row args.width) (λ _. whole_form args.form args.levels) tt args.at args.t.now c.requires.t_value count.result count.ensures.0)
+    omega (arith, table-entries (body_row args.width) (λ _. whole_form args.form args.levels) tt args.at args.t.now c.requires.t_table count.result count.ensures.0)
 
 pub deepest_body-overflow_add-end : goal.deepest_body-overflow_add-end
 deepest_body-overflow_add-end t c =
     let count = c.u16_at-n in
     let args = c.args in
-    omega (arith, table-entries (body_row args.width) (λ _. whole_form args.form args.levels) tt args.at args.t.now c.requires.t_value count.result count.ensures.0)
+    omega (arith, table-entries (body_row args.width) (λ _. whole_form args.form args.levels) tt args.at args.t.now c.requires.t_table count.result count.ensures.0)
 
 pub deepest_body-returns-then-n-eq0 : goal.deepest_body-returns-then-n-eq0
 deepest_body-returns-then-n-eq0 t c =
     let count = c.u16_at-n in
     let args = c.args in
-    bodies-none args.form args.levels args.width args.at args.t.now c.requires.t_value count.result count.ensures.0 c.if-n-eq0.true
+    bodies-none args.form args.levels args.width args.at args.t.now c.requires.t_table count.result count.ensures.0 c.if-n-eq0.true
 
 pub deepest_body-slice_bounds-e-count : goal.deepest_body-slice_bounds-e-count
 deepest_body-slice_bounds-e-count t c =
     let count = c.u16_at-n in
     let args = c.args in
-    omega (arith, table-entries (body_row args.width) (λ _. whole_form args.form args.levels) tt args.at args.t.now c.requires.t_value count.result count.ensures.0)
+    omega (arith, table-entries (body_row args.width) (λ _. whole_form args.form args.levels) tt args.at args.t.now c.requires.t_table count.result count.ensures.0)
 
 pub deepest_body-slice_bounds-e-start : goal.deepest_body-slice_bounds-e-start
 deepest_body-slice_bounds-e-start t c =
     let count = c.u16_at-n in
     let args = c.args in
-    omega (arith, table-entries (body_row args.width) (λ _. whole_form args.form args.levels) tt args.at args.t.now c.requires.t_value count.result count.ensures.0)
+    omega (arith, table-entries (body_row args.width) (λ _. whole_form args.form args.levels) tt args.at args.t.now c.requires.t_table count.result count.ensures.0)
 
 pub deepest_body-slice_bounds-e-end : goal.deepest_body-slice_bounds-e-end
 deepest_body-slice_bounds-e-end t c =
     let count = c.u16_at-n in
     let args = c.args in
-    omega (arith, table-entries (body_row args.width) (λ _. whole_form args.form args.levels) tt args.at args.t.now c.requires.t_value count.result count.ensures.0)
+    omega (arith, table-entries (body_row args.width) (λ _. whole_form args.form args.levels) tt args.at args.t.now c.requires.t_table count.result count.ensures.0)
 
 pub deepest_body-slice_bounds-b-count : goal.deepest_body-slice_bounds-b-count
 deepest_body-slice_bounds-b-count t c =
     let count = c.u16_at-n in
     let args = c.args in
-    omega (arith, table-entries (body_row args.width) (λ _. whole_form args.form args.levels) tt args.at args.t.now c.requires.t_value count.result count.ensures.0)
+    omega (arith, table-entries (body_row args.width) (λ _. whole_form args.form args.levels) tt args.at args.t.now c.requires.t_table count.result count.ensures.0)
 
 pub deepest_body-slice_bounds-b-start : goal.deepest_body-slice_bounds-b-start
 deepest_body-slice_bounds-b-start t c =
     let count = c.u16_at-n in
     let args = c.args in
-    omega (arith, table-entries (body_row args.width) (λ _. whole_form args.form args.levels) tt args.at args.t.now c.requires.t_value count.result count.ensures.0)
+    omega (arith, table-entries (body_row args.width) (λ _. whole_form args.form args.levels) tt args.at args.t.now c.requires.t_table count.result count.ensures.0)
 
 pub deepest_body-loop-left-init : goal.deepest_body-loop-left-init
 deepest_body-loop-left-init t c =
     let if1 = c.if-n-eq0 in
     let count = c.u16_at-n in
     let args = c.args in
-    bodies-start args.form args.levels args.width args.at args.t.now c.requires.t_value count.result count.ensures.0 (Bytes-index args.t.now (λ i. (c.type_inv.t i).fits)) count.ensures.1 if1.false
+    bodies-start args.form args.levels args.width args.at args.t.now c.requires.t_table count.result count.ensures.0 (Bytes-index args.t.now (λ i. (c.type_inv.t i).fits)) count.ensures.1 if1.false
 
 pub deepest_body-overflow_add-left : goal.deepest_body-overflow_add-left
 deepest_body-overflow_add-left t c = omega (arith, c.loop-left.invariant.small.0, c.loop-left.invariant.small.1)

@@ -32,7 +32,7 @@ entity_names-requires c =
     let by-entity-named = entity-named (step_fits (as_limits args.at.limits) (length args.work.now)) (dec_s (as_limits args.at.limits)
     args.schema.now) 0 args.at.limits.levels args.t.now c.requires.asked.good
     c.in-10.is u16-at.result u16-at.ensures.0 in
-    record { sectioned = c.requires.sectioned; named = by-entity-named; at_in_bounds = c.requires.asked.room; at_in_bounds_2 = c.requires.at_in_bounds }
+    record { sectioned = c.requires.sectioned; named = by-entity-named; last_room = c.requires.asked.room; kept_room = c.requires.kept_room }
 
 pub entries_at-requires : goal.entries_at-requires
 entries_at-requires c = (omega arith, (is-record c.args.at.limits.levels c.args.t.now c.requires.asked.good c.in-8.is).fit)
@@ -47,7 +47,7 @@ write_names-requires c =
     let args = c.args in
     record-entered (step_fits (as_limits args.at.limits) (length args.work.now)) (dec_s (as_limits args.at.limits) args.schema.now)
     args.at.limits.levels args.t.now c.requires.asked.good args.kept.now
-    (omega (arith, c.requires.asked.few, c.requires.at_in_bounds.0)) c.requires.at_in_bounds.1 u16-at2.result _ c.in-8.is u16-at2.ensures.0 entries_at.ensures
+    (omega (arith, c.requires.asked.few, c.requires.kept_room.0)) c.requires.kept_room.1 u16-at2.result _ c.in-8.is u16-at2.ensures.0 entries_at.ensures
 
 pub entries_at-requires-in-11 : goal.entries_at-requires-in-11
 entries_at-requires-in-11 c = (omega arith, (is-action c.args.at.limits.levels c.args.t.now c.requires.asked.good c.in-11.is).fit)
@@ -62,7 +62,7 @@ write_names-requires-in-11 c =
     let args = c.args in
     action-entered (step_fits (as_limits args.at.limits) (length args.work.now)) (dec_s (as_limits args.at.limits) args.schema.now)
     args.at.limits.levels args.t.now c.requires.asked.good args.kept.now
-    (omega (arith, c.requires.asked.few, c.requires.at_in_bounds.0)) c.requires.at_in_bounds.1 u16-at3.result _ c.in-11.is u16-at3.ensures.0 entries-at2.ensures
+    (omega (arith, c.requires.asked.few, c.requires.kept_room.0)) c.requires.kept_room.1 u16-at3.result _ c.in-11.is u16-at3.ensures.0 entries-at2.ensures
 
 pub returns-in-10 : goal.returns-in-10
 returns-in-10 c =

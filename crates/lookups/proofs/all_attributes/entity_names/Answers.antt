@@ -84,8 +84,8 @@ kept_names-requires c =
     c.in-From.m c.in-From.is in
     let entered = entry-entered (as_limits args.at.limits) (step_fits (as_limits args.at.limits) (length args.work.now)) args.schema.now
     args.n args.types.now args.kept.now if1.false
-    name.result name.ensures.0 c.in-From.start c.in-From.m entries c.requires.at_in_bounds_2.0 c.requires.at_in_bounds_2.1 in
-    record { sectioned = c.requires.sectioned; named = c.requires.named; at_in_bounds = c.requires.at_in_bounds; entered = entered }
+    name.result name.ensures.0 c.in-From.start c.in-From.m entries c.requires.kept_room.0 c.requires.kept_room.1 in
+    record { sectioned = c.requires.sectioned; named = c.requires.named; last_room = c.requires.last_room; entered = entered }
 
 pub returns : goal.returns
 returns c =

@@ -26,7 +26,7 @@ u16_at-name-requires c = omega (arith, c.loop-left.invariant.0.sized)
 pub look_up_types-found-requires : goal.look_up_types-found-requires
 look_up_types-found-requires c =
     let loop = c.loop-left in
-    record { sectioned = c.requires.sectioned; named = c.requires.named; at_in_bounds = omega (arith, loop.invariant.2, c.requires.at_in_bounds) }
+    record { sectioned = c.requires.sectioned; named = c.requires.named; last_room = omega (arith, loop.invariant.2, c.requires.last_room) }
 
 pub returns-then-too_long : goal.returns-then-too_long
 returns-then-too_long c =

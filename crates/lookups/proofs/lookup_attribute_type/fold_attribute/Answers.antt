@@ -70,7 +70,7 @@ join_step-requires c =
     let here = attribute-at (as_limits args.at.limits) args.schema.now u16-at.result args.name entity-attribute.result
     entity-attribute.ensures c.in-At.start
     c.in-At.end c.in-At.also c.in-At.is in
-    record { held = loop.invariant.0.held; t_value = here.0.2 }
+    record { held = loop.invariant.0.held; t_whole = here.0.2 }
 
 pub returns-in-Not : goal.returns-in-Not
 returns-in-Not c =

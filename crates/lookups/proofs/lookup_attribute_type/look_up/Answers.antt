@@ -44,7 +44,7 @@ look_up_types-requires c =
     let by-entity-named = entity-named (step_fits (as_limits args.at.limits) (length args.work.now)) (dec_s (as_limits args.at.limits)
     args.schema.now) args.name args.at.limits.levels args.t.now
     c.requires.asked.good if1.true u16-at.result u16-at.ensures.0 in
-    record { sectioned = c.requires.sectioned; named = by-entity-named; at_in_bounds = c.requires.asked.room }
+    record { sectioned = c.requires.sectioned; named = by-entity-named; last_room = c.requires.asked.room }
 
 pub returns-then-t-eq-ENTITY : goal.returns-then-t-eq-ENTITY
 returns-then-t-eq-ENTITY c =

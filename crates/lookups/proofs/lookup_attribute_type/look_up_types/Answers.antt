@@ -73,7 +73,7 @@ copy-requires c =
     entity-attribute.ensures
     c.in-At.start c.in-At.end c.in-At.required c.in-At.is in
     let by-length-part = length_part c.in-At.start c.in-At.end args.schema.now by-attribute-at.0.1 in
-    omega (arith, by-length-part, by-attribute-at.1, c.requires.at_in_bounds)
+    omega (arith, by-length-part, by-attribute-at.1, c.requires.last_room)
 
 pub overflow_sub-end : goal.overflow_sub-end
 overflow_sub-end c =
@@ -100,7 +100,7 @@ fold_attribute-requires c =
     args.schema.now) by-Bytes-part by-attribute-at.0.2 in
     let by-held-copy = held-copy (as_limits args.at.limits) (allowed-bytes (as_limits args.at.limits) c.requires.sectioned.fair).1
     args.schema.now args.last.now copy.new.out c.in-At.start c.in-At.end
-    by-attribute-at.0.0 by-attribute-at.0.1 by-attribute-at.1 c.requires.at_in_bounds copy.auto.out by-attribute-at.0.2 by-enc-dec
+    by-attribute-at.0.0 by-attribute-at.0.1 by-attribute-at.1 c.requires.last_room copy.auto.out by-attribute-at.0.2 by-enc-dec
     copy.ensures in
     record { sectioned = c.requires.sectioned; named = types-rest args.n args.types.now c.requires.named; held = by-held-copy.1 }
 
@@ -122,7 +122,7 @@ returns c =
     args.schema.now) by-Bytes-part by-attribute-at.0.2 in
     let by-held-copy = held-copy (as_limits args.at.limits) (allowed-bytes (as_limits args.at.limits) c.requires.sectioned.fair).1
     args.schema.now args.last.now copy.new.out c.in-At.start c.in-At.end
-    by-attribute-at.0.0 by-attribute-at.0.1 by-attribute-at.1 c.requires.at_in_bounds copy.auto.out by-attribute-at.0.2 by-enc-dec
+    by-attribute-at.0.0 by-attribute-at.0.1 by-attribute-at.1 c.requires.last_room copy.auto.out by-attribute-at.0.2 by-enc-dec
     copy.ensures in
     subst (λ (o : Result (Option (Bool × Ty))). LookedUp (as_limits args.at.limits) o fold-attribute.new.last
     fold-attribute.result)

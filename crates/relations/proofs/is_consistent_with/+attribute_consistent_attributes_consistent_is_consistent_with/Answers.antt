@@ -98,7 +98,7 @@ attribute_consistent-is_consistent_with-requires t c =
     let by-met-entry = met-entry c.requires.left (eqb args.openness 1) args.f.now (dec args.levels args.u.now) c.u16_at.result
     c.u16_at.ensures.0 c.find.result c.find.ensures c.in-At.i c.in-At.off
     c.in-At.is in
-    (omega (arith, c.decreases), (rw u16-at2.ensures.0 by-met-entry.body, c.requires.u_value))
+    (omega (arith, c.decreases), (rw u16-at2.ensures.0 by-met-entry.body, c.requires.u_whole))
 
 pub attribute_consistent-returns : goal.attribute_consistent-returns
 attribute_consistent-returns t c =
@@ -208,92 +208,92 @@ pub attributes_consistent-returns : goal.attributes_consistent-returns
 attributes_consistent-returns t c = meeting-end c.loop-more.invariant c.loop-more-test.false
 
 pub is_consistent_with-bounds-t0-0 : goal.is_consistent_with-bounds-t0-0
-is_consistent_with-bounds-t0-0 t c = not-empty c.args.levels c.args.t0.now c.requires.t0_value
+is_consistent_with-bounds-t0-0 t c = not-empty c.args.levels c.args.t0.now c.requires.t0_whole
 
 pub is_consistent_with-bounds-t1-0 : goal.is_consistent_with-bounds-t1-0
-is_consistent_with-bounds-t1-0 t c = not-empty c.args.levels c.args.t1.now c.requires.t1_value
+is_consistent_with-bounds-t1-0 t c = not-empty c.args.levels c.args.t1.now c.requires.t1_whole
 
 pub is_consistent_with-entity_consistent-requires : goal.is_consistent_with-entity_consistent-requires
 is_consistent_with-entity_consistent-requires t c =
-    record { t0_value = c.requires.t0_value; entity_form = entity-form (is-entity c.args.levels c.args.t1.now c.requires.t1_value c.if-k-eq-ENTITY.true) }
+    record { t0_whole = c.requires.t0_whole; entity_form = entity-form (is-entity c.args.levels c.args.t1.now c.requires.t1_whole c.if-k-eq-ENTITY.true) }
 
 pub is_consistent_with-returns-then-k-eq-ENTITY : goal.is_consistent_with-returns-then-k-eq-ENTITY
 is_consistent_with-returns-then-k-eq-ENTITY t c =
     let args = c.args in
-    c.entity_consistent.ensures ∙ with-entity args.levels args.t0.now args.t1.now c.requires.t0_value c.requires.t1_value c.if-k-eq-ENTITY.true
+    c.entity_consistent.ensures ∙ with-entity args.levels args.t0.now args.t1.now c.requires.t0_whole c.requires.t1_whole c.if-k-eq-ENTITY.true
 
 pub is_consistent_with-returns-then-j-k : goal.is_consistent_with-returns-then-j-k
 is_consistent_with-returns-then-j-k t c =
     let if1 = c.if-k-eq-ENTITY in
     let args = c.args in
-    let by-unlike-kinds = unlike-kinds args.levels args.t0.now args.t1.now c.requires.t0_value c.requires.t1_value if1.false
+    let by-unlike-kinds = unlike-kinds args.levels args.t0.now args.t1.now c.requires.t0_whole c.requires.t1_whole if1.false
     c.if-j-k.true in
     c.kind_consistent.ensures ∙ by-unlike-kinds
 
 pub is_consistent_with-slice_bounds-is_consistent_with-count : goal.is_consistent_with-slice_bounds-is_consistent_with-count
-is_consistent_with-slice_bounds-is_consistent_with-count t c = omega (arith, not-empty c.args.levels c.args.t0.now c.requires.t0_value)
+is_consistent_with-slice_bounds-is_consistent_with-count t c = omega (arith, not-empty c.args.levels c.args.t0.now c.requires.t0_whole)
 
 pub is_consistent_with-slice_bounds-is_consistent_with-start : goal.is_consistent_with-slice_bounds-is_consistent_with-start
 is_consistent_with-slice_bounds-is_consistent_with-start t c = is_consistent_with-slice_bounds-is_consistent_with-count t c
 
 pub is_consistent_with-slice_bounds-is_consistent_with-count-in-7 : goal.is_consistent_with-slice_bounds-is_consistent_with-count-in-7
-is_consistent_with-slice_bounds-is_consistent_with-count-in-7 t c = omega (arith, not-empty c.args.levels c.args.t1.now c.requires.t1_value)
+is_consistent_with-slice_bounds-is_consistent_with-count-in-7 t c = omega (arith, not-empty c.args.levels c.args.t1.now c.requires.t1_whole)
 
 pub is_consistent_with-slice_bounds-is_consistent_with-start-in-7 : goal.is_consistent_with-slice_bounds-is_consistent_with-start-in-7
 is_consistent_with-slice_bounds-is_consistent_with-start-in-7 t c = is_consistent_with-slice_bounds-is_consistent_with-count-in-7 t c
 
 pub is_consistent_with-overflow_sub-levels : goal.is_consistent_with-overflow_sub-levels
-is_consistent_with-overflow_sub-levels t c = omega (arith, (is_set c.args.levels c.args.t1.now c.requires.t1_value c.in-7.is).deep)
+is_consistent_with-overflow_sub-levels t c = omega (arith, (is_set c.args.levels c.args.t1.now c.requires.t1_whole c.in-7.is).deep)
 
 pub is_consistent_with-is_consistent_with-requires : goal.is_consistent_with-is_consistent_with-requires
 is_consistent_with-is_consistent_with-requires t c =
     let if2 = c.if-j-k in
     let args = c.args in
-    let s = is_set args.levels args.t1.now c.requires.t1_value c.in-7.is in
-    (omega (arith, c.decreases, s.deep), ((is_set args.levels args.t0.now c.requires.t0_value (if2.false ∙ c.in-7.is)).good, s.good))
+    let s = is_set args.levels args.t1.now c.requires.t1_whole c.in-7.is in
+    (omega (arith, c.decreases, s.deep), ((is_set args.levels args.t0.now c.requires.t0_whole (if2.false ∙ c.in-7.is)).good, s.good))
 
 pub is_consistent_with-u16_at-n-requires : goal.is_consistent_with-u16_at-n-requires
 is_consistent_with-u16_at-n-requires t c =
-    omega (arith, (is-record c.args.levels c.args.t0.now c.requires.t0_value (c.if-j-k.false ∙ c.in-8.is)).some)
+    omega (arith, (is-record c.args.levels c.args.t0.now c.requires.t0_whole (c.if-j-k.false ∙ c.in-8.is)).some)
 
 pub is_consistent_with-u16_at-m-requires : goal.is_consistent_with-u16_at-m-requires
-is_consistent_with-u16_at-m-requires t c = omega (arith, (is-record c.args.levels c.args.t1.now c.requires.t1_value c.in-8.is).some)
+is_consistent_with-u16_at-m-requires t c = omega (arith, (is-record c.args.levels c.args.t1.now c.requires.t1_whole c.in-8.is).some)
 
 pub is_consistent_with-slice_bounds-es-count : goal.is_consistent_with-slice_bounds-es-count
 is_consistent_with-slice_bounds-es-count t c =
     let if2 = c.if-j-k in
-    let by-is-record = is-record c.args.levels c.args.t0.now c.requires.t0_value (if2.false ∙ c.in-8.is) in
+    let by-is-record = is-record c.args.levels c.args.t0.now c.requires.t0_whole (if2.false ∙ c.in-8.is) in
     omega (arith, by-is-record.fit, c.u16_at-n.ensures.0)
 
 pub is_consistent_with-slice_bounds-es-end : goal.is_consistent_with-slice_bounds-es-end
 is_consistent_with-slice_bounds-es-end t c =
     let if2 = c.if-j-k in
-    let by-is-record = is-record c.args.levels c.args.t0.now c.requires.t0_value (if2.false ∙ c.in-8.is) in
+    let by-is-record = is-record c.args.levels c.args.t0.now c.requires.t0_whole (if2.false ∙ c.in-8.is) in
     omega (arith, by-is-record.fit, c.u16_at-n.ensures.0)
 
 pub is_consistent_with-slice_bounds-fs-count : goal.is_consistent_with-slice_bounds-fs-count
 is_consistent_with-slice_bounds-fs-count t c =
-    omega (arith, (is-record c.args.levels c.args.t1.now c.requires.t1_value c.in-8.is).fit, c.u16_at-m.ensures.0)
+    omega (arith, (is-record c.args.levels c.args.t1.now c.requires.t1_whole c.in-8.is).fit, c.u16_at-m.ensures.0)
 
 pub is_consistent_with-slice_bounds-fs-end : goal.is_consistent_with-slice_bounds-fs-end
 is_consistent_with-slice_bounds-fs-end t c =
-    omega (arith, (is-record c.args.levels c.args.t1.now c.requires.t1_value c.in-8.is).fit, c.u16_at-m.ensures.0)
+    omega (arith, (is-record c.args.levels c.args.t1.now c.requires.t1_whole c.in-8.is).fit, c.u16_at-m.ensures.0)
 
 pub is_consistent_with-slice_bounds-cs-count : goal.is_consistent_with-slice_bounds-cs-count
 is_consistent_with-slice_bounds-cs-count t c =
     let u16-at2 = c.u16_at-m in
-    omega (arith, (is-record c.args.levels c.args.t1.now c.requires.t1_value c.in-8.is).fit, u16-at2.ensures.0)
+    omega (arith, (is-record c.args.levels c.args.t1.now c.requires.t1_whole c.in-8.is).fit, u16-at2.ensures.0)
 
 pub is_consistent_with-slice_bounds-cs-start : goal.is_consistent_with-slice_bounds-cs-start
 is_consistent_with-slice_bounds-cs-start t c = is_consistent_with-slice_bounds-cs-count t c
 
 pub is_consistent_with-bounds-t0-1 : goal.is_consistent_with-bounds-t0-1
 is_consistent_with-bounds-t0-1 t c =
-    omega (arith, (is-record c.args.levels c.args.t0.now c.requires.t0_value (c.if-j-k.false ∙ c.in-8.is)).some)
+    omega (arith, (is-record c.args.levels c.args.t0.now c.requires.t0_whole (c.if-j-k.false ∙ c.in-8.is)).some)
 
 pub is_consistent_with-slice_bounds-attributes_consistent-count : goal.is_consistent_with-slice_bounds-attributes_consistent-count
 is_consistent_with-slice_bounds-attributes_consistent-count t c =
-    let by-is-record = is-record c.args.levels c.args.t0.now c.requires.t0_value (c.if-j-k.false ∙ c.in-8.is) in
+    let by-is-record = is-record c.args.levels c.args.t0.now c.requires.t0_whole (c.if-j-k.false ∙ c.in-8.is) in
     omega (arith, by-is-record.fit, c.u16_at-n.ensures.0)
 
 pub is_consistent_with-slice_bounds-attributes_consistent-start : goal.is_consistent_with-slice_bounds-attributes_consistent-start
@@ -301,13 +301,13 @@ is_consistent_with-slice_bounds-attributes_consistent-start t c = is_consistent_
 
 pub is_consistent_with-overflow_sub-levels-in-8 : goal.is_consistent_with-overflow_sub-levels-in-8
 is_consistent_with-overflow_sub-levels-in-8 t c =
-    omega (arith, (is-record c.args.levels c.args.t0.now c.requires.t0_value (c.if-j-k.false ∙ c.in-8.is)).deep)
+    omega (arith, (is-record c.args.levels c.args.t0.now c.requires.t0_whole (c.if-j-k.false ∙ c.in-8.is)).deep)
 
 pub is_consistent_with-attributes_consistent-requires : goal.is_consistent_with-attributes_consistent-requires
 is_consistent_with-attributes_consistent-requires t c =
     let args = c.args in
-    let by-is-record = is-record args.levels args.t0.now c.requires.t0_value (c.if-j-k.false ∙ c.in-8.is) in
-    let by-is-record-2 = is-record args.levels args.t1.now c.requires.t1_value c.in-8.is in (
+    let by-is-record = is-record args.levels args.t0.now c.requires.t0_whole (c.if-j-k.false ∙ c.in-8.is) in
+    let by-is-record-2 = is-record args.levels args.t1.now c.requires.t1_whole c.in-8.is in (
       omega (arith, c.decreases, by-is-record.deep),
       (rw c.u16_at-n.ensures.0 by-is-record.sound, rw c.u16_at-m.ensures.0 by-is-record-2.sound),
     )
@@ -316,24 +316,24 @@ pub is_consistent_with-returns-then-not-attributes_consistent : goal.is_consiste
 is_consistent_with-returns-then-not-attributes_consistent t c =
     let args = c.args in
     let attributes-consistent-2 = c.attributes_consistent in
-    record-not args.levels args.t0.now args.t1.now c.requires.t0_value c.requires.t1_value c.if-j-k.false c.in-8.is
+    record-not args.levels args.t0.now args.t1.now c.requires.t0_whole c.requires.t1_whole c.if-j-k.false c.in-8.is
     c.u16_at-n.result c.u16_at-m.result c.u16_at-n.ensures.0 c.u16_at-m.ensures.0
     attributes-consistent-2.result attributes-consistent-2.ensures c.if-not-attributes_consistent.true-raw
 
 pub is_consistent_with-bounds-t1-1 : goal.is_consistent_with-bounds-t1-1
-is_consistent_with-bounds-t1-1 t c = omega (arith, (is-record c.args.levels c.args.t1.now c.requires.t1_value c.in-8.is).some)
+is_consistent_with-bounds-t1-1 t c = omega (arith, (is-record c.args.levels c.args.t1.now c.requires.t1_whole c.in-8.is).some)
 
 pub is_consistent_with-names_covered-requires : goal.is_consistent_with-names_covered-requires
 is_consistent_with-names_covered-requires t c =
     let args = c.args in
-    let by-is-record = is-record args.levels args.t0.now c.requires.t0_value (c.if-j-k.false ∙ c.in-8.is) in
-    let by-core-list = core-list (is-record args.levels args.t1.now c.requires.t1_value c.in-8.is).sound in
+    let by-is-record = is-record args.levels args.t0.now c.requires.t0_whole (c.if-j-k.false ∙ c.in-8.is) in
+    let by-core-list = core-list (is-record args.levels args.t1.now c.requires.t1_whole c.in-8.is).sound in
     record { entries_up = rw c.u16_at-n.ensures.0 (entries-up by-is-record.sound _ refl); core_list = rw c.u16_at-m.ensures.0 by-core-list }
 
 pub is_consistent_with-returns-in-7 : goal.is_consistent_with-returns-in-7
 is_consistent_with-returns-in-7 t c =
     let args = c.args in
-    with-set args.levels args.t0.now args.t1.now c.requires.t0_value c.requires.t1_value c.if-j-k.false c.in-7.is
+    with-set args.levels args.t0.now args.t1.now c.requires.t0_whole c.requires.t1_whole c.if-j-k.false c.in-7.is
     c.is_consistent_with.result c.is_consistent_with.ensures
 
 pub is_consistent_with-returns-else-not-attributes_consistent : goal.is_consistent_with-returns-else-not-attributes_consistent
@@ -341,7 +341,7 @@ is_consistent_with-returns-else-not-attributes_consistent t c =
     let if3 = c.if-not-attributes_consistent in
     let args = c.args in
     let attributes-consistent-2 = c.attributes_consistent in
-    with-record args.levels args.t0.now args.t1.now c.requires.t0_value c.requires.t1_value c.if-j-k.false c.in-8.is
+    with-record args.levels args.t0.now args.t1.now c.requires.t0_whole c.requires.t1_whole c.if-j-k.false c.in-8.is
     c.u16_at-n.result c.u16_at-m.result c.u16_at-n.ensures.0 c.u16_at-m.ensures.0
     attributes-consistent-2.result attributes-consistent-2.ensures if3.false-raw c.names_covered.result c.names_covered.ensures
 
@@ -351,7 +351,7 @@ is_consistent_with-returns-in-12 t c =
     let args = c.args in
     let by-Bytes-index = Bytes-index args.t0.now (λ i. (c.type_inv.t0 i).fits) in
     let by-Bytes-index-2 = Bytes-index args.t1.now (λ i. (c.type_inv.t1 i).fits) in
-    let by-with-extension = with-extension args.levels args.t0.now args.t1.now c.requires.t0_value c.requires.t1_value if2.false by-Bytes-index
+    let by-with-extension = with-extension args.levels args.t0.now args.t1.now c.requires.t0_whole c.requires.t1_whole if2.false by-Bytes-index
     by-Bytes-index-2 c.in-12.is in
     c.same_bytes.ensures ∙ by-with-extension
 
@@ -361,6 +361,6 @@ is_consistent_with-returns-in_default t c =
     let if1 = c.if-k-eq-ENTITY in
     let r = c.in_default.in_default-own.rest in
     let args = c.args in
-    let by-with-kind = with-kind args.levels args.t0.now args.t1.now c.requires.t0_value c.requires.t1_value if2.false if1.false r.0.0.1
+    let by-with-kind = with-kind args.levels args.t0.now args.t1.now c.requires.t0_whole c.requires.t1_whole if2.false if1.false r.0.0.1
     r.0.1 r.1 in
     c.kind_is_plain.ensures ∙ by-with-kind

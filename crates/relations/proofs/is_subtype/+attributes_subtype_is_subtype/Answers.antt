@@ -174,80 +174,80 @@ pub attributes_subtype-returns : goal.attributes_subtype-returns
 attributes_subtype-returns t c = under-end c.loop-more.invariant c.loop-more-test.false
 
 pub is_subtype-bounds-t0-0 : goal.is_subtype-bounds-t0-0
-is_subtype-bounds-t0-0 t c = not-empty c.args.levels c.args.t0.now c.requires.t0_value
+is_subtype-bounds-t0-0 t c = not-empty c.args.levels c.args.t0.now c.requires.t0_whole
 
 pub is_subtype-bounds-t1-0 : goal.is_subtype-bounds-t1-0
-is_subtype-bounds-t1-0 t c = not-empty c.args.levels c.args.t1.now c.requires.t1_value
+is_subtype-bounds-t1-0 t c = not-empty c.args.levels c.args.t1.now c.requires.t1_whole
 
 pub is_subtype-returns-then-j-k : goal.is_subtype-returns-then-j-k
 is_subtype-returns-then-j-k t c =
     let args = c.args in
-    unlike-kinds (as_mode args.mode) args.levels args.t0.now args.t1.now c.requires.t0_value c.requires.t1_value c.if-j-k.true
+    unlike-kinds (as_mode args.mode) args.levels args.t0.now args.t1.now c.requires.t0_whole c.requires.t1_whole c.if-j-k.true
     c.kind_under.result c.kind_under.ensures
 
 pub is_subtype-slice_bounds-is_subtype-count : goal.is_subtype-slice_bounds-is_subtype-count
-is_subtype-slice_bounds-is_subtype-count t c = omega (arith, not-empty c.args.levels c.args.t0.now c.requires.t0_value)
+is_subtype-slice_bounds-is_subtype-count t c = omega (arith, not-empty c.args.levels c.args.t0.now c.requires.t0_whole)
 
 pub is_subtype-slice_bounds-is_subtype-start : goal.is_subtype-slice_bounds-is_subtype-start
 is_subtype-slice_bounds-is_subtype-start t c = is_subtype-slice_bounds-is_subtype-count t c
 
 pub is_subtype-slice_bounds-is_subtype-count-in-7 : goal.is_subtype-slice_bounds-is_subtype-count-in-7
-is_subtype-slice_bounds-is_subtype-count-in-7 t c = omega (arith, not-empty c.args.levels c.args.t1.now c.requires.t1_value)
+is_subtype-slice_bounds-is_subtype-count-in-7 t c = omega (arith, not-empty c.args.levels c.args.t1.now c.requires.t1_whole)
 
 pub is_subtype-slice_bounds-is_subtype-start-in-7 : goal.is_subtype-slice_bounds-is_subtype-start-in-7
 is_subtype-slice_bounds-is_subtype-start-in-7 t c = is_subtype-slice_bounds-is_subtype-count-in-7 t c
 
 pub is_subtype-overflow_sub-levels : goal.is_subtype-overflow_sub-levels
-is_subtype-overflow_sub-levels t c = omega (arith, (is_set c.args.levels c.args.t1.now c.requires.t1_value c.in-7.is).deep)
+is_subtype-overflow_sub-levels t c = omega (arith, (is_set c.args.levels c.args.t1.now c.requires.t1_whole c.in-7.is).deep)
 
 pub is_subtype-is_subtype-requires : goal.is_subtype-is_subtype-requires
 is_subtype-is_subtype-requires t c =
     let if1 = c.if-j-k in
     let args = c.args in
-    let s = is_set args.levels args.t1.now c.requires.t1_value c.in-7.is in
-    (omega (arith, c.decreases, s.deep), ((is_set args.levels args.t0.now c.requires.t0_value (if1.false ∙ c.in-7.is)).good, s.good))
+    let s = is_set args.levels args.t1.now c.requires.t1_whole c.in-7.is in
+    (omega (arith, c.decreases, s.deep), ((is_set args.levels args.t0.now c.requires.t0_whole (if1.false ∙ c.in-7.is)).good, s.good))
 
 pub is_subtype-u16_at-n-requires : goal.is_subtype-u16_at-n-requires
 is_subtype-u16_at-n-requires t c =
-    omega (arith, (is-record c.args.levels c.args.t0.now c.requires.t0_value (c.if-j-k.false ∙ c.in-8.is)).some)
+    omega (arith, (is-record c.args.levels c.args.t0.now c.requires.t0_whole (c.if-j-k.false ∙ c.in-8.is)).some)
 
 pub is_subtype-u16_at-m-requires : goal.is_subtype-u16_at-m-requires
-is_subtype-u16_at-m-requires t c = omega (arith, (is-record c.args.levels c.args.t1.now c.requires.t1_value c.in-8.is).some)
+is_subtype-u16_at-m-requires t c = omega (arith, (is-record c.args.levels c.args.t1.now c.requires.t1_whole c.in-8.is).some)
 
 pub is_subtype-slice_bounds-es-count : goal.is_subtype-slice_bounds-es-count
 is_subtype-slice_bounds-es-count t c =
     let if1 = c.if-j-k in
-    let by-is-record = is-record c.args.levels c.args.t0.now c.requires.t0_value (if1.false ∙ c.in-8.is) in
+    let by-is-record = is-record c.args.levels c.args.t0.now c.requires.t0_whole (if1.false ∙ c.in-8.is) in
     omega (arith, by-is-record.fit, c.u16_at-n.ensures.0)
 
 pub is_subtype-slice_bounds-es-end : goal.is_subtype-slice_bounds-es-end
 is_subtype-slice_bounds-es-end t c =
     let if1 = c.if-j-k in
-    let by-is-record = is-record c.args.levels c.args.t0.now c.requires.t0_value (if1.false ∙ c.in-8.is) in
+    let by-is-record = is-record c.args.levels c.args.t0.now c.requires.t0_whole (if1.false ∙ c.in-8.is) in
     omega (arith, by-is-record.fit, c.u16_at-n.ensures.0)
 
 pub is_subtype-slice_bounds-fs-count : goal.is_subtype-slice_bounds-fs-count
 is_subtype-slice_bounds-fs-count t c =
-    omega (arith, (is-record c.args.levels c.args.t1.now c.requires.t1_value c.in-8.is).fit, c.u16_at-m.ensures.0)
+    omega (arith, (is-record c.args.levels c.args.t1.now c.requires.t1_whole c.in-8.is).fit, c.u16_at-m.ensures.0)
 
 pub is_subtype-slice_bounds-fs-end : goal.is_subtype-slice_bounds-fs-end
 is_subtype-slice_bounds-fs-end t c =
-    omega (arith, (is-record c.args.levels c.args.t1.now c.requires.t1_value c.in-8.is).fit, c.u16_at-m.ensures.0)
+    omega (arith, (is-record c.args.levels c.args.t1.now c.requires.t1_whole c.in-8.is).fit, c.u16_at-m.ensures.0)
 
 pub is_subtype-bounds-t0-1 : goal.is_subtype-bounds-t0-1
 is_subtype-bounds-t0-1 t c =
-    omega (arith, (is-record c.args.levels c.args.t0.now c.requires.t0_value (c.if-j-k.false ∙ c.in-8.is)).some)
+    omega (arith, (is-record c.args.levels c.args.t0.now c.requires.t0_whole (c.if-j-k.false ∙ c.in-8.is)).some)
 
 pub is_subtype-bounds-t1-1 : goal.is_subtype-bounds-t1-1
-is_subtype-bounds-t1-1 t c = omega (arith, (is-record c.args.levels c.args.t1.now c.requires.t1_value c.in-8.is).some)
+is_subtype-bounds-t1-1 t c = omega (arith, (is-record c.args.levels c.args.t1.now c.requires.t1_whole c.in-8.is).some)
 
 pub is_subtype-record_under-requires : goal.is_subtype-record_under-requires
 is_subtype-record_under-requires t c =
     let x = c.u16_at-n.result in
     let y = c.u16_at-m.result in
     let args = c.args in
-    let by-is-record = is-record args.levels args.t0.now c.requires.t0_value (c.if-j-k.false ∙ c.in-8.is) in
-    let by-is-record-2 = is-record args.levels args.t1.now c.requires.t1_value c.in-8.is in
+    let by-is-record = is-record args.levels args.t0.now c.requires.t0_whole (c.if-j-k.false ∙ c.in-8.is) in
+    let by-is-record-2 = is-record args.levels args.t1.now c.requires.t1_whole c.in-8.is in
     let by-length-part = length_part 4 (4 + 5 * x) args.t0.now (omega (arith, by-is-record.fit, c.u16_at-n.ensures.0)) in
     let by-length-part-2 = length_part 4 (4 + 5 * y) args.t1.now (omega (arith, by-is-record-2.fit, c.u16_at-m.ensures.0)) in
     record { open0_bound = (by-is-record.flag, by-is-record-2.flag); n_in_bounds = omega (arith, by-length-part); m_in_bounds = omega (arith, by-length-part-2) }
@@ -255,13 +255,13 @@ is_subtype-record_under-requires t c =
 pub is_subtype-returns-then-not-record_under : goal.is_subtype-returns-then-not-record_under
 is_subtype-returns-then-not-record_under t c =
     let args = c.args in
-    record-not (as_mode args.mode) args.levels args.t0.now args.t1.now c.requires.t0_value c.requires.t1_value c.if-j-k.false
+    record-not (as_mode args.mode) args.levels args.t0.now args.t1.now c.requires.t0_whole c.requires.t1_whole c.if-j-k.false
     c.in-8.is c.u16_at-n.result c.u16_at-m.result c.u16_at-n.ensures.0
     c.u16_at-m.ensures.0 c.record_under.result c.record_under.ensures c.if-not-record_under.true-raw
 
 pub is_subtype-slice_bounds-attributes_subtype-count : goal.is_subtype-slice_bounds-attributes_subtype-count
 is_subtype-slice_bounds-attributes_subtype-count t c =
-    let by-is-record = is-record c.args.levels c.args.t0.now c.requires.t0_value (c.if-j-k.false ∙ c.in-8.is) in
+    let by-is-record = is-record c.args.levels c.args.t0.now c.requires.t0_whole (c.if-j-k.false ∙ c.in-8.is) in
     omega (arith, by-is-record.fit, c.u16_at-n.ensures.0)
 
 pub is_subtype-slice_bounds-attributes_subtype-start : goal.is_subtype-slice_bounds-attributes_subtype-start
@@ -269,7 +269,7 @@ is_subtype-slice_bounds-attributes_subtype-start t c = is_subtype-slice_bounds-a
 
 pub is_subtype-slice_bounds-attributes_subtype-count-in-8 : goal.is_subtype-slice_bounds-attributes_subtype-count-in-8
 is_subtype-slice_bounds-attributes_subtype-count-in-8 t c =
-    let by-is-record = is-record c.args.levels c.args.t1.now c.requires.t1_value c.in-8.is in
+    let by-is-record = is-record c.args.levels c.args.t1.now c.requires.t1_whole c.in-8.is in
     omega (arith, by-is-record.fit, c.u16_at-m.ensures.0)
 
 pub is_subtype-slice_bounds-attributes_subtype-start-in-8 : goal.is_subtype-slice_bounds-attributes_subtype-start-in-8
@@ -277,13 +277,13 @@ is_subtype-slice_bounds-attributes_subtype-start-in-8 t c = is_subtype-slice_bou
 
 pub is_subtype-overflow_sub-levels-in-8 : goal.is_subtype-overflow_sub-levels-in-8
 is_subtype-overflow_sub-levels-in-8 t c =
-    omega (arith, (is-record c.args.levels c.args.t0.now c.requires.t0_value (c.if-j-k.false ∙ c.in-8.is)).deep)
+    omega (arith, (is-record c.args.levels c.args.t0.now c.requires.t0_whole (c.if-j-k.false ∙ c.in-8.is)).deep)
 
 pub is_subtype-attributes_subtype-requires : goal.is_subtype-attributes_subtype-requires
 is_subtype-attributes_subtype-requires t c =
     let args = c.args in
-    let by-is-record = is-record args.levels args.t0.now c.requires.t0_value (c.if-j-k.false ∙ c.in-8.is) in
-    let by-is-record-2 = is-record args.levels args.t1.now c.requires.t1_value c.in-8.is in (
+    let by-is-record = is-record args.levels args.t0.now c.requires.t0_whole (c.if-j-k.false ∙ c.in-8.is) in
+    let by-is-record-2 = is-record args.levels args.t1.now c.requires.t1_whole c.in-8.is in (
       omega (arith, c.decreases, by-is-record.deep),
       (rw c.u16_at-n.ensures.0 by-is-record.sound, rw c.u16_at-m.ensures.0 by-is-record-2.sound),
     )
@@ -291,20 +291,20 @@ is_subtype-attributes_subtype-requires t c =
 pub is_subtype-entity_under-requires : goal.is_subtype-entity_under-requires
 is_subtype-entity_under-requires t c =
     let args = c.args in
-    let by-entity-form = entity-form (is-entity args.levels args.t0.now c.requires.t0_value (c.if-j-k.false ∙ c.in-10.is)) in
-    record { entity_form = by-entity-form; entity_form_2 = entity-form (is-entity args.levels args.t1.now c.requires.t1_value c.in-10.is) }
+    let by-entity-form = entity-form (is-entity args.levels args.t0.now c.requires.t0_whole (c.if-j-k.false ∙ c.in-10.is)) in
+    record { entity_form = by-entity-form; entity_form_2 = entity-form (is-entity args.levels args.t1.now c.requires.t1_whole c.in-10.is) }
 
 pub is_subtype-returns-in-7 : goal.is_subtype-returns-in-7
 is_subtype-returns-in-7 t c =
     let args = c.args in
-    set-under (as_mode args.mode) args.levels args.t0.now args.t1.now c.requires.t0_value c.requires.t1_value c.if-j-k.false c.in-7.is
+    set-under (as_mode args.mode) args.levels args.t0.now args.t1.now c.requires.t0_whole c.requires.t1_whole c.if-j-k.false c.in-7.is
     c.is_subtype.result c.is_subtype.ensures
 
 pub is_subtype-returns-else-not-record_under : goal.is_subtype-returns-else-not-record_under
 is_subtype-returns-else-not-record_under t c =
     let if2 = c.if-not-record_under in
     let args = c.args in
-    record-under (as_mode args.mode) args.levels args.t0.now args.t1.now c.requires.t0_value c.requires.t1_value c.if-j-k.false
+    record-under (as_mode args.mode) args.levels args.t0.now args.t1.now c.requires.t0_whole c.requires.t1_whole c.if-j-k.false
     c.in-8.is c.u16_at-n.result c.u16_at-m.result c.u16_at-n.ensures.0
     c.u16_at-m.ensures.0 c.record_under.result c.record_under.ensures if2.false-raw
     c.attributes_subtype.result c.attributes_subtype.ensures
@@ -313,7 +313,7 @@ pub is_subtype-returns-in-10 : goal.is_subtype-returns-in-10
 is_subtype-returns-in-10 t c =
     let if1 = c.if-j-k in
     let args = c.args in
-    let by-entity-under = entity-under (as_mode args.mode) args.levels args.t0.now args.t1.now c.requires.t0_value c.requires.t1_value if1.false
+    let by-entity-under = entity-under (as_mode args.mode) args.levels args.t0.now args.t1.now c.requires.t0_whole c.requires.t1_whole if1.false
     c.in-10.is in
     c.entity_under.ensures ∙ by-entity-under
 
@@ -323,7 +323,7 @@ is_subtype-returns-in-11 t c =
     let args = c.args in
     let by-Bytes-index = Bytes-index args.t0.now (λ i. (c.type_inv.t0 i).fits) in
     let by-Bytes-index-2 = Bytes-index args.t1.now (λ i. (c.type_inv.t1 i).fits) in
-    let by-action-under = action-under (as_mode args.mode) args.levels args.t0.now args.t1.now c.requires.t0_value c.requires.t1_value if1.false
+    let by-action-under = action-under (as_mode args.mode) args.levels args.t0.now args.t1.now c.requires.t0_whole c.requires.t1_whole if1.false
     by-Bytes-index by-Bytes-index-2 c.in-11.is in
     c.same_bytes.ensures ∙ by-action-under
 
@@ -333,7 +333,7 @@ is_subtype-returns-in-12 t c =
     let args = c.args in
     let by-Bytes-index = Bytes-index args.t0.now (λ i. (c.type_inv.t0 i).fits) in
     let by-Bytes-index-2 = Bytes-index args.t1.now (λ i. (c.type_inv.t1 i).fits) in
-    let by-extension-under = extension-under (as_mode args.mode) args.levels args.t0.now args.t1.now c.requires.t0_value c.requires.t1_value
+    let by-extension-under = extension-under (as_mode args.mode) args.levels args.t0.now args.t1.now c.requires.t0_whole c.requires.t1_whole
     if1.false by-Bytes-index by-Bytes-index-2 c.in-12.is in
     c.same_bytes-in-12.ensures ∙ by-extension-under
 
@@ -341,5 +341,5 @@ pub is_subtype-returns-in_default : goal.is_subtype-returns-in_default
 is_subtype-returns-in_default t c =
     let r = c.in_default.in_default-own.rest in
     let args = c.args in
-    atoms-under (as_mode args.mode) args.levels args.t0.now args.t1.now c.requires.t0_value c.requires.t1_value c.if-j-k.false
+    atoms-under (as_mode args.mode) args.levels args.t0.now args.t1.now c.requires.t0_whole c.requires.t1_whole c.if-j-k.false
     r.0.0.0.0.1 r.0.0.0.1 r.0.0.1 r.0.1 r.1

@@ -18,42 +18,42 @@ use Rattle.strings.proofs.values.+bodies_are_textual_body_is_textual_strings_are
 
 pub bodies_are_textual-u16_at-n-requires : goal.bodies_are_textual-u16_at-n-requires
 bodies_are_textual-u16_at-n-requires t c =
-    omega (arith, table-count (body_row c.args.width) (λ _. whole_v c.args.levels) tt c.args.at c.args.v.now c.requires.v_value)
+    omega (arith, table-count (body_row c.args.width) (λ _. whole_v c.args.levels) tt c.args.at c.args.v.now c.requires.v_table)
 
 pub bodies_are_textual-overflow_mul-end : goal.bodies_are_textual-overflow_mul-end
 bodies_are_textual-overflow_mul-end t c =
     let u16-at = c.u16_at-n in
-    omega (arith, table-entries (body_row c.args.width) (λ _. whole_v c.args.levels) tt c.args.at c.args.v.now c.requires.v_value u16-at.result u16-at.ensures.0)
+    omega (arith, table-entries (body_row c.args.width) (λ _. whole_v c.args.levels) tt c.args.at c.args.v.now c.requires.v_table u16-at.result u16-at.ensures.0)
 
 pub bodies_are_textual-overflow_add-end : goal.bodies_are_textual-overflow_add-end
 bodies_are_textual-overflow_add-end t c =
     let u16-at = c.u16_at-n in
-    omega (arith, table-entries (body_row c.args.width) (λ _. whole_v c.args.levels) tt c.args.at c.args.v.now c.requires.v_value u16-at.result u16-at.ensures.0)
+    omega (arith, table-entries (body_row c.args.width) (λ _. whole_v c.args.levels) tt c.args.at c.args.v.now c.requires.v_table u16-at.result u16-at.ensures.0)
 
 pub bodies_are_textual-slice_bounds-e-count : goal.bodies_are_textual-slice_bounds-e-count
 bodies_are_textual-slice_bounds-e-count t c =
     let u16-at = c.u16_at-n in
-    omega (arith, table-entries (body_row c.args.width) (λ _. whole_v c.args.levels) tt c.args.at c.args.v.now c.requires.v_value u16-at.result u16-at.ensures.0)
+    omega (arith, table-entries (body_row c.args.width) (λ _. whole_v c.args.levels) tt c.args.at c.args.v.now c.requires.v_table u16-at.result u16-at.ensures.0)
 
 pub bodies_are_textual-slice_bounds-e-start : goal.bodies_are_textual-slice_bounds-e-start
 bodies_are_textual-slice_bounds-e-start t c =
     let u16-at = c.u16_at-n in
-    omega (arith, table-entries (body_row c.args.width) (λ _. whole_v c.args.levels) tt c.args.at c.args.v.now c.requires.v_value u16-at.result u16-at.ensures.0)
+    omega (arith, table-entries (body_row c.args.width) (λ _. whole_v c.args.levels) tt c.args.at c.args.v.now c.requires.v_table u16-at.result u16-at.ensures.0)
 
 pub bodies_are_textual-slice_bounds-e-end : goal.bodies_are_textual-slice_bounds-e-end
 bodies_are_textual-slice_bounds-e-end t c =
     let u16-at = c.u16_at-n in
-    omega (arith, table-entries (body_row c.args.width) (λ _. whole_v c.args.levels) tt c.args.at c.args.v.now c.requires.v_value u16-at.result u16-at.ensures.0)
+    omega (arith, table-entries (body_row c.args.width) (λ _. whole_v c.args.levels) tt c.args.at c.args.v.now c.requires.v_table u16-at.result u16-at.ensures.0)
 
 pub bodies_are_textual-slice_bounds-b-count : goal.bodies_are_textual-slice_bounds-b-count
 bodies_are_textual-slice_bounds-b-count t c =
     let u16-at = c.u16_at-n in
-    omega (arith, table-entries (body_row c.args.width) (λ _. whole_v c.args.levels) tt c.args.at c.args.v.now c.requires.v_value u16-at.result u16-at.ensures.0)
+    omega (arith, table-entries (body_row c.args.width) (λ _. whole_v c.args.levels) tt c.args.at c.args.v.now c.requires.v_table u16-at.result u16-at.ensures.0)
 
 pub bodies_are_textual-slice_bounds-b-start : goal.bodies_are_textual-slice_bounds-b-start
 bodies_are_textual-slice_bounds-b-start t c =
     let u16-at = c.u16_at-n in
-    omega (arith, table-entries (body_row c.args.width) (λ _. whole_v c.args.levels) tt c.args.at c.args.v.now c.requires.v_value u16-at.result u16-at.ensures.0)
+    omega (arith, table-entries (body_row c.args.width) (λ _. whole_v c.args.levels) tt c.args.at c.args.v.now c.requires.v_table u16-at.result u16-at.ensures.0)
 
 pub bodies_are_textual-returns-then-plain : goal.bodies_are_textual-returns-then-plain
 bodies_are_textual-returns-then-plain t c =
@@ -64,7 +64,7 @@ bodies_are_textual-returns-then-plain t c =
 pub bodies_are_textual-loop-left-init : goal.bodies_are_textual-loop-left-init
 bodies_are_textual-loop-left-init t c =
     let u16-at = c.u16_at-n in
-    bodies-start c.args.levels c.args.width c.args.at c.args.v.now c.requires.v_value u16-at.result u16-at.ensures.0
+    bodies-start c.args.levels c.args.width c.args.at c.args.v.now c.requires.v_table u16-at.result u16-at.ensures.0
 
 pub bodies_are_textual-u16_at-len-requires : goal.bodies_are_textual-u16_at-len-requires
 bodies_are_textual-u16_at-len-requires t c = omega (arith, ahead-room c.loop-left.invariant.rows c.loop-left-test.true)

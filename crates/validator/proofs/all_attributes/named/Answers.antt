@@ -24,9 +24,9 @@ all_names-requires c =
             c.if-not-whole_type.false-raw;
         few = type-few (as_limits args.at.limits) args.t.now c.whole_type.result c.whole_type.ensures
             c.if-not-whole_type.false-raw;
-        room = c.requires.at_in_bounds;
+        room = c.requires.last_room;
       };
-      at_in_bounds = c.requires.at_in_bounds_2;
+      kept_room = c.requires.kept_room;
     }
 
 pub returns-in_default : goal.returns-in_default

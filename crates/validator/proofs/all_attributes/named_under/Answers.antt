@@ -30,7 +30,7 @@ pub named-requires : goal.named-requires
 named-requires c =
     let args = c.args in
     let sectioned = kept-sections args.schema.now args.check c.requires c.in-Whole.at c.in-Whole.is in
-    record { sectioned = sectioned; at_in_bounds = c.if-at-le-BYTES.true; at_in_bounds_2 = (c.if-at-le-BYTES.true, omega arith) }
+    record { sectioned = sectioned; last_room = c.if-at-le-BYTES.true; kept_room = (c.if-at-le-BYTES.true, omega arith) }
 
 pub returns-then-at-le-BYTES : goal.returns-then-at-le-BYTES
 returns-then-at-le-BYTES c =
@@ -44,7 +44,7 @@ named-requires-2 c =
     let args = c.args in
     let sectioned = kept-sections args.schema.now args.check c.requires c.in-Whole.at c.in-Whole.is in
     let most = (allowed-bytes (as_limits c.in-Whole.at.limits) sectioned.fair).1 in
-    record { sectioned = sectioned; at_in_bounds = most; at_in_bounds_2 = (most, omega arith) }
+    record { sectioned = sectioned; last_room = most; kept_room = (most, omega arith) }
 
 pub returns : goal.returns
 returns c =

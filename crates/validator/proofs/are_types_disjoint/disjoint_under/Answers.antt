@@ -39,8 +39,8 @@ are_types_disjoint-requires c =
     let if1 = c.if-not-whole_type in
     let by-type-whole = type-whole (as_limits c.args.limits) c.args.t0.now c.whole_type.result
     c.whole_type.ensures if1.false-raw in record {
-      t0_value = by-type-whole;
-      t1_value = type-whole (as_limits c.args.limits) c.args.t1.now c.whole_type-2.result
+      t0_whole = by-type-whole;
+      t1_whole = type-whole (as_limits c.args.limits) c.args.t1.now c.whole_type-2.result
           c.whole_type-2.ensures c.if-not-whole_type-2.false-raw;
     }
 

@@ -42,7 +42,7 @@ write_core-requires c =
     let whole-type = c.whole_type in
     let args = c.args in
     let by-type-is = type-is (as_limits args.limits) args.t.now whole-type.result whole-type.ensures if1.false-raw in record {
-      t_value = by-type-is.1;
+      t_whole = by-type-is.1;
       ready = writes-ready (as_limits args.limits) (allowed-bytes (as_limits args.limits) c.requires).1 (core (dec args.limits.levels args.t.now))
           args.out.now _ (convert-whole (as_limits args.limits) c.requires args.t.now (length args.out.now) by-type-is.0)
           core-length.result core-length.ensures c.in-Of.n c.in-Of.is answer-fits.result answer-fits.ensures c.if-not-answer_fits.false-raw;

@@ -65,8 +65,8 @@ is_consistent_with-requires c =
     let if2 = c.if-not-whole_type-2 in
     let by-type-whole = type-whole (as_limits c.args.limits) c.args.t0.now c.whole_type.result
     c.whole_type.ensures c.if-not-whole_type.false-raw in record {
-      t0_value = by-type-whole;
-      t1_value = type-whole (as_limits c.args.limits) c.args.t1.now c.whole_type-2.result
+      t0_whole = by-type-whole;
+      t1_whole = type-whole (as_limits c.args.limits) c.args.t1.now c.whole_type-2.result
           c.whole_type-2.ensures if2.false-raw;
     }
 

@@ -20,8 +20,8 @@ pub is_subtype_under-requires : goal.is_subtype_under-requires
 is_subtype_under-requires c =
     let args = c.args in
     let fair = sym c.are_allowed.ensures ∙ not-false c.are_allowed.result c.if-not-are_allowed.false-raw in record {
-      limits_value = fair;
-      check_value = kept-check args.schema.now args.check c.requires c.limits-limits.result c.limits-limits.ensures c.are_allowed.result
+      fair = fair;
+      own_check = kept-check args.schema.now args.check c.requires c.limits-limits.result c.limits-limits.ensures c.are_allowed.result
           c.are_allowed.ensures;
     }
 

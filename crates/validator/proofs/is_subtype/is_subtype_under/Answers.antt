@@ -9,46 +9,46 @@ pub returns-in_default : goal.returns-in_default
 returns-in_default c =
     let args = c.args in
     let by-mode-none = mode-none args.mode c.from_number.result c.from_number.ensures c.in_default.is in
-    subtype-mode (as_limits args.limits) c.requires.limits_value args.mode args.schema.now args.t0.now args.t1.now by-mode-none
+    subtype-mode (as_limits args.limits) c.requires.fair args.mode args.schema.now args.t0.now args.t1.now by-mode-none
 
 pub returns-in_default-check : goal.returns-in_default-check
 returns-in_default-check c =
     let args = c.args in
     let by-mode-known = mode-known args.mode c.from_number.result c.from_number.ensures c.in-Of.m c.in-Of.is in
-    let by-checked-missing = checked-missing args.limits args.schema.now args.check c.requires.check_value c.requires.limits_value c.in_default-check.field-0
+    let by-checked-missing = checked-missing args.limits args.schema.now args.check c.requires.own_check c.requires.fair c.in_default-check.field-0
     c.in_default-check.is in
-    subtype-schema (as_limits args.limits) c.requires.limits_value args.mode args.schema.now args.t0.now args.t1.now _ by-mode-known by-checked-missing
+    subtype-schema (as_limits args.limits) c.requires.fair args.mode args.schema.now args.t0.now args.t1.now _ by-mode-known by-checked-missing
 
 pub returns-then-not-whole_type : goal.returns-then-not-whole_type
 returns-then-not-whole_type c =
     let args = c.args in
     let by-mode-known = mode-known args.mode c.from_number.result c.from_number.ensures c.in-Of.m c.in-Of.is in
-    let by-checked-there = checked-there args.limits args.schema.now args.check c.requires.check_value c.in-Whole.field-0
+    let by-checked-there = checked-there args.limits args.schema.now args.check c.requires.own_check c.in-Whole.field-0
     c.in-Whole.is in
     let by-type-missing = type-missing (as_limits args.limits) args.t0.now c.whole_type.result c.whole_type.ensures
     c.if-not-whole_type.true-raw in
-    subtype-first (as_limits args.limits) c.requires.limits_value args.mode args.schema.now args.t0.now
+    subtype-first (as_limits args.limits) c.requires.fair args.mode args.schema.now args.t0.now
     args.t1.now _ by-mode-known _ by-checked-there by-type-missing
 
 pub returns-then-not-whole_type-2 : goal.returns-then-not-whole_type-2
 returns-then-not-whole_type-2 c =
     let args = c.args in
     let by-mode-known = mode-known args.mode c.from_number.result c.from_number.ensures c.in-Of.m c.in-Of.is in
-    let by-checked-there = checked-there args.limits args.schema.now args.check c.requires.check_value c.in-Whole.field-0
+    let by-checked-there = checked-there args.limits args.schema.now args.check c.requires.own_check c.in-Whole.field-0
     c.in-Whole.is in
     let by-type-there = type-there (as_limits args.limits) args.t0.now c.whole_type.result c.whole_type.ensures
     c.if-not-whole_type.false-raw in
     let by-type-missing = type-missing (as_limits args.limits) args.t1.now c.whole_type-2.result c.whole_type-2.ensures
     c.if-not-whole_type-2.true-raw in
-    subtype-second (as_limits args.limits) c.requires.limits_value args.mode args.schema.now args.t0.now
+    subtype-second (as_limits args.limits) c.requires.fair args.mode args.schema.now args.t0.now
     args.t1.now _ by-mode-known _ by-checked-there _ by-type-there by-type-missing
 
 pub is_subtype-requires : goal.is_subtype-requires
 is_subtype-requires c =
     let by-type-whole = type-whole (as_limits c.args.limits) c.args.t0.now c.whole_type.result
     c.whole_type.ensures c.if-not-whole_type.false-raw in record {
-      t0_value = by-type-whole;
-      t1_value = type-whole (as_limits c.args.limits) c.args.t1.now c.whole_type-2.result
+      t0_whole = by-type-whole;
+      t1_whole = type-whole (as_limits c.args.limits) c.args.t1.now c.whole_type-2.result
           c.whole_type-2.ensures c.if-not-whole_type-2.false-raw;
     }
 
@@ -56,12 +56,12 @@ pub returns : goal.returns
 returns c =
     let args = c.args in
     let by-mode-known = mode-known args.mode c.from_number.result c.from_number.ensures c.in-Of.m c.in-Of.is in
-    let by-checked-there = checked-there args.limits args.schema.now args.check c.requires.check_value c.in-Whole.field-0
+    let by-checked-there = checked-there args.limits args.schema.now args.check c.requires.own_check c.in-Whole.field-0
     c.in-Whole.is in
     let by-type-there = type-there (as_limits args.limits) args.t0.now c.whole_type.result c.whole_type.ensures
     c.if-not-whole_type.false-raw in
     let by-type-there-2 = type-there (as_limits args.limits) args.t1.now c.whole_type-2.result c.whole_type-2.ensures
     c.if-not-whole_type-2.false-raw in
-    subtype-said (as_limits args.limits) c.requires.limits_value args.mode args.schema.now args.t0.now
+    subtype-said (as_limits args.limits) c.requires.fair args.mode args.schema.now args.t0.now
     args.t1.now _ by-mode-known _ by-checked-there _ by-type-there _ by-type-there-2
     c.yes_or_no.result c.is_subtype.result c.yes_or_no.ensures c.is_subtype.ensures

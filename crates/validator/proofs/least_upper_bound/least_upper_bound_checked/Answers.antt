@@ -23,8 +23,8 @@ pub least_upper_bound_under-requires : goal.least_upper_bound_under-requires
 least_upper_bound_under-requires c =
     let args = c.args in
     let fair = sym c.are_allowed.ensures ∙ not-false c.are_allowed.result c.if-not-are_allowed.false-raw in record {
-      limits_value = fair;
-      check_value = kept-check args.schema.now args.check c.requires c.limits-limits.result c.limits-limits.ensures c.are_allowed.result
+      fair = fair;
+      own_check = kept-check args.schema.now args.check c.requires c.limits-limits.result c.limits-limits.ensures c.are_allowed.result
           c.are_allowed.ensures;
     }
 

@@ -18,7 +18,7 @@ pub returns-in_default : goal.returns-in_default
 returns-in_default c =
     let args = c.args in
     let by-mode-none = mode-none args.mode c.from_number.result c.from_number.ensures c.in_default.is in
-    let by-bound-mode = bound-mode (as_limits args.limits) c.requires.limits_value args.mode args.schema.now args.t0.now args.t1.now (length
+    let by-bound-mode = bound-mode (as_limits args.limits) c.requires.fair args.mode args.schema.now args.t0.now args.t1.now (length
     args.out.now) by-mode-none in
     refuses 1 by-bound-mode
 
@@ -26,20 +26,20 @@ pub returns-in_default-check : goal.returns-in_default-check
 returns-in_default-check c =
     let args = c.args in
     let by-mode-known = mode-known args.mode c.from_number.result c.from_number.ensures c.in-Of.m c.in-Of.is in
-    let by-checked-missing = checked-missing args.limits args.schema.now args.check c.requires.check_value c.requires.limits_value c.in_default-check.field-0
+    let by-checked-missing = checked-missing args.limits args.schema.now args.check c.requires.own_check c.requires.fair c.in_default-check.field-0
     c.in_default-check.is in
-    refuses 2 (bound-schema (as_limits args.limits) c.requires.limits_value args.mode args.schema.now args.t0.now args.t1.now (length
+    refuses 2 (bound-schema (as_limits args.limits) c.requires.fair args.mode args.schema.now args.t0.now args.t1.now (length
     args.out.now) _ by-mode-known by-checked-missing)
 
 pub returns-then-not-whole_type : goal.returns-then-not-whole_type
 returns-then-not-whole_type c =
     let args = c.args in
     let by-mode-known = mode-known args.mode c.from_number.result c.from_number.ensures c.in-Of.m c.in-Of.is in
-    let by-checked-there = checked-there args.limits args.schema.now args.check c.requires.check_value c.in-Whole.field-0
+    let by-checked-there = checked-there args.limits args.schema.now args.check c.requires.own_check c.in-Whole.field-0
     c.in-Whole.is in
     let by-type-missing = type-missing (as_limits args.limits) args.t0.now c.whole_type.result c.whole_type.ensures
     c.if-not-whole_type.true-raw in
-    refuses 3 (bound-first (as_limits args.limits) c.requires.limits_value args.mode args.schema.now args.t0.now args.t1.now (length
+    refuses 3 (bound-first (as_limits args.limits) c.requires.fair args.mode args.schema.now args.t0.now args.t1.now (length
     args.out.now) _ by-mode-known _ by-checked-there
     by-type-missing)
 
@@ -47,13 +47,13 @@ pub returns-then-not-whole_type-2 : goal.returns-then-not-whole_type-2
 returns-then-not-whole_type-2 c =
     let args = c.args in
     let by-mode-known = mode-known args.mode c.from_number.result c.from_number.ensures c.in-Of.m c.in-Of.is in
-    let by-checked-there = checked-there args.limits args.schema.now args.check c.requires.check_value c.in-Whole.field-0
+    let by-checked-there = checked-there args.limits args.schema.now args.check c.requires.own_check c.in-Whole.field-0
     c.in-Whole.is in
     let by-type-there = type-there (as_limits args.limits) args.t0.now c.whole_type.result c.whole_type.ensures
     c.if-not-whole_type.false-raw in
     let by-type-missing = type-missing (as_limits args.limits) args.t1.now c.whole_type-2.result c.whole_type-2.ensures
     c.if-not-whole_type-2.true-raw in
-    refuses 4 (bound-second (as_limits args.limits) c.requires.limits_value args.mode args.schema.now args.t0.now args.t1.now (length
+    refuses 4 (bound-second (as_limits args.limits) c.requires.fair args.mode args.schema.now args.t0.now args.t1.now (length
     args.out.now) _ by-mode-known _ by-checked-there
     by-type-there by-type-missing)
 
@@ -61,8 +61,8 @@ pub bound_length-requires : goal.bound_length-requires
 bound_length-requires c =
     let by-type-whole = type-whole (as_limits c.args.limits) c.args.t0.now c.whole_type.result
     c.whole_type.ensures c.if-not-whole_type.false-raw in record {
-      a_value = by-type-whole;
-      b_value = type-whole (as_limits c.args.limits) c.args.t1.now c.whole_type-2.result
+      a_whole = by-type-whole;
+      b_whole = type-whole (as_limits c.args.limits) c.args.t1.now c.whole_type-2.result
           c.whole_type-2.ensures c.if-not-whole_type-2.false-raw;
     }
 
@@ -71,14 +71,14 @@ returns-then-not-answer_fits c =
     let args = c.args in
     let by-direct = direct (as_mode c.in-Of.m) (dec args.limits.levels args.t0.now) (dec args.limits.levels args.t1.now) in
     let by-mode-known = mode-known args.mode c.from_number.result c.from_number.ensures c.in-Of.m c.in-Of.is in
-    let by-checked-there = checked-there args.limits args.schema.now args.check c.requires.check_value c.in-Whole.field-0
+    let by-checked-there = checked-there args.limits args.schema.now args.check c.requires.own_check c.in-Whole.field-0
     c.in-Whole.is in
     let by-type-there = type-there (as_limits args.limits) args.t0.now c.whole_type.result c.whole_type.ensures
     c.if-not-whole_type.false-raw in
     let by-type-there-2 = type-there (as_limits args.limits) args.t1.now c.whole_type-2.result c.whole_type-2.ensures
     c.if-not-whole_type-2.false-raw in
-    writes-over (as_limits args.limits) (allowed-bytes (as_limits args.limits) c.requires.limits_value).1 by-direct args.out.now
-    _ (bound-direct (as_limits args.limits) c.requires.limits_value args.mode args.schema.now args.t0.now args.t1.now (length
+    writes-over (as_limits args.limits) (allowed-bytes (as_limits args.limits) c.requires.fair).1 by-direct args.out.now
+    _ (bound-direct (as_limits args.limits) c.requires.fair args.mode args.schema.now args.t0.now args.t1.now (length
     args.out.now) _ by-mode-known _ by-checked-there
     by-type-there (λ i. (c.type_inv.t0 i).fits) (λ i. (c.type_inv.t1 i).fits)
     by-type-there-2) c.bound_length.result c.bound_length.ensures c.in-Of-bound_length.n c.in-Of-bound_length.is
@@ -92,12 +92,12 @@ write_bound-requires c =
     let by-type-whole-2 = type-whole (as_limits args.limits) args.t1.now c.whole_type-2.result c.whole_type-2.ensures
     c.if-not-whole_type-2.false-raw in
     let by-direct = direct (as_mode c.in-Of.m) (dec args.limits.levels args.t0.now) (dec args.limits.levels args.t1.now) in record {
-      a_value = by-type-whole;
-      b_value = by-type-whole-2;
-      ready = writes-ready (as_limits args.limits) (allowed-bytes (as_limits args.limits) c.requires.limits_value).1 by-direct args.out.now _ refl
+      a_whole = by-type-whole;
+      b_whole = by-type-whole-2;
+      ready = writes-ready (as_limits args.limits) (allowed-bytes (as_limits args.limits) c.requires.fair).1 by-direct args.out.now _ refl
           c.bound_length.result c.bound_length.ensures
           c.in-Of-bound_length.n c.in-Of-bound_length.is c.answer_fits.result c.answer_fits.ensures c.if-not-answer_fits.false-raw;
-      known_length = λ p. writes-length (as_limits args.limits) (allowed-bytes (as_limits args.limits) c.requires.limits_value).1 by-direct args.out.now _ refl
+      known_length = λ p. writes-length (as_limits args.limits) (allowed-bytes (as_limits args.limits) c.requires.fair).1 by-direct args.out.now _ refl
           c.bound_length.result c.bound_length.ensures
           c.in-Of-bound_length.n c.in-Of-bound_length.is c.answer_fits.result c.answer_fits.ensures c.if-not-answer_fits.false-raw;
     }
@@ -105,10 +105,10 @@ write_bound-requires c =
 pub slice_bounds-form-end : goal.slice_bounds-form-end
 slice_bounds-form-end c =
     let args = c.args in
-    let fair = c.requires.limits_value in
+    let fair = c.requires.fair in
     let by-direct = direct (as_mode c.in-Of.m) (dec args.limits.levels args.t0.now) (dec args.limits.levels args.t1.now) in
     let by-mode-known = mode-known args.mode c.from_number.result c.from_number.ensures c.in-Of.m c.in-Of.is in
-    let by-checked-there = checked-there args.limits args.schema.now args.check c.requires.check_value c.in-Whole.field-0 c.in-Whole.is in
+    let by-checked-there = checked-there args.limits args.schema.now args.check c.requires.own_check c.in-Whole.field-0 c.in-Whole.is in
     let by-type-there = type-there (as_limits args.limits) args.t0.now c.whole_type.result c.whole_type.ensures c.if-not-whole_type.false-raw in
     let by-type-there-2 = type-there (as_limits args.limits) args.t1.now c.whole_type-2.result c.whole_type-2.ensures
     c.if-not-whole_type-2.false-raw in
@@ -127,10 +127,10 @@ slice_bounds-form-end c =
 pub type_levels-requires : goal.type_levels-requires
 type_levels-requires c =
     let args = c.args in
-    let fair = c.requires.limits_value in
+    let fair = c.requires.fair in
     let by-direct = direct (as_mode c.in-Of.m) (dec args.limits.levels args.t0.now) (dec args.limits.levels args.t1.now) in
     let by-mode-known = mode-known args.mode c.from_number.result c.from_number.ensures c.in-Of.m c.in-Of.is in
-    let by-checked-there = checked-there args.limits args.schema.now args.check c.requires.check_value c.in-Whole.field-0 c.in-Whole.is in
+    let by-checked-there = checked-there args.limits args.schema.now args.check c.requires.own_check c.in-Whole.field-0 c.in-Whole.is in
     let by-type-there = type-there (as_limits args.limits) args.t0.now c.whole_type.result c.whole_type.ensures c.if-not-whole_type.false-raw in
     let by-type-there-2 = type-there (as_limits args.limits) args.t1.now c.whole_type-2.result c.whole_type-2.ensures
     c.if-not-whole_type-2.false-raw in
@@ -149,10 +149,10 @@ type_levels-requires c =
 pub returns-else-not-answer_fits : goal.returns-else-not-answer_fits
 returns-else-not-answer_fits c =
     let args = c.args in
-    let fair = c.requires.limits_value in
+    let fair = c.requires.fair in
     let by-direct = direct (as_mode c.in-Of.m) (dec args.limits.levels args.t0.now) (dec args.limits.levels args.t1.now) in
     let by-mode-known = mode-known args.mode c.from_number.result c.from_number.ensures c.in-Of.m c.in-Of.is in
-    let by-checked-there = checked-there args.limits args.schema.now args.check c.requires.check_value c.in-Whole.field-0 c.in-Whole.is in
+    let by-checked-there = checked-there args.limits args.schema.now args.check c.requires.own_check c.in-Whole.field-0 c.in-Whole.is in
     let by-type-there = type-there (as_limits args.limits) args.t0.now c.whole_type.result c.whole_type.ensures c.if-not-whole_type.false-raw in
     let by-type-there-2 = type-there (as_limits args.limits) args.t1.now c.whole_type-2.result c.whole_type-2.ensures
     c.if-not-whole_type-2.false-raw in
@@ -173,14 +173,14 @@ returns-in-Not c =
     let args = c.args in
     let by-direct = direct (as_mode c.in-Of.m) (dec args.limits.levels args.t0.now) (dec args.limits.levels args.t1.now) in
     let by-mode-known = mode-known args.mode c.from_number.result c.from_number.ensures c.in-Of.m c.in-Of.is in
-    let by-checked-there = checked-there args.limits args.schema.now args.check c.requires.check_value c.in-Whole.field-0
+    let by-checked-there = checked-there args.limits args.schema.now args.check c.requires.own_check c.in-Whole.field-0
     c.in-Whole.is in
     let by-type-there = type-there (as_limits args.limits) args.t0.now c.whole_type.result c.whole_type.ensures
     c.if-not-whole_type.false-raw in
     let by-type-there-2 = type-there (as_limits args.limits) args.t1.now c.whole_type-2.result c.whole_type-2.ensures
     c.if-not-whole_type-2.false-raw in
-    writes-not (as_limits args.limits) (allowed-bytes (as_limits args.limits) c.requires.limits_value).1 by-direct args.out.now
-    _ (bound-direct (as_limits args.limits) c.requires.limits_value args.mode args.schema.now args.t0.now args.t1.now (length
+    writes-not (as_limits args.limits) (allowed-bytes (as_limits args.limits) c.requires.fair).1 by-direct args.out.now
+    _ (bound-direct (as_limits args.limits) c.requires.fair args.mode args.schema.now args.t0.now args.t1.now (length
     args.out.now) _ by-mode-known _ by-checked-there
     by-type-there (λ i. (c.type_inv.t0 i).fits) (λ i. (c.type_inv.t1 i).fits)
     by-type-there-2) c.bound_length.result c.bound_length.ensures c.in-Not.e c.in-Not.is

@@ -25,7 +25,7 @@ look_up-requires c =
             c.if-not-whole_type.false-raw;
         few = type-few (as_limits args.at.limits) args.t.now c.whole_type.result c.whole_type.ensures
             c.if-not-whole_type.false-raw;
-        room = c.requires.at_in_bounds;
+        room = c.requires.last_room;
       };
     }
 
@@ -38,7 +38,7 @@ returns-then-not-answer_fits c =
     lookup-over (as_limits args.at.limits) c.requires.sectioned.fair args.schema.now args.attr args.t.now args.out.now (length
     args.work.now) _ by-checked-there _ by-type-there
     c.look_up.new.last c.look_up.result c.look_up.ensures c.in-Found.required
-    c.in-Found.n c.in-Found.is (omega (arith, c.look_up.auto.last, c.requires.at_in_bounds))
+    c.in-Found.n c.in-Found.is (omega (arith, c.look_up.auto.last, c.requires.last_room))
     c.answer_fits.result
     c.answer_fits.ensures c.if-not-answer_fits.true-raw
 
@@ -53,7 +53,7 @@ slice_bounds-form-end c =
       small (as_limits args.at.limits) c.requires.sectioned.fair args.schema.now args.attr args.t.now args.out.now (length
           args.work.now) _ by-checked-there _ by-type-there
           c.look_up.new.last c.look_up.result c.look_up.ensures c.in-Found.required
-          c.in-Found.n c.in-Found.is (omega (arith, c.look_up.auto.last, c.requires.at_in_bounds)),
+          c.in-Found.n c.in-Found.is (omega (arith, c.look_up.auto.last, c.requires.last_room)),
       c.look_up.auto.last,
     )
 
@@ -66,7 +66,7 @@ copy-requires c =
     lookup-room (as_limits args.at.limits) c.requires.sectioned.fair args.schema.now args.attr args.t.now args.out.now (length
     args.work.now) _ by-checked-there _ by-type-there
     c.look_up.new.last c.look_up.result c.look_up.ensures c.in-Found.required
-    c.in-Found.n c.in-Found.is (omega (arith, c.look_up.auto.last, c.requires.at_in_bounds))
+    c.in-Found.n c.in-Found.is (omega (arith, c.look_up.auto.last, c.requires.last_room))
     c.answer_fits.result
     c.answer_fits.ensures c.if-not-answer_fits.false-raw
 
@@ -82,7 +82,7 @@ type_levels-requires c =
     lookup-whole (as_limits args.at.limits) c.requires.sectioned.fair args.schema.now args.attr args.t.now args.out.now (length
     args.work.now) _ by-checked-there _ by-type-there
     c.look_up.new.last c.look_up.result c.look_up.ensures c.in-Found.required
-    c.in-Found.n c.in-Found.is (omega (arith, c.look_up.auto.last, c.requires.at_in_bounds))
+    c.in-Found.n c.in-Found.is (omega (arith, c.look_up.auto.last, c.requires.last_room))
 
 pub returns-else-not-answer_fits : goal.returns-else-not-answer_fits
 returns-else-not-answer_fits c =
@@ -93,7 +93,7 @@ returns-else-not-answer_fits c =
     lookup-writes (as_limits args.at.limits) c.requires.sectioned.fair args.schema.now args.attr args.t.now args.out.now (length
     args.work.now) _ by-checked-there _ by-type-there
     c.look_up.new.last c.look_up.result c.look_up.ensures c.in-Found.required
-    c.in-Found.n c.in-Found.is (omega (arith, c.look_up.auto.last, c.requires.at_in_bounds))
+    c.in-Found.n c.in-Found.is (omega (arith, c.look_up.auto.last, c.requires.last_room))
     c.answer_fits.result
     c.answer_fits.ensures c.if-not-answer_fits.false-raw c.copy.new.out c.copy.ensures
     c.type_levels.result c.type_levels.ensures

@@ -30,7 +30,7 @@ pub looked_up-requires : goal.looked_up-requires
 looked_up-requires c =
     let args = c.args in
     let sectioned = kept-sections args.schema.now args.check c.requires c.in-Whole.at c.in-Whole.is in
-    record { sectioned = sectioned; at_in_bounds = c.if-at-le-BYTES.true }
+    record { sectioned = sectioned; last_room = c.if-at-le-BYTES.true }
 
 pub returns-then-at-le-BYTES : goal.returns-then-at-le-BYTES
 returns-then-at-le-BYTES c =
@@ -45,7 +45,7 @@ looked_up-requires-2 c =
     let args = c.args in
     let sectioned = kept-sections args.schema.now args.check c.requires c.in-Whole.at c.in-Whole.is in
     let most = (allowed-bytes (as_limits c.in-Whole.at.limits) sectioned.fair).1 in
-    record { sectioned = sectioned; at_in_bounds = most }
+    record { sectioned = sectioned; last_room = most }
 
 pub returns : goal.returns
 returns c =

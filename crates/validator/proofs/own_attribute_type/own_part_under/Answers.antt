@@ -42,4 +42,4 @@ returns c =
     c.own_attribute.ensures.placed in
     part_at (as_limits args.at.limits) c.requires.fair args.schema.now args.attr args.t.now _ there _ whole c.in-At.required _ placed.3
     c.own_attribute.result c.in-At.start c.in-At.end c.in-At.is
-    c.own_attribute.ensures.result_value
+    c.own_attribute.ensures.spanned

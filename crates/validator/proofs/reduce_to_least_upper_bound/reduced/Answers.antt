@@ -17,16 +17,16 @@ pub returns-in_default : goal.returns-in_default
 returns-in_default c =
     let args = c.args in
     let by-mode-none = mode-none args.mode c.from_number.result c.from_number.ensures c.in_default.is in
-    fold-mode (as_limits args.limits) c.requires.limits_value args.mode args.schema.now args.list.now args.out.now (length
+    fold-mode (as_limits args.limits) c.requires.fair args.mode args.schema.now args.list.now args.out.now (length
     args.work.now) by-mode-none
 
 pub returns-in_default-check : goal.returns-in_default-check
 returns-in_default-check c =
     let args = c.args in
     let by-mode-known = mode-known args.mode c.from_number.result c.from_number.ensures c.in-Of.m c.in-Of.is in
-    let by-checked-missing = checked-missing args.limits args.schema.now args.check c.requires.check_value c.requires.limits_value
+    let by-checked-missing = checked-missing args.limits args.schema.now args.check c.requires.own_check c.requires.fair
     c.in_default-check.field-0 c.in_default-check.is in
-    fold-schema (as_limits args.limits) c.requires.limits_value args.mode args.schema.now args.list.now args.out.now (length
+    fold-schema (as_limits args.limits) c.requires.fair args.mode args.schema.now args.list.now args.out.now (length
     args.work.now) _ by-mode-known by-checked-missing
 
 pub returns-then-not-whole_list : goal.returns-then-not-whole_list
@@ -34,9 +34,9 @@ returns-then-not-whole_list c =
     let whole-list = c.whole_list in
     let args = c.args in
     let by-mode-known = mode-known args.mode c.from_number.result c.from_number.ensures c.in-Of.m c.in-Of.is in
-    let by-checked-there = checked-there args.limits args.schema.now args.check c.requires.check_value c.in-Whole.field-0 c.in-Whole.is in
+    let by-checked-there = checked-there args.limits args.schema.now args.check c.requires.own_check c.in-Whole.field-0 c.in-Whole.is in
     let by-missing = missing (whole_list (as_limits args.limits) args.list.now) whole-list.result whole-list.ensures c.if-not-whole_list.true-raw in
-    fold-list (as_limits args.limits) c.requires.limits_value args.mode args.schema.now args.list.now args.out.now (length
+    fold-list (as_limits args.limits) c.requires.fair args.mode args.schema.now args.list.now args.out.now (length
     args.work.now) _ by-mode-known _ by-checked-there by-missing
 
 pub fold_types-requires : goal.fold_types-requires
@@ -44,7 +44,7 @@ fold_types-requires c =
     let if1 = c.if-not-whole_list in
     let whole-list = c.whole_list in
     let args = c.args in
-    list-opened (as_limits args.limits) args.list.now whole-list.result whole-list.ensures if1.false-raw c.requires.limits_value _ c.requires.bytes_in_bounds
+    list-opened (as_limits args.limits) args.list.now whole-list.result whole-list.ensures if1.false-raw c.requires.fair _ c.requires.last_room
 
 pub returns-then-not-answer_fits : goal.returns-then-not-answer_fits
 returns-then-not-answer_fits c =
@@ -59,9 +59,9 @@ returns-then-not-answer_fits c =
     let by-folds-over = folds-over (as_limits args.limits) f args.out.now fold-types.new.last fold-types.result fold-types.ensures
     c.in-To.n c.in-To.is
     answer-fits.result answer-fits.ensures c.if-not-answer_fits.true-raw in
-    let by-checked-there = checked-there args.limits args.schema.now args.check c.requires.check_value c.in-Whole.field-0 c.in-Whole.is in
+    let by-checked-there = checked-there args.limits args.schema.now args.check c.requires.own_check c.in-Whole.field-0 c.in-Whole.is in
     let by-list-there = list-there (as_limits args.limits) args.list.now whole-list.result whole-list.ensures if1.false-raw in
-    fold-refused (as_limits args.limits) c.requires.limits_value args.mode args.schema.now args.list.now args.out.now (length
+    fold-refused (as_limits args.limits) c.requires.fair args.mode args.schema.now args.list.now args.out.now (length
     args.work.now) _ by-mode-known _ by-checked-there by-list-there
     10 by-folds-over
 
@@ -114,14 +114,14 @@ returns-else-not-answer_fits c =
     let by-folds-typed = folds-typed (as_limits args.limits) f args.out.now fold-types.new.last fold-types.result fold-types.ensures
     c.in-To.n c.in-To.is
     answer-fits.result answer-fits.ensures if2.false-raw in
-    let by-checked-there = checked-there args.limits args.schema.now args.check c.requires.check_value c.in-Whole.field-0 c.in-Whole.is in
+    let by-checked-there = checked-there args.limits args.schema.now args.check c.requires.own_check c.in-Whole.field-0 c.in-Whole.is in
     let by-list-there = list-there (as_limits args.limits) args.list.now whole-list.result whole-list.ensures if1.false-raw in
     let by-folds-exact = folds-exact (as_limits args.limits) f args.out.now fold-types.new.last fold-types.result fold-types.ensures
     c.in-To.n c.in-To.is in
     let by-folds-length = folds-length (as_limits args.limits) f args.out.now fold-types.new.last fold-types.result
     fold-types.ensures c.in-To.n
     c.in-To.is in
-    fold-writes (as_limits args.limits) c.requires.limits_value args.mode args.schema.now args.list.now args.out.now (length
+    fold-writes (as_limits args.limits) c.requires.fair args.mode args.schema.now args.list.now args.out.now (length
     args.work.now) _ by-mode-known _ by-checked-there by-list-there
     c.in-To.n fold-types.new.last by-folds-typed by-folds-exact by-folds-length copy.new.out copy.ensures
     c.type_levels.result c.type_levels.ensures
@@ -135,10 +135,10 @@ returns-in-Not c =
     let f = fold_types (step_fits (as_limits args.limits) (length args.work.now)) (as_mode c.in-Of.m) (list_of args.limits.levels
     args.list.now) in
     let by-mode-known = mode-known args.mode c.from_number.result c.from_number.ensures c.in-Of.m c.in-Of.is in
-    let by-checked-there = checked-there args.limits args.schema.now args.check c.requires.check_value c.in-Whole.field-0 c.in-Whole.is in
+    let by-checked-there = checked-there args.limits args.schema.now args.check c.requires.own_check c.in-Whole.field-0 c.in-Whole.is in
     let by-list-there = list-there (as_limits args.limits) args.list.now whole-list.result whole-list.ensures if1.false-raw in
     let by-folds-not = folds-not (as_limits args.limits) f args.out.now fold-types.new.last fold-types.result fold-types.ensures
     c.in-Not.e c.in-Not.is in
-    fold-refused (as_limits args.limits) c.requires.limits_value args.mode args.schema.now args.list.now args.out.now (length
+    fold-refused (as_limits args.limits) c.requires.fair args.mode args.schema.now args.list.now args.out.now (length
     args.work.now) _ by-mode-known _ by-checked-there by-list-there
     c.in-Not.e by-folds-not

@@ -22,10 +22,10 @@ returns-then-not-are_allowed c =
 pub reduced-requires : goal.reduced-requires
 reduced-requires c =
     let args = c.args in record {
-      limits_value = sym c.are_allowed.ensures ∙ not-false c.are_allowed.result c.if-not-are_allowed.false-raw;
-      check_value = kept-check args.schema.now args.check c.requires c.limits-limits.result c.limits-limits.ensures c.are_allowed.result
+      fair = sym c.are_allowed.ensures ∙ not-false c.are_allowed.result c.if-not-are_allowed.false-raw;
+      own_check = kept-check args.schema.now args.check c.requires c.limits-limits.result c.limits-limits.ensures c.are_allowed.result
           c.are_allowed.ensures;
-      bytes_in_bounds = c.if-limits-le-BYTES.true;
+      last_room = c.if-limits-le-BYTES.true;
     }
 
 pub returns-then-limits-le-BYTES : goal.returns-then-limits-le-BYTES
@@ -40,10 +40,10 @@ pub reduced-requires-2 : goal.reduced-requires-2
 reduced-requires-2 c =
     let args = c.args in
     let fair = sym c.are_allowed.ensures ∙ not-false c.are_allowed.result c.if-not-are_allowed.false-raw in record {
-      limits_value = fair;
-      check_value = kept-check args.schema.now args.check c.requires c.limits-limits.result c.limits-limits.ensures c.are_allowed.result
+      fair = fair;
+      own_check = kept-check args.schema.now args.check c.requires c.limits-limits.result c.limits-limits.ensures c.are_allowed.result
           c.are_allowed.ensures;
-      bytes_in_bounds = (allowed-bytes (as_limits c.limits-limits.result) fair).1;
+      last_room = (allowed-bytes (as_limits c.limits-limits.result) fair).1;
     }
 
 pub returns : goal.returns
