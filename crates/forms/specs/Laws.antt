@@ -9,9 +9,12 @@ pub mod RowsTwin
 pub mod TypeTwin
 pub mod Bytes
 pub mod Search
+pub mod RowBytes
 pub mod Skips
 pub mod Attributes
+pub mod AttributeRows
 pub mod Views
+pub mod Kinds
 pub mod Values
 pub mod ValueTwin
 pub mod Lists

@@ -2,6 +2,9 @@ pub mod Parts
 pub mod Modes
 pub mod Limits
 pub mod Rows
+pub mod RowBytes
+pub mod Refusals
+pub mod Kinds
 pub mod TypeBytes
 pub mod ValueBytes
 pub mod ListBytes

@@ -9,6 +9,7 @@ pub mod names;
 pub mod numbers;
 pub mod offsets;
 pub mod refusals;
+pub mod rows;
 pub mod search;
 pub mod tables;
 pub mod types;

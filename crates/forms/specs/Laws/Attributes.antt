@@ -131,7 +131,7 @@ rd-rest : (a : ℕ) (b : List ℕ) → rd (rest a b) 0 ≡ rd b a
 rd-rest a b = let e : a + 0 ≡ a = omega arith in ap (λ (z : List ℕ). rd z 0) (rest-is a b) ∙ rd-drop a b 0 ∙ ap (λ (j : ℕ). rd b j) e
 
 -- A name that is the first.
-find_first : {l n low : ℕ} {es bs : List ℕ} → Sound l n low es bs → 0 < n → (name : ℕ) → rd es 0 ≡ name →
+pub find_first : {l n low : ℕ} {es bs : List ℕ} → Sound l n low es bs → 0 < n → (name : ℕ) → rd es 0 ≡ name →
     find name (dec_a (dec l) n es bs) ≡ some (eqb (get_or es 2 0) 1, dec l (part 0 (rd es 3) bs))
 find_first {l} {n} {low} {es} {bs} s p name q = ap (λ (xs : Attrs). find name xs) (entry s p).is ∙ rw (eq-eqb name (rd es 0) (sym q)) refl
 

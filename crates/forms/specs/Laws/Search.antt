@@ -14,21 +14,21 @@ unfolding used
 used_step w zero es p = absurd (omega arith)
 used_step w (suc k) es p = rw (sub-one (suc k)) refl
 
-used-none : (w : ℕ) (es : List ℕ) → used w 0 es ≡ 0
+pub used-none : (w : ℕ) (es : List ℕ) → used w 0 es ≡ 0
 unfolding used
 used-none w es = refl
 
-below_step : (w n name : ℕ) (es : List ℕ) → 0 < n → rd es 0 < name → below w n name es ≡ below w (n - 1) name (rest w es) + 1
+pub below_step : (w n name : ℕ) (es : List ℕ) → 0 < n → rd es 0 < name → below w n name es ≡ below w (n - 1) name (rest w es) + 1
 unfolding below
 below_step w zero name es p h = absurd (omega arith)
 below_step w (suc n) name es p h = rw (lt-ltb (rd es 0) name h, sub-one (suc n), add-one (below w n name (rest w es))) refl
 
-below-here : (w n name : ℕ) (es : List ℕ) → name ≤ rd es 0 → below w n name es ≡ 0
+pub below-here : (w n name : ℕ) (es : List ℕ) → name ≤ rd es 0 → below w n name es ≡ 0
 unfolding below
 below-here w zero name es h = refl
 below-here w (suc n) name es h = rw (le-ltb (rd es 0) name h) refl
 
-below_none : (w n name : ℕ) (es : List ℕ) → n ≤ 0 → below w n name es ≡ 0
+pub below_none : (w n name : ℕ) (es : List ℕ) → n ≤ 0 → below w n name es ≡ 0
 unfolding below
 below_none w zero name es h = refl
 below_none w (suc n) name es h = absurd (omega arith)

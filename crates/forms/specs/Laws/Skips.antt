@@ -16,7 +16,7 @@ use Rattle.forms.specs.Laws.Parts.{length_rest, rest_0, rest-rest}
 use Rattle.forms.specs.Laws.Rows.{first}
 
 -- What stands behind one entry more.
-rest_more : (w k : ℕ) (es : List ℕ) → rest (w * k) (rest w es) ≡ rest (w * suc k) es
+pub rest_more : (w k : ℕ) (es : List ℕ) → rest (w * k) (rest w es) ≡ rest (w * suc k) es
 rest_more w k es = let e : w + w * k ≡ w * suc k = rw (mul-suc w k) (omega arith) in rw (← e) (rest-rest w (w * k) es)
 
 rest-none : (w : ℕ) (es : List ℕ) → rest (w * 0) es ≡ es

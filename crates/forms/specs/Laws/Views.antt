@@ -51,7 +51,7 @@ pub record IsAtom (l : ℕ) (b : List ℕ) : Type 0 where
   pub kind-is : kind_of (kind b) ≡ one kind-of
   pub is : dec l b ≡ atom kind-of
 
-false-not : {A : Type 0} → false ≡ true → A
+pub false-not : {A : Type 0} → false ≡ true → A
 false-not e = absurd (let z : ◌≡◌ {A = ℕ} 0 1 = cc in omega arith)
 
 pub not-empty : (l : ℕ) (b : List ℕ) → whole l b ≡ true → 0 < length b

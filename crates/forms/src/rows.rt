@@ -1,0 +1,109 @@
+// Tables of rows: entries of one width, whose last two bytes are the lengths of their bodies, and all bodies behind one another.
+ghost use Rattle.std.specs.Prelude.{◌≡◌, ◌+◌, ◌*◌, ◌≤◌, eqb, length, get_or};
+ghost use Rattle.forms.specs.Parts.{part, rest, rd};
+ghost use Rattle.forms.specs.Search.{Laid};
+ghost use Rattle.forms.specs.RowBytes.{Taken, Skipped, Sought};
+
+use crate::kinds::Requirement;
+use crate::numbers::u16_at;
+use crate::offsets::Offset;
+use crate::widths::Width;
+
+// An entry and its body.
+#[derive(Clone, Copy)]
+pub struct Row<'a> {
+    pub head: &'a [u8],
+    pub body: &'a [u8],
+}
+
+// What is left of a table: how many rows, their entries and their bodies.
+#[derive(Clone, Copy)]
+pub struct Rows<'a, const WIDTH: usize> {
+    pub left: usize,
+    pub entries: &'a [u8],
+    pub bodies: &'a [u8],
+}
+
+impl<'a> Row<'a> {
+    // The name that its entry begins with.
+    #[inline]
+    pub fn name(self) -> usize
+        requires { 2 ≤ length self.head.now }
+        ensures { result ≡ rd self.entry.head.now 0 }
+    {
+        u16_at(self.head, 0)
+    }
+
+    // Whether an attribute's entry says that it is required.
+    #[inline]
+    pub fn is_required(self) -> bool
+        requires { 3 ≤ length self.head.now }
+        ensures { result ≡ eqb (get_or self.entry.head.now 2 0) 1 }
+    {
+        self.head[Offset::REQUIRED] == Requirement::REQUIRED
+    }
+}
+
+impl<'a, const WIDTH: usize> Rows<'a, WIDTH> {
+    // The table whose count stands at a place of a form.
+    pub fn at(t: &'a [u8], at: usize) -> Rows<'a, WIDTH>
+        requires { at + 2 + WIDTH * rd t.now at ≤ length t.now }
+        ensures left { result.left ≡ rd t.now at }
+        ensures entries { result.entries.now ≡ part (at + 2) (at + 2 + WIDTH * rd t.now at) t.now }
+        ensures bodies { result.bodies.now ≡ rest (at + 2 + WIDTH * rd t.now at) t.now }
+    {
+        let left = u16_at(t, at);
+        let start = at + Width::COUNT;
+        let end = start + WIDTH * left;
+        Rows {
+            left,
+            entries: &t[start..end],
+            bodies: &t[end..],
+        }
+    }
+
+    // Takes the first row.
+    #[inline]
+    pub fn next(&mut self) -> Option<Row<'a>>
+        requires { Laid WIDTH self.old.left self.old.entries.now self.old.bodies.now }
+        ensures { Taken WIDTH self.old.left self.old.entries.now self.old.bodies.now self.new.left self.new.entries.now self.new.bodies.now result }
+    {
+        if self.left == 0 {
+            return None;
+        }
+        let (head, entries) = self.entries.split_at(WIDTH);
+        let (body, bodies) = self.bodies.split_at(u16_at(head, WIDTH - Width::LENGTH));
+        self.left -= 1;
+        self.entries = entries;
+        self.bodies = bodies;
+        Some(Row { head, body })
+    }
+
+    // Passes the rows whose names are below a name.
+    pub fn skip_below(&mut self, name: usize)
+        requires { Laid WIDTH self.old.left self.old.entries.now self.old.bodies.now }
+        ensures { Skipped WIDTH self.old.left name self.old.entries.now self.old.bodies.now self.new.left self.new.entries.now self.new.bodies.now }
+    {
+        while 0 < self.left {
+            if name <= u16_at(self.entries, 0) {
+                return;
+            }
+            self.next();
+        }
+    }
+
+    // The row of a name, where the rows below the name end, which are passed for good.
+    pub fn find(&mut self, name: usize) -> Option<Row<'a>>
+        requires { Laid WIDTH self.old.left self.old.entries.now self.old.bodies.now }
+        ensures passed { Skipped WIDTH self.old.left name self.old.entries.now self.old.bodies.now self.new.left self.new.entries.now self.new.bodies.now }
+        ensures sought { Sought WIDTH self.new.left name self.new.entries.now self.new.bodies.now result }
+    {
+        self.skip_below(name);
+        let mut ahead = *self;
+        let row = ahead.next()?;
+        if row.name() == name {
+            return Some(row);
+        }
+        None
+    }
+}
