@@ -9,6 +9,7 @@ pub mod TypeBytes
 pub mod ValueBytes
 pub mod ListBytes
 pub mod Tables
+pub mod AttributeRows
 pub mod Codes
 pub mod Search
 pub mod Laws

@@ -24,6 +24,9 @@ pub struct Rows<'a, const WIDTH: usize> {
     pub bodies: &'a [u8],
 }
 
+// What is left of an attribute list.
+pub type Attributes<'a> = Rows<'a, { Width::ATTRIBUTE }>;
+
 impl<'a> Row<'a> {
     // The name that its entry begins with.
     #[inline]

@@ -1,6 +1,5 @@
 -- Lists of names in the borrow checker's terms. Assumes nothing: these are definitions.
 use Rattle.std.specs.Prelude.{ℕ, ◌+◌, ◌*◌, ◌≤◌, true, List, ◌≡◌, length}
-use Rattle.cedar.specs.Laws.Shape.{Ascend}
 use Rattle.forms.specs.Parts.{rest, rd}
 use Rattle.forms.specs.TypeBytes.{names_up, names_by}
 
@@ -15,12 +14,6 @@ pub record EntityForm (b : List ℕ) : Type 0 where
   pub many : 1 ≤ rd b 1
   pub sized : length b ≡ 3 + 2 * rd b 1
   pub up : names_up (rd b 1) 0 (rest 3 b) ≡ true
-
--- The entries of n attributes whose names ascend from some name on.
-pub record EntriesUp (n : ℕ) (es : List ℕ) : Type 0 where
-  pub low : ℕ
-  pub sized : 5 * n ≤ length es
-  pub up : Ascend low (names_by 5 n es)
 
 -- The names of an entity form.
 abbrev pub entity_names : List ℕ → List ℕ

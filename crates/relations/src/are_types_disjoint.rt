@@ -21,10 +21,9 @@ fn type_names(t: &[u8], levels: usize) -> TypeNames
     requires { whole levels t.now ≡ true }
     ensures { NamesFound t.now (type_names (dec levels t.now)) result }
 {
-    let k = t[0];
-    match k {
-        Kind::ENTITY => TypeNames::From(Offset::ENTITY_NAMES, u16_at(t, Offset::ENTITY_COUNT)),
-        Kind::ACTION => TypeNames::From(Offset::ACTION_NAME, 1),
+    match Kind::of(t) {
+        Kind::Entity => TypeNames::From(Offset::ENTITY_NAMES, u16_at(t, Offset::ENTITY_COUNT)),
+        Kind::Action => TypeNames::From(Offset::ACTION_NAME, 1),
         _ => TypeNames::Nothing,
     }
 }

@@ -1,64 +1,53 @@
 // Whether a type is a subtype of another.
-ghost use Rattle.std.specs.Prelude.{◌≡◌, true, ◌*◌, ◌≤◌, eqb, length};
+ghost use Rattle.std.specs.Prelude.{◌≡◌, true, ◌*◌, ◌≤◌, length};
 ghost use Rattle.cedar.specs.Subtype.{sub_flag, sub_names, sub, sub_attrs};
-ghost use Rattle.forms.specs.TypeBytes.{whole, dec, dec_a, Sound, names_by};
+ghost use Rattle.forms.specs.Kinds.{kind_number};
+ghost use Rattle.forms.specs.AttributeRows.{SoundRows, attributes_of, names_of};
+ghost use Rattle.forms.specs.TypeBytes.{whole, dec};
 ghost use Rattle.relations.specs.Names.{EntityForm, entity_names};
 ghost use Rattle.forms.specs.Modes.{as_mode};
 ghost use Rattle.relations.specs.Under.{kind_under, record_under};
 
 use crate::names::names_subset;
-use crate::same_bytes::same_bytes;
 use forms::kinds::{Kind, Openness};
 use forms::modes::Mode;
 use forms::names::same_names;
 use forms::numbers::u16_at;
 use forms::offsets::Offset;
-use forms::search::{Found, find};
+use forms::rows::{Attributes, Rows};
 use forms::widths::Width;
 
 // Whether a type of kind j stands under one of another kind k.
-fn kind_under(mode: Mode, j: u8, k: u8) -> bool
-    ensures { result ≡ kind_under (as_mode mode) j k }
+fn kind_under(mode: Mode, j: Kind, k: Kind) -> bool
+    ensures { result ≡ kind_under (as_mode mode) (kind_number j) (kind_number k) }
 {
-    if j == Kind::NEVER {
-        return true;
-    }
     match k {
-        Kind::BOOL => {
-            if j == Kind::TRUE {
-                return true;
-            }
-            j == Kind::FALSE
-        }
-        Kind::ANY_SET => j == Kind::SET,
-        Kind::ANY_ENTITY => {
-            if j == Kind::ENTITY {
-                return mode.is_permissive();
-            }
-            if j == Kind::ACTION {
-                return mode.is_permissive();
-            }
-            false
-        }
-        _ => false,
+        Kind::Bool => matches!(j, Kind::Never | Kind::True | Kind::False),
+        Kind::AnySet => matches!(j, Kind::Never | Kind::Set),
+        Kind::AnyEntity => match j {
+            Kind::Never => true,
+            Kind::Entity | Kind::Action => mode.is_permissive(),
+            _ => false,
+        },
+        _ => j == Kind::Never,
     }
 }
 
-// Whether an attribute's flag stands under another's: strict, they are equal; permissive, required also stands under optional.
-fn required_under(mode: Mode, lower: u8, upper: u8) -> bool
-    requires { (lower ≤ 1) × (upper ≤ 1) }
-    ensures { result ≡ sub_flag (as_mode mode) (eqb lower 1) (eqb upper 1) }
+// Whether an attribute that is required, or is not, stands under another: strict, both are or neither; permissive, a required one also
+// stands under an optional one.
+fn required_under(mode: Mode, lower: bool, upper: bool) -> bool
+    ensures { result ≡ sub_flag (as_mode mode) lower upper }
 {
     if mode.is_permissive() {
-        return upper <= lower;
+        return lower || !upper;
     }
     lower == upper
 }
 
 // Whether an entity stands under another: strict, their names are equal; permissive, they are a subset.
 fn entity_under(mode: Mode, t0: &[u8], t1: &[u8]) -> bool
-    requires entity_form { EntityForm t0.now }
-    requires entity_form_2 { EntityForm t1.now }
+    requires t0_form { EntityForm t0.now }
+    requires t1_form { EntityForm t1.now }
     ensures { result ≡ sub_names (as_mode mode) (entity_names t0.now) (entity_names t1.now) }
 {
     let a = &t0[Offset::ENTITY_NAMES..];
@@ -71,72 +60,62 @@ fn entity_under(mode: Mode, t0: &[u8], t1: &[u8]) -> bool
             u16_at(t1, Offset::ENTITY_COUNT),
         );
     }
-    same_bytes(a, b)
+    a == b
 }
 
 // Whether a record may stand under another but for its attributes: an open one only under an open one; with the same names or,
 // permissive and the upper open, more.
-fn record_under(mode: Mode, open0: u8, es: &[u8], n: usize, open1: u8, fs: &[u8], m: usize) -> bool
-    requires open0_bound { (open0 ≤ 1) × (open1 ≤ 1) }
-    requires n_in_bounds { 5 * n ≤ length es.now }
-    requires m_in_bounds { 5 * m ≤ length fs.now }
-    ensures { result ≡ record_under (as_mode mode) (eqb open0 1) (names_by 5 n es.now) (eqb open1 1) (names_by 5 m fs.now) }
+fn record_under(
+    mode: Mode,
+    lower_open: bool,
+    lower: Attributes,
+    upper_open: bool,
+    upper: Attributes,
+) -> bool
+    requires lower_sized { 5 * lower.left ≤ length lower.entries.now }
+    requires upper_sized { 5 * upper.left ≤ length upper.entries.now }
+    ensures { result ≡ record_under (as_mode mode) lower_open (names_of lower.entry) upper_open (names_of upper.entry) }
 {
-    if open1 < open0 {
-        return false;
+    if upper_open {
+        return mode.is_permissive()
+            || same_names(
+                Width::ATTRIBUTE,
+                lower.entries,
+                lower.left,
+                upper.entries,
+                upper.left,
+            );
     }
-    if same_names(Width::ATTRIBUTE, es, n, fs, m) {
-        return true;
-    }
-    if mode.is_permissive() {
-        return open1 == Openness::OPEN;
-    }
-    false
+    !lower_open
+        && same_names(
+            Width::ATTRIBUTE,
+            lower.entries,
+            lower.left,
+            upper.entries,
+            upper.left,
+        )
 }
 
-// Whether each attribute of the upper list, fs and cs, is found in the lower one, es and bs, there with a flag and a type below. Both
-// ascend, so a search goes on where the last one ended.
+// Whether each attribute of the upper list is found in the lower one, there with a flag and a type below. Both ascend, so a search goes on
+// where the last one ended.
 #[cycle(attributes_subtype_is_subtype)]
-fn attributes_subtype(
-    mode: Mode,
-    es: &[u8],
-    bs: &[u8],
-    n: usize,
-    fs: &[u8],
-    cs: &[u8],
-    m: usize,
-    levels: usize,
-) -> bool
-    requires sound { Sound levels n 0 es.now bs.now }
-    requires sound_2 { Sound levels m 0 fs.now cs.now }
-    ensures { result ≡ sub_attrs (as_mode mode) (dec_a (dec levels) n es.now bs.now) (dec_a (dec levels) m fs.now cs.now) }
+fn attributes_subtype(mode: Mode, lower: Attributes, upper: Attributes, levels: usize) -> bool
+    requires lower_sound { SoundRows levels lower }
+    requires upper_sound { SoundRows levels upper }
+    ensures { result ≡ sub_attrs (as_mode mode) (attributes_of levels lower.entry) (attributes_of levels upper.entry) }
 {
-    let mut e = es;
-    let mut b = bs;
-    let mut left = n;
-    let mut f = fs;
-    let mut c = cs;
-    let mut more = m;
-    while 0 < more {
-        let name = u16_at(f, 0);
-        let Found::At(i, off) = find(Width::ATTRIBUTE, e, b, left, name) else {
+    let mut others = lower;
+    let mut ahead = upper;
+    while let Some(attribute) = ahead.next() {
+        let Some(other) = others.find(attribute.name()) else {
             return false;
         };
-        let at = Width::ATTRIBUTE * i;
-        e = &e[at..];
-        b = &b[off..];
-        left -= i;
-        if !required_under(mode, e[Offset::REQUIRED], f[Offset::REQUIRED]) {
+        if !required_under(mode, other.is_required(), attribute.is_required()) {
             return false;
         }
-        let lower = u16_at(e, Offset::BODY_LENGTH);
-        let upper = u16_at(f, Offset::BODY_LENGTH);
-        if !is_subtype(mode, &b[0..lower], &c[0..upper], levels) {
+        if !is_subtype(mode, other.body, attribute.body, levels) {
             return false;
         }
-        f = &f[Width::ATTRIBUTE..];
-        c = &c[upper..];
-        more -= 1;
     }
     true
 }
@@ -148,33 +127,30 @@ pub fn is_subtype(mode: Mode, t0: &[u8], t1: &[u8], levels: usize) -> bool
     requires t1_whole { whole levels t1.now ≡ true }
     ensures { result ≡ sub (as_mode mode) (dec levels t0.now) (dec levels t1.now) }
 {
-    let j = t0[0];
-    let k = t1[0];
+    let j = Kind::of(t0);
+    let k = Kind::of(t1);
     if j != k {
         return kind_under(mode, j, k);
     }
     match k {
-        Kind::SET => is_subtype(
+        Kind::Set => is_subtype(
             mode,
             &t0[Offset::ELEMENT..],
             &t1[Offset::ELEMENT..],
             levels - 1,
         ),
-        Kind::RECORD => {
-            let n = u16_at(t0, Offset::RECORD_COUNT);
-            let m = u16_at(t1, Offset::RECORD_COUNT);
-            let p = Offset::RECORD_ENTRIES + Width::ATTRIBUTE * n;
-            let q = Offset::RECORD_ENTRIES + Width::ATTRIBUTE * m;
-            let es = &t0[Offset::RECORD_ENTRIES..p];
-            let fs = &t1[Offset::RECORD_ENTRIES..q];
-            if !record_under(mode, t0[Offset::OPEN], es, n, t1[Offset::OPEN], fs, m) {
+        Kind::Record => {
+            let lower = Rows::at(t0, Offset::RECORD_COUNT);
+            let upper = Rows::at(t1, Offset::RECORD_COUNT);
+            let lower_open = t0[Offset::OPEN] == Openness::OPEN;
+            let upper_open = t1[Offset::OPEN] == Openness::OPEN;
+            if !record_under(mode, lower_open, lower, upper_open, upper) {
                 return false;
             }
-            attributes_subtype(mode, es, &t0[p..], n, fs, &t1[q..], m, levels - 1)
+            attributes_subtype(mode, lower, upper, levels - 1)
         }
-        Kind::ENTITY => entity_under(mode, t0, t1),
-        Kind::ACTION => same_bytes(t0, t1),
-        Kind::EXTENSION => same_bytes(t0, t1),
+        Kind::Entity => entity_under(mode, t0, t1),
+        Kind::Action | Kind::Extension => t0[..] == t1[..],
         _ => true,
     }
 }

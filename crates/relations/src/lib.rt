@@ -6,4 +6,3 @@ pub mod is_consistent_with;
 pub mod is_plain;
 pub mod is_subtype;
 pub mod names;
-pub mod same_bytes;

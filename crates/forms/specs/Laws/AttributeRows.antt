@@ -1,15 +1,19 @@
 -- Rows of an attribute list, taken one by one and found by name. Assumes nothing.
-use Rattle.std.specs.Prelude.{◌≡◌, List, true, ℕ, ◌+◌, ◌-◌, ◌≤◌, ◌<◌, eqb, length, get_or}
+use Rattle.std.specs.Prelude.{◌≡◌, List, true, ℕ, ◌+◌, ◌*◌, ◌-◌, ◌≤◌, ◌<◌, eqb, length, get_or}
 use Rattle.std.proofs.Math.Path.{refl}
 use Rattle.std.proofs.Common.{ap, sym, ◌∙◌, arith, ne_eqb}
 use Rattle.std.proofs.Math.Decide.{dec_lt}
 use Rattle.std.proofs.Math.Option.{none, some}
-use Rattle.cedar.specs.Types.{Attrs, attr, find}
-use Rattle.forms.specs.Parts.{rd}
+use Rattle.cedar.specs.Types.{Attrs, attr, names, find, rec, act}
+use Rattle.forms.specs.Parts.{part, rest, rd, kind}
 use Rattle.forms.specs.TypeBytes.{dec_a, whole, dec, Sound}
 use Rattle.forms.specs.Search.{below, used}
 use Rattle.forms.specs.RowBytes.{IsFirst, TookFirst, Skipped}
+use Rattle.forms.specs.AttributeRows.{SoundRows, attributes_of, names_of}
+use Rattle.forms.specs.Laws.Names.{names-of-entries}
 use Rattle.forms.specs.declared.rows.Row.{Row}
+use Rattle.forms.specs.declared.rows.Rows.{Rows}
+use Rattle.forms.specs.Laws.Views.{is-record, is-action}
 use Rattle.forms.specs.Laws.RowBytes.{head-rd, head-byte, head-length, took-left}
 use Rattle.forms.specs.Laws.Attributes.{entry, attrs-none, laid, past, find-under, find_first}
 
@@ -91,3 +95,20 @@ module _ {l n low name : ℕ} {es bs : List ℕ} {m : ℕ} {fs cs : List ℕ} (s
           let b : name < rd fs 0 = omega arith in
           ap (λ (xs : Attrs). find name xs) t.is
           ∙ rw (ne_eqb name (rd fs 0) (λ z. u (sym z))) (find-under t.more name (omega arith))
+
+-- The attributes of a record and of an action, by its form.
+module _ (l : ℕ) (b : List ℕ) (h : whole l b ≡ true) (r : Rows 5) where
+  pub record-rows : kind b ≡ 8 → r.left ≡ rd b 2 → r.entries.now ≡ part 4 (4 + 5 * rd b 2) b → r.bodies.now ≡ rest (4 + 5 * rd b 2) b →
+      SoundRows (l - 1) r × (dec l b ≡ rec (eqb (get_or b 1 0) 1) (attributes_of (l - 1) r))
+  record-rows k n e c = let v = is-record l b h k in (rw (n, e, c) v.sound, rw (n, e, c) v.is)
+
+  pub action-rows : kind b ≡ 11 → r.left ≡ rd b 3 → r.entries.now ≡ part 5 (5 + 5 * rd b 3) b → r.bodies.now ≡ rest (5 + 5 * rd b 3) b →
+      SoundRows (l - 1) r × (dec l b ≡ act (rd b 1) (attributes_of (l - 1) r))
+  action-rows k n e c = let v = is-action l b h k in (rw (n, e, c) v.sound, rw (n, e, c) v.is)
+
+-- What is left of a list has as many entries as it says, and their names.
+pub rows-sized : {l : ℕ} (r : Rows 5) → SoundRows l r → 5 * r.left ≤ length r.entries.now
+rows-sized r s = omega (arith, s.sized)
+
+pub rows-names : (l : ℕ) (r : Rows 5) → names_of r ≡ names (attributes_of l r)
+rows-names l r = sym (names-of-entries (dec l) r.left r.entries.now r.bodies.now)

@@ -1,12 +1,16 @@
 -- Kinds and their numbers. Assumes nothing.
-use Rattle.std.specs.Prelude.{◌≡◌, List, [], ◌∷◌, true, ℕ, zero, suc, ◌<◌, ◌≤◌, length, get_or}
+use Rattle.std.specs.Prelude.{◌≡◌, List, [], ◌∷◌, true, false, not, Bool, eqb, ℕ, zero, suc, ◌<◌, ◌≤◌, length, get_or}
 use Rattle.std.proofs.Math.Path.{refl}
-use Rattle.std.proofs.Common.{ap, sym, ◌∙◌, arith}
+use Rattle.std.proofs.Common.{ap, ap₂, sym, ◌∙◌, arith, eqb-true, ne_eqb}
+use denote.Enum.Bare.{sameb}
+use denote.Enum.Declared.{tag_of}
+use Rattle.std.proofs.lemmas.Bool.{eqb-false, not-true, not-false}
 use Rattle.std.proofs.Math.Decide.{dec_le}
 use Rattle.cedar.specs.TypeForm.{kind_of}
 use Rattle.forms.specs.Parts.{kind}
 use Rattle.forms.specs.TypeBytes.{whole_as, whole}
 use Rattle.forms.specs.Kinds.{kind_number}
+use Rattle.forms.specs.contracts.kinds.Kind.{the_type}
 use Rattle.forms.specs.declared.kinds.Kind.{Kind}
 use Rattle.forms.specs.declared.kinds.Kind.TheVariants as kind_is
 use Rattle.forms.specs.Laws.Parts.{and_r}
@@ -53,3 +57,42 @@ same_kind kind_is.Extension = refl
 -- Kinds of one number are one kind.
 pub kind-same : (j k : Kind) → kind_number j ≡ kind_number k → j ≡ k
 kind-same j k h = sym (same_kind j) ∙ ap kind_at h ∙ same_kind k
+
+-- Kinds that differ have numbers that do.
+pub kind-differs : (j k : Kind) → (j ≡ k → ⊥) → kind_number j ≡ kind_number k → ⊥
+kind-differs j k h e = h (kind-same j k e)
+
+pub kind-not : (j k : Kind) → (j ≡ k → ⊥) → eqb (kind_number j) (kind_number k) ≡ false
+kind-not j k h = ne_eqb (kind_number j) (kind_number k) (kind-differs j k h)
+
+-- What `==` of kinds answers.
+tag-number : (k : Kind) → tag_of the_type k ≡ kind_number k
+tag-number kind_is.Never = refl
+tag-number kind_is.True = refl
+tag-number kind_is.False = refl
+tag-number kind_is.Bool = refl
+tag-number kind_is.Long = refl
+tag-number kind_is.String = refl
+tag-number kind_is.AnySet = refl
+tag-number kind_is.Set = refl
+tag-number kind_is.Record = refl
+tag-number kind_is.AnyEntity = refl
+tag-number kind_is.Entity = refl
+tag-number kind_is.Action = refl
+tag-number kind_is.Extension = refl
+
+pub same-number : (j k : Kind) → sameb the_type j k ≡ eqb (kind_number j) (kind_number k)
+same-number j k = ap₂ eqb (tag-number j) (tag-number k)
+
+pub kinds-agree : (j k : Kind) (x : Bool) → x ≡ sameb the_type j k → x ≡ true → kind_number j ≡ kind_number k
+kinds-agree j k x q h = eqb-true (kind_number j) (kind_number k) (sym (same-number j k) ∙ sym q ∙ h)
+
+pub kinds-differ : (j k : Kind) (x : Bool) → x ≡ sameb the_type j k → x ≡ false → kind_number j ≡ kind_number k → ⊥
+kinds-differ j k x q h = eqb-false (kind_number j) (kind_number k) (sym (same-number j k) ∙ sym q ∙ h)
+
+-- What `!=` of kinds answers.
+pub kinds-alike : (j k : Kind) (x : Bool) → x ≡ not (sameb the_type j k) → x ≡ false → kind_number j ≡ kind_number k
+kinds-alike j k x q h = eqb-true (kind_number j) (kind_number k) (sym (same-number j k) ∙ not-false (sameb the_type j k) (sym q ∙ h))
+
+pub kinds-unlike : (j k : Kind) (x : Bool) → x ≡ not (sameb the_type j k) → x ≡ true → kind_number j ≡ kind_number k → ⊥
+kinds-unlike j k x q h = eqb-false (kind_number j) (kind_number k) (sym (same-number j k) ∙ not-true (sameb the_type j k) (sym q ∙ h))

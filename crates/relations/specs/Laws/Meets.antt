@@ -15,6 +15,11 @@ use Rattle.forms.specs.Laws.Names.{names-first}
 use Rattle.forms.specs.Laws.Views.{is-entity, is-action}
 use Rattle.relations.specs.Names.{EntityForm, entity_names}
 use Rattle.relations.specs.Meets.{plain_kind, kind_meets}
+use Rattle.std.proofs.Math.Decide.{dec_lt}
+use Rattle.forms.specs.Kinds.{kind_number}
+use Rattle.forms.specs.declared.kinds.Kind.{Kind}
+use Rattle.forms.specs.declared.kinds.Kind.TheVariants as is_kind
+use Rattle.forms.specs.Laws.Kinds.{kind-differs}
 use Rattle.forms.specs.Codes.{code}
 use Rattle.forms.specs.Laws.Codes.{code-dec}
 use Rattle.relations.specs.Laws.Under.{by-atom, is_code, one-injective, atom-kind, not-parts, not_code, no-set, no_record, unlike}
@@ -27,6 +32,19 @@ plain-low k h = rw (lt-leb 3 k h) refl
 pub plain-high : (k : ℕ) → 3 ≤ k → leb k 6 ≡ plain_kind k
 unfolding plain_kind
 plain-high k h = rw (le-leb 3 k h) refl
+
+-- A kind that is none of the four.
+pub not_plain-kind : (k : Kind) → (k ≡ is_kind.Bool → ⊥) → (k ≡ is_kind.Long → ⊥) → (k ≡ is_kind.String → ⊥) → (k ≡ is_kind.AnySet → ⊥) → false ≡ plain_kind (kind_number k)
+not_plain-kind k b l s a = go (dec_lt (kind_number k) 3)
+  where
+    go : Dec (kind_number k < 3) → false ≡ plain_kind (kind_number k)
+    go (yes h) = plain-low (kind_number k) h
+    go (no h) =
+        let p3 : kind_number k ≡ 3 → ⊥ = kind-differs k is_kind.Bool b in
+        let p4 : kind_number k ≡ 4 → ⊥ = kind-differs k is_kind.Long l in
+        let p5 : kind_number k ≡ 5 → ⊥ = kind-differs k is_kind.String s in
+        let p6 : kind_number k ≡ 6 → ⊥ = kind-differs k is_kind.AnySet a in
+        sym (lt-leb (kind_number k) 6 (omega arith)) ∙ plain-high (kind_number k) (omega arith)
 
 -- A type without parts, and an action, by its first byte.
 pub plain_code : (t : Ty) → (code t ≡ 7 → ⊥) → (code t ≡ 8 → ⊥) → (code t ≡ 10 → ⊥) → (code t ≡ 12 → ⊥) → plain_kind (code t) ≡ plain t

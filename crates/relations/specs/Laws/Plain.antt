@@ -1,46 +1,49 @@
 -- Whether a type is plain, by what its form shows. Assumes nothing.
-use Rattle.std.specs.Prelude.{◌≡◌, List, Bool, true, false, not, ◌&&◌, ℕ, zero, suc, ◌+◌, ◌*◌, ◌-◌, ◌≤◌, ◌<◌, eqb, length}
+use Rattle.std.specs.Prelude.{◌≡◌, List, Bool, true, false, ◌&&◌, ℕ, zero, suc, ◌+◌, ◌-◌, eqb, length}
 use Rattle.std.proofs.Math.Path.{refl, ap, sym}
 use Rattle.std.proofs.Common.{◌∙◌}
-use Rattle.std.proofs.lemmas.Bool.{not-true, not-false}
-use Rattle.cedar.specs.Types.{Attrs}
+use Rattle.cedar.specs.Types.{Attrs, rec}
 use Rattle.cedar.specs.Consistency.{plain, plain_attrs}
-use Rattle.forms.specs.Parts.{part, rest, rd, kind}
-use Rattle.forms.specs.TypeBytes.{names_by, whole, dec, dec_a, Sound}
-use Rattle.forms.specs.Laws.Views.{is_set, is-record, is-entity, is-extension}
-use Rattle.forms.specs.Laws.Attributes.{Entry, entry, entry_more, attrs-none}
+use Rattle.forms.specs.Parts.{rest, rd, kind}
+use Rattle.forms.specs.TypeBytes.{names_by, whole, dec}
+use Rattle.forms.specs.Laws.Views.{is_set, is-entity, is-extension}
+use Rattle.forms.specs.declared.rows.Row.{Row}
+use Rattle.forms.specs.declared.rows.Rows.{Rows}
+use Rattle.forms.specs.RowBytes.{TookFirst}
+use Rattle.forms.specs.AttributeRows.{SoundFrom, SoundRows, attributes_of}
+use Rattle.forms.specs.Laws.AttributeRows.{taken-attribute, taken-none}
 use Rattle.relations.specs.Meets.{plain_kind}
 use Rattle.forms.specs.Laws.Codes.{code-dec}
 use Rattle.relations.specs.Laws.Meets.{plain_code}
 
 -- A walk that has come so far: what is left answers for the whole.
-pub record PlainLeft (l : ℕ) (xs : Attrs) (left : ℕ) (e b : List ℕ) : Type 0 where
+pub record PlainLeft (l : ℕ) (xs : Attrs) (ahead : Rows 5) : Type 0 where
   pub low : ℕ
-  pub sound : Sound l left low e b
-  pub same : plain_attrs xs ≡ plain_attrs (dec_a (dec l) left e b)
+  pub sound : SoundFrom l low ahead
+  pub same : plain_attrs xs ≡ plain_attrs (attributes_of l ahead)
 
-pub plain-start : {l n : ℕ} {es bs : List ℕ} → Sound l n 0 es bs → PlainLeft l (dec_a (dec l) n es bs) n es bs
-plain-start s = record { low = 0; sound = s; same = refl }
+pub plain-start : {l : ℕ} (r : Rows 5) → SoundRows l r → PlainLeft l (attributes_of l r) r
+plain-start r s = record { low = 0; sound = s; same = refl }
 
-module _ {l : ℕ} {xs : Attrs} {left : ℕ} {e b : List ℕ} (i : PlainLeft l xs left e b) where
-  pub plain_end : left ≤ 0 → true ≡ plain_attrs xs
+module _ {l : ℕ} {xs : Attrs} {ahead : Rows 5} (i : PlainLeft l xs ahead) where
+  pub plain_end : ahead.left ≡ 0 → true ≡ plain_attrs xs
   unfolding plain
-  plain_end h = sym (i.same ∙ ap plain_attrs (attrs-none (dec l) left e b h))
+  plain_end h = sym (i.same ∙ ap plain_attrs (taken-none i.sound h))
 
-  module _ (p : 0 < left) where
-    pub plain-first : Entry l left i.low e b
-    plain-first = entry i.sound p
+  module _ (more : Rows 5) {r : Row} (t : TookFirst 5 ahead.left ahead.entries.now ahead.bodies.now more.left more.entries.now more.bodies.now r) where
+    pub plain-first : whole l r.body.now ≡ true
+    plain-first = (taken-attribute i.sound t).body
 
-    module _ (k : ℕ) (q : k ≡ rd e 3) (x : Bool) (xq : x ≡ plain (dec l (part 0 k b))) where
-      step : plain_attrs xs ≡ (x && plain_attrs (dec_a (dec l) (left - 1) (rest 5 e) (rest k b)))
+    module _ (x : Bool) (xq : x ≡ plain (dec l r.body.now)) where
+      step : plain_attrs xs ≡ (x && plain_attrs (attributes_of l more))
       unfolding plain
-      step = i.same ∙ ap plain_attrs plain-first.is ∙ rw (xq, q) refl
+      step = i.same ∙ ap plain_attrs (taken-attribute i.sound t).is ∙ rw xq refl
 
-      pub plain-not : not x ≡ true → false ≡ plain_attrs xs
-      plain-not h = sym (step ∙ rw (not-true x h) refl)
+      pub plain-not : x ≡ false → false ≡ plain_attrs xs
+      plain-not h = sym (step ∙ rw h refl)
 
-      pub plain-again : not x ≡ false → PlainLeft l xs (left - 1) (rest 5 e) (rest k b)
-      plain-again h = record { low = rd e 0 + 1; sound = entry_more i.sound p k q; same = step ∙ rw (not-false x h) refl }
+      pub plain-again : x ≡ true → PlainLeft l xs more
+      plain-again h = record { low = rd r.head.now 0 + 1; sound = (taken-attribute i.sound t).more; same = step ∙ rw h refl }
 
 length-names : (n : ℕ) (b : List ℕ) → length (names_by 2 n b) ≡ n
 unfolding names_by
@@ -53,9 +56,9 @@ module _ (l : ℕ) (b : List ℕ) (h : whole l b ≡ true) where
   unfolding plain
   plain-set e = sym (ap plain (is_set l b h e).is)
 
-  pub plain-record : kind b ≡ 8 → (n : ℕ) → n ≡ rd b 2 → plain_attrs (dec_a (dec (l - 1)) n (part 4 (4 + 5 * n) b) (rest (4 + 5 * n) b)) ≡ plain (dec l b)
+  pub plain-record : {o : Bool} {xs : Attrs} → dec l b ≡ rec o xs → plain_attrs xs ≡ plain (dec l b)
   unfolding plain
-  plain-record e n q = rw q (sym (ap plain (is-record l b h e).is))
+  plain-record e = sym (ap plain e)
 
   pub plain-entity : kind b ≡ 10 → (n : ℕ) → n ≡ rd b 1 → eqb n 1 ≡ plain (dec l b)
   unfolding plain

@@ -1,22 +1,20 @@
 -- A type under another, by what their forms show. Assumes nothing.
-use Rattle.std.specs.Prelude.{◌≡◌, refl, Bool, true, false, not, ◌&&◌, ℕ, ◌+◌, ◌*◌, ◌-◌, eqb, get_or}
+use Rattle.std.specs.Prelude.{◌≡◌, refl, Bool, true, false, ◌&&◌, ℕ, ◌-◌}
 use Rattle.std.proofs.Common.{ap, ◌∙◌}
 use Rattle.std.proofs.Math.Path.{ap₂, sym}
 use mathlib.Core.List.{List}
-use Rattle.std.proofs.lemmas.Bool.{not-true, not-false}
 use Rattle.cedar.specs.Bytes.{Bytes}
-use Rattle.cedar.specs.Types.{Mode, Atom, atom, never, is, eq_names, same}
+use Rattle.cedar.specs.Types.{Mode, Atom, Attrs, atom, rec, never, is, eq_names, same, names}
 use Rattle.cedar.specs.Subtype.{sub_names, sub, sub_attrs}
 use Rattle.cedar.specs.TypeForm.{kind_of}
 use Rattle.cedar.proofs.Laws.Tests.{T→true, or_inl, or_inr}
 use Rattle.cedar.proofs.Laws.Equality.{is-refl}
-use Rattle.forms.specs.Parts.{part, rest, rd, kind}
-use Rattle.forms.specs.TypeBytes.{whole, dec, dec_a, names_by}
-use Rattle.forms.specs.Laws.Views.{is_set, is-record, is-entity, is-action, is-extension, is-atom}
+use Rattle.forms.specs.Parts.{rest, kind}
+use Rattle.forms.specs.TypeBytes.{whole, dec}
+use Rattle.forms.specs.Laws.Views.{is_set, is-entity, is-action, is-extension, is-atom}
 use Rattle.relations.specs.Names.{entity_names}
 use Rattle.relations.specs.Under.{kind_under, record_under}
 use Rattle.forms.specs.Laws.Codes.{code-dec}
-use Rattle.forms.specs.Laws.Names.{names-of-entries}
 use Rattle.relations.specs.Laws.SameForm.{same-types}
 use Rattle.relations.specs.Laws.Under.{one-injective, sub-kinds}
 
@@ -61,27 +59,14 @@ module _ (m : Mode) (l : ℕ) (a b : List ℕ) (h : whole l a ≡ true) (g : who
         let j : x.kind-of ≡ y.kind-of = one-injective (sym x.kind-is ∙ ap kind_of e ∙ y.kind-is) in
         sym (ap₂ (sub m) (x.is ∙ ap atom j) y.is ∙ atom-under m y.kind-of)
 
-    module _ (k : kind b ≡ 8) (n i : ℕ) (nq : n ≡ rd a 2) (iq : i ≡ rd b 2) where
-      records : sub m (dec l a) (dec l b) ≡
-          (record_under m (eqb (get_or a 1 0) 1) (names_by 5 n (part 4 (4 + 5 * n) a)) (eqb (get_or b 1 0) 1) (names_by 5 i (part 4 (4 + 5 * i) b))
-          && sub_attrs m (dec_a (dec (l - 1)) n (part 4 (4 + 5 * n) a) (rest (4 + 5 * n) a)) (dec_a (dec (l - 1)) i (part 4 (4 + 5 * i) b) (rest (4 + 5 * i) b)))
+    -- Records, by their attributes.
+    module _ {o p : Bool} {xs ys : Attrs} (aq : dec l a ≡ rec o xs) (bq : dec l b ≡ rec p ys) where
+      records : sub m (dec l a) (dec l b) ≡ (record_under m o (names xs) p (names ys) && sub_attrs m xs ys)
       unfolding sub record_under
-      records =
-          let xs = dec_a (dec (l - 1)) (rd a 2) (part 4 (4 + 5 * rd a 2) a) (rest (4 + 5 * rd a 2) a) in
-          let ys = dec_a (dec (l - 1)) (rd b 2) (part 4 (4 + 5 * rd b 2) b) (rest (4 + 5 * rd b 2) b) in
-          rw (nq, iq)
-          (ap₂ (sub m) (is-record l a h (e ∙ k)).is (is-record l b g k).is
-          ∙ ap₂ (λ (ns ks : List ℕ). record_under m (eqb (get_or a 1 0) 1) ns (eqb (get_or b 1 0) 1) ks && sub_attrs m xs ys)
-          (names-of-entries (dec (l - 1)) (rd a 2) (part 4 (4 + 5 * rd a 2) a) (rest (4 + 5 * rd a 2) a))
-          (names-of-entries (dec (l - 1)) (rd b 2) (part 4 (4 + 5 * rd b 2) b) (rest (4 + 5 * rd b 2) b)))
+      records = ap₂ (sub m) aq bq
 
-      module _ (x : Bool)
-          (xq : x ≡ record_under m (eqb (get_or a 1 0) 1) (names_by 5 n (part 4 (4 + 5 * n) a)) (eqb (get_or b 1 0) 1) (names_by 5 i (part 4 (4 + 5 * i) b))) where
-        pub record-not : not x ≡ true → false ≡ sub m (dec l a) (dec l b)
-        record-not z = sym (records ∙ rw (sym xq ∙ not-true x z) refl)
+      pub record-not : (x : Bool) → x ≡ record_under m o (names xs) p (names ys) → x ≡ false → false ≡ sub m (dec l a) (dec l b)
+      record-not x q z = sym (records ∙ rw (sym q ∙ z) refl)
 
-        pub record-under : not x ≡ false → (y : Bool) →
-            y ≡ sub_attrs m (dec_a (dec (l - 1)) n (part 4 (4 + 5 * n) a) (rest (4 + 5 * n) a)) (dec_a (dec (l - 1)) i (part 4 (4 + 5 * i) b) (rest (4 + 5 * i) b))
-            →
-            y ≡ sub m (dec l a) (dec l b)
-        record-under z y yq = yq ∙ sym (records ∙ rw (sym xq ∙ not-false x z) refl)
+      pub record-under : (x : Bool) → x ≡ record_under m o (names xs) p (names ys) → x ≡ true → (y : Bool) → y ≡ sub_attrs m xs ys → y ≡ sub m (dec l a) (dec l b)
+      record-under x q z y yq = yq ∙ sym (records ∙ rw (sym q ∙ z) refl)

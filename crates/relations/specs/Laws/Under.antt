@@ -1,8 +1,8 @@
 -- Subtypes by what a form shows before its parts. Assumes nothing.
-use Rattle.std.specs.Prelude.{◌≡◌, List, Bool, true, false, not, ◌||◌, cond, ◌&&◌, ℕ, zero, suc, ◌≤◌, ◌<◌, T, eqb, leb}
+use Rattle.std.specs.Prelude.{◌≡◌, List, Bool, true, false, not, ◌||◌, cond, ◌&&◌, ℕ, zero, suc, ◌≤◌, T, eqb, leb}
 use Rattle.std.proofs.Math.Path.{refl}
 use Rattle.std.proofs.Common.{ap, sym, ◌∙◌, arith, eqb→eq}
-use borrow.Author.Tests.{eq-eqb, ne_eqb, eqb-false}
+use borrow.Author.Tests.{ne_eqb, eqb-false}
 use Rattle.std.proofs.Math.Option.{none}
 use Rattle.cedar.specs.Types.{is_never, as_set, as_rec, as_ent, same, Mode, is_permissive, Atom, never, true', false', bool, long}
 use Rattle.cedar.specs.Types.{string, anyset, anyent, Ty, atom, set, rec, act, ent, ext, is, eq_flag, eq_names}
@@ -15,26 +15,57 @@ use Rattle.forms.specs.Codes.{code}
 
 -- Kinds, as `kind_under` tests them.
 module _ (m : Mode) (j k : ℕ) where
-  pub under-never : j ≡ 0 → true ≡ kind_under m j k
+  pub under-bool : k ≡ 3 → kind_under m j k ≡ (eqb j 0 || (eqb j 1 || eqb j 2))
   unfolding kind_under
-  under-never e = rw (eq-eqb j 0 e) refl
+  under-bool e = rw e refl
 
-  module _ (n : j ≡ 0 → ⊥) where
-    pub under-bool : k ≡ 3 → kind_under m j k ≡ (eqb j 1 || eqb j 2)
-    unfolding kind_under
-    under-bool e = rw (ne_eqb j 0 n, e) refl
+  pub under-set : k ≡ 6 → kind_under m j k ≡ (eqb j 0 || eqb j 7)
+  unfolding kind_under
+  under-set e = rw e refl
 
-    pub under-set : k ≡ 6 → kind_under m j k ≡ eqb j 7
-    unfolding kind_under
-    under-set e = rw (ne_eqb j 0 n, e) refl
+  pub under-entity : k ≡ 9 → kind_under m j k ≡ (eqb j 0 || ((eqb j 10 || eqb j 11) && is_permissive m))
+  unfolding kind_under
+  under-entity e = rw e refl
 
-    pub under-entity : k ≡ 9 → kind_under m j k ≡ ((eqb j 10 || eqb j 11) && is_permissive m)
-    unfolding kind_under
-    under-entity e = rw (ne_eqb j 0 n, e) refl
+  pub under-other : (k ≡ 3 → ⊥) → (k ≡ 6 → ⊥) → (k ≡ 9 → ⊥) → eqb j 0 ≡ kind_under m j k
+  unfolding kind_under
+  under-other p q r = rw (ne_eqb k 3 p, ne_eqb k 6 q, ne_eqb k 9 r) (go (eqb j 0))
+    where
+      go : (x : Bool) → x ≡ x || false
+      go true = refl
+      go false = refl
 
-    pub under-other : (k ≡ 3 → ⊥) → (k ≡ 6 → ⊥) → (k ≡ 9 → ⊥) → false ≡ kind_under m j k
-    unfolding kind_under
-    under-other p q r = rw (ne_eqb j 0 n, ne_eqb k 3 p, ne_eqb k 6 q, ne_eqb k 9 r) refl
+-- Records, as `record_under` tests them.
+module _ (m : Mode) (o : Bool) (ns ks : List ℕ) where
+  pub open-permissive : is_permissive m ≡ true → true ≡ record_under m o ns true ks
+  unfolding record_under
+  open-permissive h = rw h (go o (eq_names ns ks))
+    where
+      go : (o e : Bool) → true ≡ (not o || true) && (e || (true && true))
+      go true true = refl
+      go true false = refl
+      go false true = refl
+      go false false = refl
+
+  pub open-strict : is_permissive m ≡ false → eq_names ns ks ≡ record_under m o ns true ks
+  unfolding record_under
+  open-strict h = rw h (go o (eq_names ns ks))
+    where
+      go : (o e : Bool) → e ≡ (not o || true) && (e || (false && true))
+      go true true = refl
+      go true false = refl
+      go false true = refl
+      go false false = refl
+
+  pub closed-under : o ≡ false → eq_names ns ks ≡ record_under m o ns false ks
+  unfolding record_under
+  closed-under h = rw h (go (is_permissive m) (eq_names ns ks))
+    where
+      go : (x e : Bool) → e ≡ (not false || false) && (e || (x && false))
+      go true true = refl
+      go true false = refl
+      go false true = refl
+      go false false = refl
 
 -- What holds of each atom.
 pub by-atom : (P : Atom → Type 0) → P never → P true' → P false' → P bool → P long → P string → P anyset → P anyent → (k : Atom) → P k
@@ -175,32 +206,3 @@ module _ (m : Mode) where
       go (suc zero) (suc zero) p q = refl
       go (suc zero) (suc (suc s)) p q = absurd (omega arith)
       go (suc (suc r)) s p q = absurd (omega arith)
-
-  -- Records, as `record_under` tests them.
-  module _ (o p : ℕ) (ns ks : List ℕ) where
-    pub open_no : o ≤ 1 → p < o → false ≡ record_under m (eqb o 1) ns (eqb p 1) ks
-    unfolding record_under
-    open_no h g = rw (eq-eqb o 1 (omega arith), ne_eqb p 1 (λ e. omega arith)) refl
-
-    module _ (h : p ≤ 1) (g : o ≤ p) where
-      opens : not (eqb o 1) || eqb p 1 ≡ true
-      opens = go o p h g
-        where
-          go : (o p : ℕ) → p ≤ 1 → o ≤ p → not (eqb o 1) || eqb p 1 ≡ true
-          go zero p h g = refl
-          go (suc zero) zero h g = absurd (omega arith)
-          go (suc zero) (suc zero) h g = refl
-          go (suc zero) (suc (suc p)) h g = absurd (omega arith)
-          go (suc (suc o)) p h g = absurd (omega arith)
-
-      pub open-same : eq_names ns ks ≡ true → true ≡ record_under m (eqb o 1) ns (eqb p 1) ks
-      unfolding record_under
-      open-same e = rw (opens, e) refl
-
-      pub open_more : eq_names ns ks ≡ false → is_permissive m ≡ true → eqb p 1 ≡ record_under m (eqb o 1) ns (eqb p 1) ks
-      unfolding record_under
-      open_more e f = rw (opens, e, f) refl
-
-      pub open-strict : eq_names ns ks ≡ false → is_permissive m ≡ false → false ≡ record_under m (eqb o 1) ns (eqb p 1) ks
-      unfolding record_under
-      open-strict e f = rw (opens, e, f) refl

@@ -1,45 +1,54 @@
-use native.Mathlib.Omega.{arith}
-use Rattle.forms.specs.Laws.Views.{not-empty, is-entity, is-action}
+use Rattle.std.proofs.Common.{◌≡◌, sym, ◌∙◌, arith}
+use Rattle.forms.specs.Kinds.{kind_number}
+use Rattle.forms.specs.Parts.{kind}
+use Rattle.forms.specs.declared.kinds.Kind.{Kind}
+use Rattle.forms.specs.declared.kinds.Kind.TheVariants as is_kind
+use Rattle.forms.specs.Laws.Kinds.{whole-kind, kind-differs}
+use Rattle.forms.specs.Laws.Views.{is-entity, is-action}
 use Rattle.relations.specs.Laws.Names.{entity-form, entity-names, first_of}
 use Rattle.relations.specs.Laws.Meets.{entity-any, entity-name, entity-action, entity-other}
 use Rattle.relations.proofs.is_consistent_with.entity_consistent.Goals as goal
 
-pub bounds-t0-0 : goal.bounds-t0-0
-bounds-t0-0 c = not-empty c.args.levels c.args.t0.now c.requires.t0_whole
+pub of-requires : goal.of-requires
+of-requires c = whole-kind c.args.levels c.args.t0.now c.requires.t0_whole
 
 pub slice_bounds-names_share-count : goal.slice_bounds-names_share-count
-slice_bounds-names_share-count c = omega (arith, (is-entity c.args.levels c.args.t0.now c.requires.t0_whole c.in-10.is).some)
+slice_bounds-names_share-count c = omega (arith, (is-entity c.args.levels c.args.t0.now c.requires.t0_whole (sym c.in-Entity.ensures)).some)
 
 pub slice_bounds-names_share-start : goal.slice_bounds-names_share-start
 slice_bounds-names_share-start c = slice_bounds-names_share-count c
 
 pub u16_at-requires : goal.u16_at-requires
-u16_at-requires c = omega (arith, (is-entity c.args.levels c.args.t0.now c.requires.t0_whole c.in-10.is).some)
+u16_at-requires c = omega (arith, (is-entity c.args.levels c.args.t0.now c.requires.t0_whole (sym c.in-Entity.ensures)).some)
 
-pub names_share-requires : goal.names_share-requires
-names_share-requires c =
-    let by-entity-names = entity-names (entity-form (is-entity c.args.levels c.args.t0.now c.requires.t0_whole c.in-10.is)) in
-    record { ascending = rw c.u16_at.ensures.0 by-entity-names; ascending_2 = first_of c.requires.entity_form }
+pub names_share-requires-clause-ascending : goal.names_share-requires-clause-ascending
+names_share-requires-clause-ascending c =
+    rw c.u16_at.ensures.0 (entity-names (entity-form (is-entity c.args.levels c.args.t0.now c.requires.t0_whole (sym c.in-Entity.ensures))))
 
-pub u16_at-requires-in-11 : goal.u16_at-requires-in-11
-u16_at-requires-in-11 c = omega (arith, (is-action c.args.levels c.args.t0.now c.requires.t0_whole c.in-11.is).some)
+pub names_share-requires-clause-ascending_2 : goal.names_share-requires-clause-ascending_2
+names_share-requires-clause-ascending_2 c = first_of c.requires.entity_form
 
-pub returns-in-9 : goal.returns-in-9
-returns-in-9 c = entity-any c.args.levels c.args.t0.now c.args.t1.now c.requires.t0_whole c.requires.entity_form c.in-9.is
+pub u16_at-requires-in-Action : goal.u16_at-requires-in-Action
+u16_at-requires-in-Action c = omega (arith, (is-action c.args.levels c.args.t0.now c.requires.t0_whole (sym c.in-Action.ensures)).some)
 
-pub returns-in-10 : goal.returns-in-10
-returns-in-10 c =
+pub returns-in-AnyEntity : goal.returns-in-AnyEntity
+returns-in-AnyEntity c = entity-any c.args.levels c.args.t0.now c.args.t1.now c.requires.t0_whole c.requires.entity_form (sym c.in-AnyEntity.ensures)
+
+pub returns-in-Entity : goal.returns-in-Entity
+returns-in-Entity c =
     let args = c.args in
-    entity-name args.levels args.t0.now args.t1.now c.requires.t0_whole c.requires.entity_form c.in-10.is c.u16_at.result
+    entity-name args.levels args.t0.now args.t1.now c.requires.t0_whole c.requires.entity_form (sym c.in-Entity.ensures) c.u16_at.result
     c.u16_at.ensures.0 c.names_share.result c.names_share.ensures
 
-pub returns-in-11 : goal.returns-in-11
-returns-in-11 c =
+pub returns-in-Action : goal.returns-in-Action
+returns-in-Action c =
     let args = c.args in
-    entity-action args.levels args.t0.now args.t1.now c.requires.t0_whole c.requires.entity_form c.in-11.is c.u16_at-in-11.result
-    c.u16_at-in-11-2.result c.u16_at-in-11.ensures.0 c.u16_at-in-11-2.ensures.0
+    entity-action args.levels args.t0.now args.t1.now c.requires.t0_whole c.requires.entity_form (sym c.in-Action.ensures) c.u16_at-in-Action.result
+    c.u16_at-in-Action-2.result c.u16_at-in-Action.ensures.0 c.u16_at-in-Action-2.ensures.0
 
 pub returns-in_default : goal.returns-in_default
 returns-in_default c =
-    let r = c.in_default.in_default-own.rest in
-    entity-other c.args.levels c.args.t0.now c.args.t1.now c.requires.t0_whole c.requires.entity_form r.0.0.1 r.0.1 r.1
+    let d = c.in_default in
+    let differs : (k : Kind) → (c.of.result ≡ k → ⊥) → kind c.args.t0.now ≡ kind_number k → ⊥ = λ k h e. kind-differs c.of.result k h (c.of.ensures ∙ e) in
+    entity-other c.args.levels c.args.t0.now c.args.t1.now c.requires.t0_whole c.requires.entity_form (differs is_kind.AnyEntity d.not-AnyEntity)
+    (differs is_kind.Entity d.not-Entity) (differs is_kind.Action d.not-Action)

@@ -1,16 +1,27 @@
-use mathlib.Core.Path.{refl, sym, ◌∙◌}
-use borrow.Author.Tests.{eq-eqb, ne_eqb}
+use Rattle.std.proofs.Common.{sym, ap, refl, ◌∙◌, inl, inr}
+use Rattle.forms.specs.Kinds.{kind_number}
+use Rattle.forms.specs.declared.kinds.Kind.TheVariants as is_kind
+use Rattle.forms.specs.Laws.Kinds.{kind-differs, kind-not, same-number}
 use Rattle.relations.specs.Laws.Meets.{meets-bool, meets-set, meets-other}
 use Rattle.relations.proofs.is_consistent_with.kind_consistent.Goals as goal
 
-pub returns-then-j-eq-TRUE : goal.returns-then-j-eq-TRUE
-returns-then-j-eq-TRUE c = sym (meets-bool c.args.j c.args.k c.in-3.is ∙ rw (eq-eqb c.args.j 1 c.if-j-eq-TRUE.true) refl)
+pub returns-in-True : goal.returns-in-True
+returns-in-True c =
+    sym (meets-bool (kind_number c.args.j) (kind_number c.args.k) (ap kind_number c.in-Bool.is)
+    ∙ elim c.in-True.is [ inl e ↦ rw e refl | inr e ↦ rw e refl ])
 
-pub returns-else-j-eq-TRUE : goal.returns-else-j-eq-TRUE
-returns-else-j-eq-TRUE c = sym (meets-bool c.args.j c.args.k c.in-3.is ∙ rw (ne_eqb c.args.j 1 c.if-j-eq-TRUE.false) refl)
+pub returns-in_default-matches : goal.returns-in_default-matches
+returns-in_default-matches c =
+    let d = c.in_default-matches in
+    sym (meets-bool (kind_number c.args.j) (kind_number c.args.k) (ap kind_number c.in-Bool.is)
+    ∙ rw (kind-not c.args.j is_kind.True d.not-True, kind-not c.args.j is_kind.False d.not-False) refl)
 
-pub returns-in-6 : goal.returns-in-6
-returns-in-6 c = sym (meets-set c.args.j c.args.k c.in-6.is)
+pub returns-in-AnySet : goal.returns-in-AnySet
+returns-in-AnySet c =
+    c.eq.ensures ∙ same-number c.args.j is_kind.Set
+    ∙ sym (meets-set (kind_number c.args.j) (kind_number c.args.k) (ap kind_number c.in-AnySet.is))
 
 pub returns-in_default : goal.returns-in_default
-returns-in_default c = meets-other c.args.j c.args.k c.in_default.in_default-own.rest.0.1 c.in_default.in_default-own.rest.1
+returns-in_default c =
+    meets-other (kind_number c.args.j) (kind_number c.args.k) (kind-differs c.args.k is_kind.Bool c.in_default.not-Bool)
+    (kind-differs c.args.k is_kind.AnySet c.in_default.not-AnySet)

@@ -1,5 +1,5 @@
-use Prim.Native.Nat.{◌+◌, ◌*◌}
-use Rattle.forms.specs.TypeBytes.{dec, dec_a}
+use Rattle.std.proofs.Common.{◌+◌, ◌*◌}
+use Rattle.forms.specs.AttributeRows.{attributes_of}
 use Rattle.relations.specs.Laws.Plain.{PlainLeft}
 use Rattle.relations.proofs.is_plain.+attributes_plain_is_plain.Given as goal
 
@@ -9,8 +9,8 @@ decreases-attributes_plain l = 2 * l.levels + 1
 abbrev pub decreases-is_plain : goal.decreases-is_plain
 decreases-is_plain l = 2 * l.levels
 
-abbrev pub invariant-attributes_plain-loop-left : goal.invariant-attributes_plain-loop-left
-invariant-attributes_plain-loop-left l = PlainLeft l.levels (dec_a (dec l.levels) l.n l.es l.bs) l.left l.e l.b
+abbrev pub invariant-attributes_plain-loop-attribute : goal.invariant-attributes_plain-loop-attribute
+invariant-attributes_plain-loop-attribute l = PlainLeft l.levels (attributes_of l.levels l.attributes) l.ahead
 
-abbrev pub decreases-attributes_plain-loop-left : goal.decreases-attributes_plain-loop-left
-decreases-attributes_plain-loop-left l = l.left
+abbrev pub decreases-attributes_plain-loop-attribute : goal.decreases-attributes_plain-loop-attribute
+decreases-attributes_plain-loop-attribute l = l.ahead.left

@@ -1,5 +1,5 @@
-use Prim.Native.Nat.{◌+◌, ◌*◌}
-use Rattle.forms.specs.TypeBytes.{dec, dec_a}
+use Rattle.std.proofs.Common.{◌+◌, ◌*◌}
+use Rattle.forms.specs.AttributeRows.{attributes_of}
 use Rattle.forms.specs.Modes.{as_mode}
 use Rattle.relations.specs.Laws.Walks.{Under}
 use Rattle.relations.proofs.is_subtype.+attributes_subtype_is_subtype.Given as goal
@@ -10,8 +10,9 @@ decreases-attributes_subtype l = 2 * l.levels + 1
 abbrev pub decreases-is_subtype : goal.decreases-is_subtype
 decreases-is_subtype l = 2 * l.levels
 
-abbrev pub invariant-attributes_subtype-loop-more : goal.invariant-attributes_subtype-loop-more
-invariant-attributes_subtype-loop-more l = Under (as_mode l.mode) l.levels (dec_a (dec l.levels) l.n l.es l.bs) (dec_a (dec l.levels) l.m l.fs l.cs) l.n l.left l.e l.b l.more l.f l.c
+abbrev pub invariant-attributes_subtype-loop-attribute : goal.invariant-attributes_subtype-loop-attribute
+invariant-attributes_subtype-loop-attribute l =
+    Under (as_mode l.mode) l.levels (attributes_of l.levels l.lower) (attributes_of l.levels l.upper) l.others l.ahead
 
-abbrev pub decreases-attributes_subtype-loop-more : goal.decreases-attributes_subtype-loop-more
-decreases-attributes_subtype-loop-more l = l.more
+abbrev pub decreases-attributes_subtype-loop-attribute : goal.decreases-attributes_subtype-loop-attribute
+decreases-attributes_subtype-loop-attribute l = l.ahead.left
