@@ -6,6 +6,7 @@ pub mod Bodies
 pub mod Types
 pub mod Sure
 pub mod RowsTwin
+pub mod RowsWithin
 pub mod TypeTwin
 pub mod Bytes
 pub mod Search

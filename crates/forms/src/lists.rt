@@ -6,32 +6,24 @@ ghost use Rattle.forms.specs.Limits.{as_limits};
 ghost use Rattle.forms.specs.ListBytes.{whole_ts};
 
 use crate::limits::Limits;
-use crate::numbers::u16_at;
-use crate::offsets::Offset;
+use crate::rows::Members;
 use crate::types::whole_type;
-use crate::widths::Width;
 
-// Whether n lengths and the bytes after them are n whole types, with no byte over.
-fn types_within(es: &[u8], bs: &[u8], n: usize, limits: Limits) -> bool
-    requires { length es.now ≡ 2 * n }
-    ensures { result ≡ whole_ts (as_limits limits) n es.now bs.now }
+// Whether what is left of a list are whole types, with no byte over.
+fn types_within(types: Members, limits: Limits) -> bool
+    requires { length types.entries.now ≡ 2 * types.left }
+    ensures { result ≡ whole_ts (as_limits limits) types.entry.left types.entry.entries.now types.entry.bodies.now }
 {
-    let mut e = es;
-    let mut b = bs;
-    let mut left = n;
-    while 0 < left {
-        let len = u16_at(e, 0);
-        if b.len() < len {
+    let mut ahead = types;
+    while 0 < ahead.left {
+        let Some(row) = ahead.take() else {
+            return false;
+        };
+        if !whole_type(row.body, limits) {
             return false;
         }
-        if !whole_type(&b[0..len], limits) {
-            return false;
-        }
-        e = &e[Width::MEMBER..];
-        b = &b[len..];
-        left -= 1;
     }
-    b.len() == 0
+    ahead.bodies.is_empty()
 }
 
 // Whether l is a whole list within the limits.
@@ -41,16 +33,8 @@ pub fn whole_list(l: &[u8], limits: Limits) -> bool
     if Limits::BLOCK_BYTES < l.len() {
         return false;
     }
-    if l.len() < Offset::LIST_ENTRIES {
+    let Some(types) = Members::within(l, 0) else {
         return false;
-    }
-    let n = u16_at(l, 0);
-    if Limits::LISTED < n {
-        return false;
-    }
-    let end = Offset::LIST_ENTRIES + Width::MEMBER * n;
-    if l.len() < end {
-        return false;
-    }
-    types_within(&l[Offset::LIST_ENTRIES..end], &l[end..], n, limits)
+    };
+    types.left <= Limits::LISTED && types_within(types, limits)
 }

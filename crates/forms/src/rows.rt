@@ -1,8 +1,8 @@
 // Tables of rows: entries of one width, whose last two bytes are the lengths of their bodies, and all bodies behind one another.
-ghost use Rattle.std.specs.Prelude.{◌≡◌, ◌+◌, ◌*◌, ◌≤◌, eqb, length, get_or};
+ghost use Rattle.std.specs.Prelude.{◌≡◌, ◌+◌, ◌*◌, ◌<◌, ◌≤◌, eqb, length, get_or};
 ghost use Rattle.forms.specs.Parts.{part, rest, rd};
 ghost use Rattle.forms.specs.Search.{Laid};
-ghost use Rattle.forms.specs.RowBytes.{Taken, Skipped, Sought};
+ghost use Rattle.forms.specs.RowBytes.{Within, TakenWithin, Taken, Skipped, Sought};
 
 use crate::kinds::Requirement;
 use crate::numbers::u16_at;
@@ -27,6 +27,12 @@ pub struct Rows<'a, const WIDTH: usize> {
 // What is left of an attribute list.
 pub type Attributes<'a> = Rows<'a, { Width::ATTRIBUTE }>;
 
+// Of members of a set, of a call's arguments or of a list's types.
+pub type Members<'a> = Rows<'a, { Width::MEMBER }>;
+
+// Of a record value's pairs.
+pub type Pairs<'a> = Rows<'a, { Width::PAIR }>;
+
 impl<'a> Row<'a> {
     // The name that its entry begins with.
     #[inline]
@@ -49,6 +55,7 @@ impl<'a> Row<'a> {
 
 impl<'a, const WIDTH: usize> Rows<'a, WIDTH> {
     // The table whose count stands at a place of a form.
+    #[inline]
     pub fn at(t: &'a [u8], at: usize) -> Rows<'a, WIDTH>
         requires { at + 2 + WIDTH * rd t.now at ≤ length t.now }
         ensures left { result.left ≡ rd t.now at }
@@ -56,13 +63,53 @@ impl<'a, const WIDTH: usize> Rows<'a, WIDTH> {
         ensures bodies { result.bodies.now ≡ rest (at + 2 + WIDTH * rd t.now at) t.now }
     {
         let left = u16_at(t, at);
-        let start = at + Width::COUNT;
-        let end = start + WIDTH * left;
+        let (entries, bodies) = t[at + Width::COUNT..].split_at(WIDTH * left);
         Rows {
+            left,
+            entries,
+            bodies,
+        }
+    }
+
+    // The same, if the form has room for its entries.
+    #[inline]
+    pub fn within(t: &'a [u8], at: usize) -> Option<Rows<'a, WIDTH>>
+        requires { (at < 4) × (WIDTH < 256) }
+        ensures { Within WIDTH at t.now result }
+    {
+        let start = at + Width::COUNT;
+        if t.len() < start {
+            return None;
+        }
+        let left = u16_at(t, at);
+        let end = start + WIDTH * left;
+        if t.len() < end {
+            return None;
+        }
+        Some(Rows {
             left,
             entries: &t[start..end],
             bodies: &t[end..],
+        })
+    }
+
+    // Takes the first row, if its body is there.
+    #[inline]
+    pub fn take(&mut self) -> Option<Row<'a>>
+        requires some { 0 < self.old.left }
+        requires sized { (2 ≤ WIDTH) × (length self.old.entries.now ≡ WIDTH * self.old.left) }
+        ensures { TakenWithin WIDTH self.old.left self.old.entries.now self.old.bodies.now self.new.left self.new.entries.now self.new.bodies.now result }
+    {
+        let (head, entries) = self.entries.split_at(WIDTH);
+        let len = u16_at(head, WIDTH - Width::LENGTH);
+        if self.bodies.len() < len {
+            return None;
         }
+        let (body, bodies) = self.bodies.split_at(len);
+        self.left -= 1;
+        self.entries = entries;
+        self.bodies = bodies;
+        Some(Row { head, body })
     }
 
     // Takes the first row.
@@ -83,6 +130,7 @@ impl<'a, const WIDTH: usize> Rows<'a, WIDTH> {
     }
 
     // Passes the rows whose names are below a name.
+    #[inline]
     pub fn skip_below(&mut self, name: usize)
         requires { Laid WIDTH self.old.left self.old.entries.now self.old.bodies.now }
         ensures { Skipped WIDTH self.old.left name self.old.entries.now self.old.bodies.now self.new.left self.new.entries.now self.new.bodies.now }
@@ -96,6 +144,7 @@ impl<'a, const WIDTH: usize> Rows<'a, WIDTH> {
     }
 
     // The row of a name, where the rows below the name end, which are passed for good.
+    #[inline]
     pub fn find(&mut self, name: usize) -> Option<Row<'a>>
         requires { Laid WIDTH self.old.left self.old.entries.now self.old.bodies.now }
         ensures passed { Skipped WIDTH self.old.left name self.old.entries.now self.old.bodies.now self.new.left self.new.entries.now self.new.bodies.now }

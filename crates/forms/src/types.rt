@@ -10,6 +10,7 @@ use crate::kinds::{Kind, Openness, Requirement};
 use crate::limits::Limits;
 use crate::numbers::u16_at;
 use crate::offsets::Offset;
+use crate::rows::Attributes;
 use crate::widths::Width;
 
 // Whether n names ascend strictly.
@@ -66,36 +67,24 @@ fn attributes_within(t: &[u8], at: usize, levels: usize) -> bool
     requires { at < 4 }
     ensures { result ≡ table_fits attr_row (λ _. whole levels) 0 at t.now }
 {
-    let start = at + Width::COUNT;
-    if t.len() < start {
+    let Some(attributes) = Attributes::within(t, at) else {
         return false;
-    }
-    let n = u16_at(t, at);
-    let end = start + Width::ATTRIBUTE * n;
-    if t.len() < end {
-        return false;
-    }
-    let mut e = &t[start..end];
-    let mut b = &t[end..];
-    let mut left = n;
+    };
+    let mut ahead = attributes;
     let mut low = 0;
-    while 0 < left {
-        if !attribute_follows(e, low) {
+    while 0 < ahead.left {
+        let Some(attribute) = ahead.take() else {
+            return false;
+        };
+        if !attribute_follows(attribute.head, low) {
             return false;
         }
-        let len = u16_at(e, Offset::BODY_LENGTH);
-        if b.len() < len {
+        if !type_within(attribute.body, levels) {
             return false;
         }
-        if !type_within(&b[0..len], levels) {
-            return false;
-        }
-        low = u16_at(e, 0) + 1;
-        e = &e[Width::ATTRIBUTE..];
-        b = &b[len..];
-        left -= 1;
+        low = u16_at(attribute.head, 0) + 1;
     }
-    b.len() == 0
+    ahead.bodies.is_empty()
 }
 
 // Whether t is a whole type form of at most so many levels. A loop that calls nothing goes down a chain of sets. It walks a
@@ -119,9 +108,11 @@ pub fn type_within(t: &[u8], levels: usize) -> bool
         b = &b[Offset::ELEMENT..];
         left -= 1;
     }
-    let k = b[0];
-    match k {
-        Kind::RECORD => {
+    let Ok(kind) = Kind::try_from(b[0]) else {
+        return false;
+    };
+    match kind {
+        Kind::Record => {
             if b.len() < Offset::RECORD_COUNT {
                 return false;
             }
@@ -130,15 +121,10 @@ pub fn type_within(t: &[u8], levels: usize) -> bool
             }
             attributes_within(b, Offset::RECORD_COUNT, left - 1)
         }
-        Kind::ENTITY => entity_within(b),
-        Kind::ACTION => attributes_within(b, Offset::ACTION_COUNT, left - 1),
-        Kind::EXTENSION => b.len() == Offset::EXTENSION_END,
-        _ => {
-            if Kind::EXTENSION < k {
-                return false;
-            }
-            b.len() == Offset::ELEMENT
-        }
+        Kind::Entity => entity_within(b),
+        Kind::Action => attributes_within(b, Offset::ACTION_COUNT, left - 1),
+        Kind::Extension => b.len() == Offset::EXTENSION_END,
+        _ => b.len() == Offset::ELEMENT,
     }
 }
 

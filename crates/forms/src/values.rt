@@ -10,7 +10,7 @@ use crate::kinds::ValueKind;
 use crate::limits::Limits;
 use crate::numbers::u16_at;
 use crate::offsets::ValueOffset;
-use crate::widths::Width;
+use crate::rows::{Members, Pairs};
 
 // Whether the values whose count stands at `at` are whole, each within so many levels, with no byte over.
 #[cycle(members_within_pairs_within_value_within)]
@@ -18,31 +18,19 @@ fn members_within(v: &[u8], at: usize, levels: usize) -> bool
     requires { at < 4 }
     ensures { result ≡ table_fits member_row (λ _. whole_v levels) tt at v.now }
 {
-    let start = at + Width::COUNT;
-    if v.len() < start {
+    let Some(members) = Members::within(v, at) else {
         return false;
-    }
-    let n = u16_at(v, at);
-    let end = start + Width::MEMBER * n;
-    if v.len() < end {
-        return false;
-    }
-    let mut e = &v[start..end];
-    let mut b = &v[end..];
-    let mut left = n;
-    while 0 < left {
-        let len = u16_at(e, 0);
-        if b.len() < len {
+    };
+    let mut ahead = members;
+    while 0 < ahead.left {
+        let Some(member) = ahead.take() else {
+            return false;
+        };
+        if !value_within(member.body, levels) {
             return false;
         }
-        if !value_within(&b[0..len], levels) {
-            return false;
-        }
-        e = &e[Width::MEMBER..];
-        b = &b[len..];
-        left -= 1;
     }
-    b.len() == 0
+    ahead.bodies.is_empty()
 }
 
 // Whether the pairs of a record value are whole, each within so many levels, with no byte over.
@@ -50,36 +38,24 @@ fn members_within(v: &[u8], at: usize, levels: usize) -> bool
 fn pairs_within(v: &[u8], levels: usize) -> bool
     ensures { result ≡ table_fits pair_row (λ _. whole_v levels) 0 1 v.now }
 {
-    if v.len() < ValueOffset::RECORD_ENTRIES {
+    let Some(pairs) = Pairs::within(v, ValueOffset::RECORD_COUNT) else {
         return false;
-    }
-    let n = u16_at(v, ValueOffset::RECORD_COUNT);
-    let end = ValueOffset::RECORD_ENTRIES + Width::PAIR * n;
-    if v.len() < end {
-        return false;
-    }
-    let mut e = &v[ValueOffset::RECORD_ENTRIES..end];
-    let mut b = &v[end..];
-    let mut left = n;
+    };
+    let mut ahead = pairs;
     let mut low = 0;
-    while 0 < left {
-        let name = u16_at(e, 0);
-        if name < low {
+    while 0 < ahead.left {
+        let Some(pair) = ahead.take() else {
+            return false;
+        };
+        if pair.name() < low {
             return false;
         }
-        let len = u16_at(e, ValueOffset::PAIR_LENGTH);
-        if b.len() < len {
+        if !value_within(pair.body, levels) {
             return false;
         }
-        if !value_within(&b[0..len], levels) {
-            return false;
-        }
-        low = name + 1;
-        e = &e[Width::PAIR..];
-        b = &b[len..];
-        left -= 1;
+        low = u16_at(pair.head, 0) + 1;
     }
-    b.len() == 0
+    ahead.bodies.is_empty()
 }
 
 // Whether v is a whole value form of at most so many levels.
@@ -90,28 +66,23 @@ pub fn value_within(v: &[u8], levels: usize) -> bool
     if levels == 0 {
         return false;
     }
-    if v.len() == 0 {
+    if v.is_empty() {
         return false;
     }
-    let k = v[0];
-    match k {
-        ValueKind::LONG => v.len() == ValueOffset::LONG_END,
-        ValueKind::STRING => {
-            if v.len() < ValueOffset::STRING {
-                return false;
-            }
-            v.len() == ValueOffset::STRING + u16_at(v, ValueOffset::STRING_COUNT)
+    let Ok(kind) = ValueKind::try_from(v[0]) else {
+        return false;
+    };
+    match kind {
+        ValueKind::False | ValueKind::True => v.len() == ValueOffset::BOOLEAN_END,
+        ValueKind::Long => v.len() == ValueOffset::LONG_END,
+        ValueKind::String => {
+            ValueOffset::STRING <= v.len()
+                && v.len() == ValueOffset::STRING + u16_at(v, ValueOffset::STRING_COUNT)
         }
-        ValueKind::UID => v.len() == ValueOffset::UID_END,
-        ValueKind::SET => members_within(v, ValueOffset::SET_COUNT, levels - 1),
-        ValueKind::RECORD => pairs_within(v, levels - 1),
-        ValueKind::CALL => members_within(v, ValueOffset::CALL_COUNT, levels - 1),
-        _ => {
-            if ValueKind::CALL < k {
-                return false;
-            }
-            v.len() == ValueOffset::BOOLEAN_END
-        }
+        ValueKind::Uid => v.len() == ValueOffset::UID_END,
+        ValueKind::Set => members_within(v, ValueOffset::SET_COUNT, levels - 1),
+        ValueKind::Record => pairs_within(v, levels - 1),
+        ValueKind::Call => members_within(v, ValueOffset::CALL_COUNT, levels - 1),
     }
 }
 

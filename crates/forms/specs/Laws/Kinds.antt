@@ -65,6 +65,21 @@ kind-differs j k h e = h (kind-same j k e)
 pub kind-not : (j k : Kind) → (j ≡ k → ⊥) → eqb (kind_number j) (kind_number k) ≡ false
 kind-not j k h = ne_eqb (kind_number j) (kind_number k) (kind-differs j k h)
 
+pub kind-most : (k : Kind) → kind_number k ≤ 12
+kind-most kind_is.Never = omega arith
+kind-most kind_is.True = omega arith
+kind-most kind_is.False = omega arith
+kind-most kind_is.Bool = omega arith
+kind-most kind_is.Long = omega arith
+kind-most kind_is.String = omega arith
+kind-most kind_is.AnySet = omega arith
+kind-most kind_is.Set = omega arith
+kind-most kind_is.Record = omega arith
+kind-most kind_is.AnyEntity = omega arith
+kind-most kind_is.Entity = omega arith
+kind-most kind_is.Action = omega arith
+kind-most kind_is.Extension = omega arith
+
 -- What `==` of kinds answers.
 tag-number : (k : Kind) → tag_of the_type k ≡ kind_number k
 tag-number kind_is.Never = refl

@@ -1,7 +1,7 @@
 -- Rows of a table, taken one by one. Assumes nothing.
 use Rattle.std.specs.Prelude.{◌≡◌, List, ℕ, zero, suc, ◌+◌, ◌*◌, ◌-◌, ◌≤◌, ◌<◌, Some, None, Option, length, get_or}
 use Rattle.std.proofs.Math.Path.{refl}
-use Rattle.std.proofs.Common.{ap, sym, ◌∙◌, arith, mul-zero, sub-one, get_or-take}
+use Rattle.std.proofs.Common.{ap, sym, ◌∙◌, arith, mul-zero, sub-one, get_or-take, mul-le-mul_left}
 use Rattle.forms.specs.Parts.{rest, rd}
 use Rattle.forms.specs.Search.{Laid, below, used}
 use Rattle.forms.specs.RowBytes.{IsFirst, TookFirst, Taken, Skipped}
@@ -102,3 +102,7 @@ module _ {w n : ℕ} {es bs : List ℕ} where
 
   pub skipped-over : (name : ℕ) → n ≤ 0 → Skipped w n name es bs n es bs
   skipped-over name h = skipped-none name (below_none w n name es h)
+
+-- So many entries of a width are no more bytes than fit.
+pub width-room : (w n : ℕ) → w < 256 → n < 65536 → w * n ≤ 16777216
+width-room w n p q = let f : w * n ≤ w * 65536 = mul-le-mul_left w (omega arith) in omega (arith, f)

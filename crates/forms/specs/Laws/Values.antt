@@ -1,14 +1,21 @@
 -- Laws of value forms. Assumes nothing.
 use Rattle.std.specs.Prelude.{◌≡◌, List, [], ◌∷◌, Bool, true, false, ◌&&◌, ℕ, zero, suc, ◌+◌, ◌-◌, ◌≤◌, ◌<◌, eqb, leb, ltb, length}
 use Rattle.std.proofs.Math.Path.{refl}
-use Rattle.std.proofs.Common.{ap, sym, ◌∙◌, sub-one, arith, ltb-true, le-leb, lt-ltb, le-ltb}
+use Rattle.std.proofs.Common.{ap, sym, ◌∙◌, sub-one, arith, ltb-true, eqb-true, le-leb, lt-ltb, le-ltb}
 use Rattle.std.proofs.Math.Decide.{dec_le}
 use Rattle.std.proofs.Math.ListN.{get_or-eq_default}
-use Rattle.std.proofs.lemmas.Bool.{lt-leb}
+use Rattle.std.proofs.lemmas.Bool.{lt-leb, eqb-false}
 use Rattle.cedar.specs.ValueForm.{ValueKind, bool_kind, long_kind, string_kind, uid_kind, set_kind, record_kind, call_kind, no_kind, value_kind}
 use Rattle.forms.specs.Parts.{rd, kind}
 use Rattle.forms.specs.ValueBytes.{whole_v_as, dec_v_as, whole_v, dec_v}
 use Rattle.forms.specs.Laws.Parts.{and_l, and_r, and-not-l, and_yes, pos}
+
+-- What `is_empty` answers.
+pub empty : (b : List ℕ) (x : Bool) → x ≡ eqb (length b) 0 → x ≡ true → length b ≡ 0
+empty b x q h = eqb-true (length b) 0 (sym q ∙ h)
+
+pub not_empty : (b : List ℕ) (x : Bool) → x ≡ eqb (length b) 0 → x ≡ false → length b ≡ 0 → ⊥
+not_empty b x q h = eqb-false (length b) 0 (sym q ∙ h)
 
 -- A form of some levels, by its kind.
 pub value_none : (l : ℕ) (b : List ℕ) → l ≡ 0 → false ≡ whole_v l b

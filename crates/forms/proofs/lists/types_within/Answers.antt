@@ -1,38 +1,24 @@
-use mathlib.Core.Path.{refl}
-use mathlib.Core.Bool.{true}
-use Rattle.forms.specs.Laws.Rows.{rows_start, rows_end, rows_short, rows-body, rows-again}
+use Rattle.std.proofs.Common.{refl}
+use Rattle.std.proofs.Math.Bool.{true}
+use Rattle.forms.specs.Laws.RowsWithin.{within-short, within-body, within-again}
+use Rattle.forms.specs.Laws.Rows.{rows_start, rows_end}
+use Rattle.forms.specs.Laws.ValueTwin.{member-local}
 use Rattle.forms.proofs.lists.types_within.Goals as goal
 
-pub loop-left-init : goal.loop-left-init
-loop-left-init c =
-    let pre = c.requires in
-    rows_start pre
+pub loop-ahead-init : goal.loop-ahead-init
+loop-ahead-init c = rows_start c.requires
 
-pub returns-then-b-len : goal.returns-then-b-len
-returns-then-b-len c =
-    let u16-at = c.u16_at-len in
-    let loop-test = c.loop-left-test in
-    let loop = c.loop-left in
-    rows_short loop.invariant loop-test.true u16-at.result u16-at.ensures.0 c.if-b-len.true
+pub returns-in_default : goal.returns-in_default
+returns-in_default c = within-short c.loop-ahead.invariant c.loop-ahead-test.true c.in_default.ensures
 
 pub returns-then-not-whole_type : goal.returns-then-not-whole_type
 returns-then-not-whole_type c =
-    let whole-type = c.whole_type in
-    let u16-at = c.u16_at-len in
-    let loop-test = c.loop-left-test in
-    let loop = c.loop-left in
-    rows-body loop.invariant loop-test.true u16-at.result u16-at.ensures.0 whole-type.result whole-type.ensures c.if-not-whole_type.true-raw
+    within-body c.loop-ahead.invariant member-local c.in-Some.ensures.0 c.whole_type.result c.whole_type.ensures c.if-not-whole_type.true
 
-pub loop-left-preserved : goal.loop-left-preserved
-loop-left-preserved c =
-    let if2 = c.if-not-whole_type in
-    let whole-type = c.whole_type in
-    let if1 = c.if-b-len in
-    let u16-at = c.u16_at-len in
-    let loop-test = c.loop-left-test in
-    let loop = c.loop-left in
-    rows-again loop.invariant loop-test.true u16-at.result u16-at.ensures.0 true refl refl if1.false whole-type.result whole-type.ensures
-    if2.false-raw tt refl
+pub loop-ahead-preserved : goal.loop-ahead-preserved
+loop-ahead-preserved c =
+    within-again c.loop-ahead.invariant member-local c.in-Some.ensures.0 true refl refl c.in-Some.ensures.1 c.whole_type.result c.whole_type.ensures
+    c.if-not-whole_type.false tt refl
 
 pub returns : goal.returns
-returns c = rows_end c.loop-left.invariant c.loop-left-test.false _ refl
+returns c = rows_end c.loop-ahead.invariant c.loop-ahead-test.false c.is_empty.result c.is_empty.ensures

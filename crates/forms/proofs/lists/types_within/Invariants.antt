@@ -5,8 +5,10 @@ use Rattle.forms.specs.ListBytes.{type_fits}
 use Rattle.forms.specs.Laws.Rows.{RowsLeft}
 use Rattle.forms.proofs.lists.types_within.Given as goal
 
-abbrev pub invariant-loop-left : goal.invariant-loop-left
-invariant-loop-left l = RowsLeft member_row (λ _. type_fits (as_limits l.limits)) none_left l.n tt l.es l.bs l.left tt l.e l.b
+abbrev pub invariant-loop-ahead : goal.invariant-loop-ahead
+invariant-loop-ahead l =
+    RowsLeft member_row (λ _. type_fits (as_limits l.limits)) none_left l.types.left tt l.types.entries.now l.types.bodies.now l.ahead.left tt
+    l.ahead.entries.now l.ahead.bodies.now
 
-abbrev pub decreases-loop-left : goal.decreases-loop-left
-decreases-loop-left l = l.left
+abbrev pub decreases-loop-ahead : goal.decreases-loop-ahead
+decreases-loop-ahead l = l.ahead.left

@@ -1,95 +1,43 @@
-use mathlib.Core.Path.{refl, ap, sym, ◌∙◌}
-use Prim.Native.Nat.{◌+◌, ◌*◌}
-use native.Mathlib.Omega.{arith}
+use Rattle.std.proofs.Common.{◌≡◌, ◌∙◌, ap, sym, refl, arith}
+use Rattle.std.specs.Prelude.{ℕ, ◌+◌}
+use Rattle.forms.specs.Kinds.{kind_number}
+use Rattle.forms.specs.Parts.{kind}
 use Rattle.forms.specs.TypeBytes.{attr_row, whole}
-use Rattle.forms.specs.Laws.Parts.{length_part}
-use Rattle.forms.specs.Laws.Rows.{rows_start, rows_end, rows-unfit, rows_short, rows-body, rows-again, table-short, table-over, table-open}
+use Rattle.forms.specs.declared.kinds.Kind.{Kind}
+use Rattle.forms.specs.declared.kinds.Kind.TheVariants as is_kind
+use Rattle.forms.specs.Laws.Kinds.{kind-differs, kind-most}
+use Rattle.forms.specs.Laws.RowsWithin.{within-short, within-unfit, within-body, within-again, within-rows, within-start}
+use Rattle.forms.specs.Laws.Rows.{rows_end}
+use Rattle.forms.specs.Laws.TypeTwin.{attr-local}
 use Rattle.forms.specs.Laws.Types.{sets-start, sets-again, whole-none, whole-empty, whole_by, record-short, record-flag, record-open}
 use Rattle.forms.specs.Laws.Types.{unknown-not, atom-open}
-use Prim.Native.Nat.{ℕ}
 use Rattle.forms.proofs.types.+attributes_within_type_within.Goals as goal
 
-pub attributes_within-returns-then-t-start : goal.attributes_within-returns-then-t-start
-attributes_within-returns-then-t-start t c =
-    let args = c.args in
-    table-short attr_row (λ _. whole args.levels) 0 args.at args.t.now c.if-t-start.true
+pub attributes_within-loop-ahead-init : goal.attributes_within-loop-ahead-init
+attributes_within-loop-ahead-init t c = within-start attr_row (λ _. whole c.args.levels) 0 c.args.at c.args.t.now refl c.in-Some.ensures
 
-pub attributes_within-returns-then-t-end : goal.attributes_within-returns-then-t-end
-attributes_within-returns-then-t-end t c =
-    let u16-at = c.u16_at-n in
-    let args = c.args in
-    table-over attr_row (λ _. whole args.levels) 0 args.at args.t.now u16-at.result u16-at.ensures.0 c.if-t-end.true
-
-pub attributes_within-loop-left-init : goal.attributes_within-loop-left-init
-attributes_within-loop-left-init t c =
-    let if2 = c.if-t-end in
-    let u16-at = c.u16_at-n in
-    let args = c.args in
-    rows_start (omega (arith, length_part (args.at + 2) (args.at + 2 + 5 * u16-at.result) args.t.now if2.false))
+pub attributes_within-returns-in_default-take : goal.attributes_within-returns-in_default-take
+attributes_within-returns-in_default-take t c =
+    within-short c.loop-ahead.invariant c.loop-ahead-test.true c.in_default-take.ensures ∙ sym (within-rows attr_row (λ _. whole c.args.levels) 0 c.args.at c.args.t.now refl c.in-Some.ensures)
 
 pub attributes_within-returns-then-not-attribute_follows : goal.attributes_within-returns-then-not-attribute_follows
 attributes_within-returns-then-not-attribute_follows t c =
-    let attribute-follows = c.attribute_follows in
-    let loop-test = c.loop-left-test in
-    let loop = c.loop-left in
-    let if2 = c.if-t-end in
-    let u16-at = c.u16_at-n in
-    let if1 = c.if-t-start in
-    let args = c.args in
-    let by-rows-unfit = rows-unfit loop.invariant loop-test.true attribute-follows.result attribute-follows.ensures c.if-not-attribute_follows.true-raw in
-    by-rows-unfit ∙
-    sym (table-open attr_row (λ _. whole args.levels) 0 args.at args.t.now u16-at.result u16-at.ensures.0 if1.false if2.false)
-
-pub attributes_within-returns-then-b-len : goal.attributes_within-returns-then-b-len
-attributes_within-returns-then-b-len t c =
-    let u16-at2 = c.u16_at-len in
-    let loop-test = c.loop-left-test in
-    let loop = c.loop-left in
-    let if2 = c.if-t-end in
-    let u16-at = c.u16_at-n in
-    let if1 = c.if-t-start in
-    let args = c.args in
-    let by-rows-short = rows_short loop.invariant loop-test.true u16-at2.result u16-at2.ensures.0 c.if-b-len.true in
-    by-rows-short ∙
-    sym (table-open attr_row (λ _. whole args.levels) 0 args.at args.t.now u16-at.result u16-at.ensures.0 if1.false if2.false)
+    within-unfit c.loop-ahead.invariant attr-local c.in-Some-take.ensures.0 c.attribute_follows.result c.attribute_follows.ensures
+    c.if-not-attribute_follows.true ∙ sym (within-rows attr_row (λ _. whole c.args.levels) 0 c.args.at c.args.t.now refl c.in-Some.ensures)
 
 pub attributes_within-returns-then-not-type_within : goal.attributes_within-returns-then-not-type_within
 attributes_within-returns-then-not-type_within t c =
-    let type-within-step = c.type_within in
-    let u16-at2 = c.u16_at-len in
-    let loop-test = c.loop-left-test in
-    let loop = c.loop-left in
-    let if2 = c.if-t-end in
-    let u16-at = c.u16_at-n in
-    let if1 = c.if-t-start in
-    let args = c.args in
-    let by-rows-body = rows-body loop.invariant loop-test.true u16-at2.result u16-at2.ensures.0 type-within-step.result type-within-step.ensures
-    c.if-not-type_within.true-raw in
-    by-rows-body ∙
-    sym (table-open attr_row (λ _. whole args.levels) 0 args.at args.t.now u16-at.result u16-at.ensures.0 if1.false if2.false)
+    within-body c.loop-ahead.invariant attr-local c.in-Some-take.ensures.0 c.type_within.result c.type_within.ensures c.if-not-type_within.true
+    ∙ sym (within-rows attr_row (λ _. whole c.args.levels) 0 c.args.at c.args.t.now refl c.in-Some.ensures)
 
-pub attributes_within-loop-left-preserved : goal.attributes_within-loop-left-preserved
-attributes_within-loop-left-preserved t c =
-    let u16-at3 = c.u16_at-low in
-    let if5 = c.if-not-type_within in
-    let type-within-step = c.type_within in
-    let if4 = c.if-b-len in
-    let u16-at2 = c.u16_at-len in
-    let if3 = c.if-not-attribute_follows in
-    let attribute-follows = c.attribute_follows in
-    let loop-test = c.loop-left-test in
-    let loop = c.loop-left in
-    rows-again loop.invariant loop-test.true u16-at2.result u16-at2.ensures.0 attribute-follows.result attribute-follows.ensures if3.false-raw
-    if4.false type-within-step.result type-within-step.ensures if5.false-raw _ (ap (λ (j : ℕ). j + 1) u16-at3.ensures.0)
+pub attributes_within-loop-ahead-preserved : goal.attributes_within-loop-ahead-preserved
+attributes_within-loop-ahead-preserved t c =
+    within-again c.loop-ahead.invariant attr-local c.in-Some-take.ensures.0 c.attribute_follows.result c.attribute_follows.ensures
+    c.if-not-attribute_follows.false c.in-Some-take.ensures.1 c.type_within.result c.type_within.ensures c.if-not-type_within.false
+    (c.u16_at-low.result + 1) (ap (λ (j : ℕ). j + 1) c.u16_at-low.ensures.0)
 
 pub attributes_within-returns : goal.attributes_within-returns
-attributes_within-returns t c =
-    let if2 = c.if-t-end in
-    let u16-at = c.u16_at-n in
-    let if1 = c.if-t-start in
-    let args = c.args in
-    rows_end c.loop-left.invariant c.loop-left-test.false _ refl ∙
-    sym (table-open attr_row (λ _. whole args.levels) 0 args.at args.t.now u16-at.result u16-at.ensures.0 if1.false if2.false)
+attributes_within-returns t c = rows_end c.loop-ahead.invariant c.loop-ahead-test.false c.is_empty.result c.is_empty.ensures ∙ sym (within-rows attr_row (λ _. whole c.args.levels) 0 c.args.at c.args.t.now refl c.in-Some.ensures)
 
 pub type_within-loop-left-init : goal.type_within-loop-left-init
 type_within-loop-left-init t c =
@@ -111,74 +59,54 @@ type_within-loop-left-preserved t c =
     let loop = c.loop-left in
     sets-again loop.invariant if1.false if2.false c.if-b-ne-SET.false
 
-pub type_within-returns-then-b-lt-RECORD_COUNT : goal.type_within-returns-then-b-lt-RECORD_COUNT
-type_within-returns-then-b-lt-RECORD_COUNT t c =
-    let if2 = c.if-b-eq0 in
-    let if1 = c.if-left-eq0 in
-    let loop = c.loop-left in
-    record-short loop.left loop.b.now if1.false if2.false c.in-8.is c.if-b-lt-RECORD_COUNT.true ∙ sym loop.invariant.same
-
-pub type_within-returns-then-b-gt-OPEN : goal.type_within-returns-then-b-gt-OPEN
-type_within-returns-then-b-gt-OPEN t c =
-    let if2 = c.if-b-eq0 in
-    let if1 = c.if-left-eq0 in
-    let loop = c.loop-left in
-    record-flag loop.left loop.b.now if1.false if2.false c.in-8.is c.if-b-gt-OPEN.true ∙ sym loop.invariant.same
-
 pub type_within-attributes_within-requires : goal.type_within-attributes_within-requires
 type_within-attributes_within-requires t c =
     let loop = c.loop-left in
     omega (arith, loop.invariant.few)
 
-pub type_within-attributes_within-requires-in-11 : goal.type_within-attributes_within-requires-in-11
-type_within-attributes_within-requires-in-11 t c =
+pub type_within-returns-in_default : goal.type_within-returns-in_default
+type_within-returns-in_default t c =
     let loop = c.loop-left in
-    omega (arith, loop.invariant.few)
+    unknown-not loop.left loop.b.now c.if-left-eq0.false c.if-b-eq0.false c.in_default.ensures ∙ sym loop.invariant.same
 
-pub type_within-returns-then-k-gt-EXTENSION : goal.type_within-returns-then-k-gt-EXTENSION
-type_within-returns-then-k-gt-EXTENSION t c =
-    let if2 = c.if-b-eq0 in
-    let if1 = c.if-left-eq0 in
+pub type_within-returns-in-Entity : goal.type_within-returns-in-Entity
+type_within-returns-in-Entity t c =
     let loop = c.loop-left in
-    unknown-not loop.left loop.b.now if1.false if2.false c.if-k-gt-EXTENSION.true ∙ sym loop.invariant.same
+    c.entity_within.ensures ∙ sym (loop.invariant.same ∙ whole_by loop.left loop.b.now c.if-left-eq0.false c.if-b-eq0.false 10 (sym c.in-Ok.ensures ∙ ap kind_number c.in-Entity.is))
+
+pub type_within-returns-in-Action : goal.type_within-returns-in-Action
+type_within-returns-in-Action t c =
+    let loop = c.loop-left in
+    c.attributes_within-in-Action.ensures ∙ sym (loop.invariant.same ∙ whole_by loop.left loop.b.now c.if-left-eq0.false c.if-b-eq0.false 11 (sym c.in-Ok.ensures ∙ ap kind_number c.in-Action.is))
+
+pub type_within-returns-in-Extension : goal.type_within-returns-in-Extension
+type_within-returns-in-Extension t c =
+    let loop = c.loop-left in
+    sym (loop.invariant.same ∙ whole_by loop.left loop.b.now c.if-left-eq0.false c.if-b-eq0.false 12 (sym c.in-Ok.ensures ∙ ap kind_number c.in-Extension.is))
+
+pub type_within-returns-then-b-lt-RECORD_COUNT : goal.type_within-returns-then-b-lt-RECORD_COUNT
+type_within-returns-then-b-lt-RECORD_COUNT t c =
+    let loop = c.loop-left in
+    record-short loop.left loop.b.now c.if-left-eq0.false c.if-b-eq0.false (sym c.in-Ok.ensures ∙ ap kind_number c.in-Record.is) c.if-b-lt-RECORD_COUNT.true
+    ∙ sym loop.invariant.same
+
+pub type_within-returns-then-b-gt-OPEN : goal.type_within-returns-then-b-gt-OPEN
+type_within-returns-then-b-gt-OPEN t c =
+    let loop = c.loop-left in
+    record-flag loop.left loop.b.now c.if-left-eq0.false c.if-b-eq0.false (sym c.in-Ok.ensures ∙ ap kind_number c.in-Record.is) c.if-b-gt-OPEN.true ∙ sym loop.invariant.same
 
 pub type_within-returns-else-b-gt-OPEN : goal.type_within-returns-else-b-gt-OPEN
 type_within-returns-else-b-gt-OPEN t c =
-    let if4 = c.if-b-lt-RECORD_COUNT in
-    let if2 = c.if-b-eq0 in
-    let if1 = c.if-left-eq0 in
     let loop = c.loop-left in
-    let by-record-open = record-open loop.left loop.b.now if1.false if2.false c.in-8.is if4.false c.if-b-gt-OPEN.false in
-    c.attributes_within.ensures ∙ sym (loop.invariant.same ∙ by-record-open)
+    let table = record-open loop.left loop.b.now c.if-left-eq0.false c.if-b-eq0.false (sym c.in-Ok.ensures ∙ ap kind_number c.in-Record.is) c.if-b-lt-RECORD_COUNT.false c.if-b-gt-OPEN.false in
+    c.attributes_within.ensures ∙ sym (loop.invariant.same ∙ table)
 
-pub type_within-returns-in-10 : goal.type_within-returns-in-10
-type_within-returns-in-10 t c =
-    let if2 = c.if-b-eq0 in
-    let if1 = c.if-left-eq0 in
+pub type_within-returns-in_default-kind : goal.type_within-returns-in_default-kind
+type_within-returns-in_default-kind t c =
     let loop = c.loop-left in
-    c.entity_within.ensures ∙ sym (loop.invariant.same ∙ whole_by loop.left loop.b.now if1.false if2.false 10 c.in-10.is)
-
-pub type_within-returns-in-11 : goal.type_within-returns-in-11
-type_within-returns-in-11 t c =
-    let if2 = c.if-b-eq0 in
-    let if1 = c.if-left-eq0 in
-    let loop = c.loop-left in
-    c.attributes_within-in-11.ensures ∙ sym (loop.invariant.same ∙ whole_by loop.left loop.b.now if1.false if2.false 11 c.in-11.is)
-
-pub type_within-returns-in-12 : goal.type_within-returns-in-12
-type_within-returns-in-12 t c =
-    let if2 = c.if-b-eq0 in
-    let if1 = c.if-left-eq0 in
-    let loop = c.loop-left in
-    sym (loop.invariant.same ∙ whole_by loop.left loop.b.now if1.false if2.false 12 c.in-12.is)
-
-pub type_within-returns-else-k-gt-EXTENSION : goal.type_within-returns-else-k-gt-EXTENSION
-type_within-returns-else-k-gt-EXTENSION t c =
-    let if3 = c.if-b-ne-SET in
-    let if2 = c.if-b-eq0 in
-    let if1 = c.if-left-eq0 in
-    let loop = c.loop-left in
-    let m = c.in_default.in_default-own.rest in
-    let by-atom-open = atom-open loop.left loop.b.now if1.false if2.false if3.true m.0.0.0.1 m.0.0.1 m.0.1 m.1
-    c.if-k-gt-EXTENSION.false in
-    by-atom-open ∙ sym loop.invariant.same
+    let d = c.in_default-kind in
+    let differs : (k : Kind) → (c.in-Ok.kind ≡ k → ⊥) → kind loop.b.now ≡ kind_number k → ⊥ =
+    λ k h e. kind-differs c.in-Ok.kind k h (c.in-Ok.ensures ∙ e) in
+    atom-open loop.left loop.b.now c.if-left-eq0.false c.if-b-eq0.false c.if-b-ne-SET.true (differs is_kind.Record d.not-Record)
+    (differs is_kind.Entity d.not-Entity) (differs is_kind.Action d.not-Action) (differs is_kind.Extension d.not-Extension)
+    (omega (arith, c.in-Ok.ensures, kind-most c.in-Ok.kind)) ∙ sym loop.invariant.same

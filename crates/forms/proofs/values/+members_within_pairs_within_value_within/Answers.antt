@@ -1,234 +1,116 @@
-use mathlib.Core.Path.{refl, ap, sym, ◌∙◌}
-use mathlib.Core.Bool.{true}
-use Prim.Native.Nat.{◌+◌, ◌*◌}
-use native.Mathlib.Omega.{arith}
-use lib.Dec.{leb}
+use Rattle.std.proofs.Common.{◌∙◌, ap, sym, refl, arith, inl, inr}
+use Rattle.std.proofs.Math.Bool.{true}
+use Rattle.std.specs.Prelude.{ℕ, ◌+◌, leb, length}
 use borrow.Author.Tests.{lt-leb, le-leb}
+use Rattle.forms.specs.Kinds.{value_kind_number}
 use Rattle.forms.specs.Parts.{rd}
 use Rattle.forms.specs.ValueBytes.{member_row, pair_row, whole_v}
-use Rattle.forms.specs.Laws.Parts.{length_part}
-use Rattle.forms.specs.Laws.Rows.{rows_start, rows_end, rows-unfit, rows_short, rows-body, rows-again, table-short, table-over, table-open}
-use Rattle.forms.specs.Laws.Values.{value_none, value-empty, value-by, string-short, string-open, unknown-no-value, boolean-open}
-use Prim.Native.Nat.{ℕ}
+use Rattle.forms.specs.Laws.RowsWithin.{within-short, within-unfit, within-body, within-again, within-rows, within-start}
+use Rattle.forms.specs.Laws.Rows.{rows_end}
+use Rattle.forms.specs.Laws.Values.{empty, not_empty, value_none, value-empty, value-by, string-short, string-open, unknown-no-value}
+use Rattle.forms.specs.Laws.ValueTwin.{member-local, pair-local}
 use Rattle.forms.proofs.values.+members_within_pairs_within_value_within.Goals as goal
 
-pub members_within-returns-then-v-start : goal.members_within-returns-then-v-start
-members_within-returns-then-v-start t c =
-    let args = c.args in
-    table-short member_row (λ _. whole_v args.levels) tt args.at args.v.now c.if-v-start.true
+pub members_within-loop-ahead-init : goal.members_within-loop-ahead-init
+members_within-loop-ahead-init t c = within-start member_row (λ _. whole_v c.args.levels) tt c.args.at c.args.v.now refl c.in-Some.ensures
 
-pub members_within-returns-then-v-end : goal.members_within-returns-then-v-end
-members_within-returns-then-v-end t c =
-    let u16-at = c.u16_at-n in
-    let args = c.args in
-    table-over member_row (λ _. whole_v args.levels) tt args.at args.v.now u16-at.result u16-at.ensures.0 c.if-v-end.true
-
-pub members_within-loop-left-init : goal.members_within-loop-left-init
-members_within-loop-left-init t c =
-    let if2 = c.if-v-end in
-    let u16-at = c.u16_at-n in
-    let args = c.args in
-    rows_start (omega (arith, length_part (args.at + 2) (args.at + 2 + 2 * u16-at.result) args.v.now if2.false))
-
-pub members_within-returns-then-b-len : goal.members_within-returns-then-b-len
-members_within-returns-then-b-len t c =
-    let u16-at2 = c.u16_at-len in
-    let loop-test = c.loop-left-test in
-    let loop = c.loop-left in
-    let if2 = c.if-v-end in
-    let u16-at = c.u16_at-n in
-    let if1 = c.if-v-start in
-    let args = c.args in
-    let by-rows-short = rows_short loop.invariant loop-test.true u16-at2.result u16-at2.ensures.0 c.if-b-len.true in
-    by-rows-short ∙
-    sym (table-open member_row (λ _. whole_v args.levels) tt args.at args.v.now u16-at.result u16-at.ensures.0 if1.false if2.false)
+pub members_within-returns-in_default-take : goal.members_within-returns-in_default-take
+members_within-returns-in_default-take t c =
+    within-short c.loop-ahead.invariant c.loop-ahead-test.true c.in_default-take.ensures ∙ sym (within-rows member_row (λ _. whole_v c.args.levels) tt c.args.at c.args.v.now refl c.in-Some.ensures)
 
 pub members_within-returns-then-not-value_within : goal.members_within-returns-then-not-value_within
 members_within-returns-then-not-value_within t c =
-    let value-within-step = c.value_within in
-    let u16-at2 = c.u16_at-len in
-    let loop-test = c.loop-left-test in
-    let loop = c.loop-left in
-    let if2 = c.if-v-end in
-    let u16-at = c.u16_at-n in
-    let if1 = c.if-v-start in
-    let args = c.args in
-    let by-rows-body = rows-body loop.invariant loop-test.true u16-at2.result u16-at2.ensures.0 value-within-step.result value-within-step.ensures
-    c.if-not-value_within.true-raw in
-    by-rows-body ∙
-    sym (table-open member_row (λ _. whole_v args.levels) tt args.at args.v.now u16-at.result u16-at.ensures.0 if1.false if2.false)
+    within-body c.loop-ahead.invariant member-local c.in-Some-take.ensures.0 c.value_within.result c.value_within.ensures c.if-not-value_within.true
+    ∙ sym (within-rows member_row (λ _. whole_v c.args.levels) tt c.args.at c.args.v.now refl c.in-Some.ensures)
 
-pub members_within-loop-left-preserved : goal.members_within-loop-left-preserved
-members_within-loop-left-preserved t c =
-    let if4 = c.if-not-value_within in
-    let value-within-step = c.value_within in
-    let if3 = c.if-b-len in
-    let u16-at2 = c.u16_at-len in
-    let loop-test = c.loop-left-test in
-    let loop = c.loop-left in
-    rows-again loop.invariant loop-test.true u16-at2.result u16-at2.ensures.0 true refl refl if3.false value-within-step.result
-    value-within-step.ensures if4.false-raw tt refl
+pub members_within-loop-ahead-preserved : goal.members_within-loop-ahead-preserved
+members_within-loop-ahead-preserved t c =
+    within-again c.loop-ahead.invariant member-local c.in-Some-take.ensures.0 true refl refl c.in-Some-take.ensures.1 c.value_within.result c.value_within.ensures
+    c.if-not-value_within.false tt refl
 
 pub members_within-returns : goal.members_within-returns
-members_within-returns t c =
-    let if2 = c.if-v-end in
-    let u16-at = c.u16_at-n in
-    let if1 = c.if-v-start in
-    let args = c.args in
-    rows_end c.loop-left.invariant c.loop-left-test.false _ refl ∙
-    sym (table-open member_row (λ _. whole_v args.levels) tt args.at args.v.now u16-at.result u16-at.ensures.0 if1.false if2.false)
+members_within-returns t c = rows_end c.loop-ahead.invariant c.loop-ahead-test.false c.is_empty.result c.is_empty.ensures ∙ sym (within-rows member_row (λ _. whole_v c.args.levels) tt c.args.at c.args.v.now refl c.in-Some.ensures)
 
-pub pairs_within-returns-then-v-lt-RECORD_ENTRIES : goal.pairs_within-returns-then-v-lt-RECORD_ENTRIES
-pairs_within-returns-then-v-lt-RECORD_ENTRIES t c =
-    let args = c.args in
-    table-short pair_row (λ _. whole_v args.levels) 0 1 args.v.now c.if-v-lt-RECORD_ENTRIES.true
+pub pairs_within-loop-ahead-init : goal.pairs_within-loop-ahead-init
+pairs_within-loop-ahead-init t c = within-start pair_row (λ _. whole_v c.args.levels) 0 1 c.args.v.now refl c.in-Some.ensures
 
-pub pairs_within-returns-then-v-end : goal.pairs_within-returns-then-v-end
-pairs_within-returns-then-v-end t c =
-    let u16-at = c.u16_at-n in
-    let args = c.args in
-    table-over pair_row (λ _. whole_v args.levels) 0 1 args.v.now u16-at.result u16-at.ensures.0 c.if-v-end.true
-
-pub pairs_within-loop-left-init : goal.pairs_within-loop-left-init
-pairs_within-loop-left-init t c =
-    let if2 = c.if-v-end in
-    let u16-at = c.u16_at-n in
-    let args = c.args in
-    rows_start (omega (arith, length_part 3 (3 + 4 * u16-at.result) args.v.now if2.false))
+pub pairs_within-returns-in_default-take : goal.pairs_within-returns-in_default-take
+pairs_within-returns-in_default-take t c =
+    within-short c.loop-ahead.invariant c.loop-ahead-test.true c.in_default-take.ensures ∙ sym (within-rows pair_row (λ _. whole_v c.args.levels) 0 1 c.args.v.now refl c.in-Some.ensures)
 
 pub pairs_within-returns-then-name-low : goal.pairs_within-returns-then-name-low
 pairs_within-returns-then-name-low t c =
-    let loop-test = c.loop-left-test in
-    let loop = c.loop-left in
-    let if2 = c.if-v-end in
-    let u16-at = c.u16_at-n in
-    let if1 = c.if-v-lt-RECORD_ENTRIES in
-    let args = c.args in
-    let by-rows-unfit = rows-unfit loop.invariant loop-test.true (leb loop.low (rd loop.e.now 0)) refl (let q = c.u16_at-name.ensures.0 in
-    rw (lt-leb loop.low (rd loop.e.now 0) (omega (arith, q, c.if-name-low.true))) refl) in
-    by-rows-unfit ∙ sym (table-open pair_row (λ _. whole_v args.levels) 0 1 args.v.now u16-at.result u16-at.ensures.0 if1.false if2.false)
-
-pub pairs_within-returns-then-b-len : goal.pairs_within-returns-then-b-len
-pairs_within-returns-then-b-len t c =
-    let u16-at3 = c.u16_at-len in
-    let loop-test = c.loop-left-test in
-    let loop = c.loop-left in
-    let if2 = c.if-v-end in
-    let u16-at = c.u16_at-n in
-    let if1 = c.if-v-lt-RECORD_ENTRIES in
-    let args = c.args in
-    let by-rows-short = rows_short loop.invariant loop-test.true u16-at3.result u16-at3.ensures.0 c.if-b-len.true in
-    by-rows-short ∙ sym (table-open pair_row (λ _. whole_v args.levels) 0 1 args.v.now u16-at.result u16-at.ensures.0 if1.false if2.false)
+    let low = c.loop-ahead.low in
+    let name = rd c.in-Some-take.pair.head.now 0 in
+    within-unfit c.loop-ahead.invariant pair-local c.in-Some-take.ensures.0 (leb low name) refl (lt-leb low name (omega (arith, c.name.ensures, c.if-name-low.true)))
+    ∙ sym (within-rows pair_row (λ _. whole_v c.args.levels) 0 1 c.args.v.now refl c.in-Some.ensures)
 
 pub pairs_within-returns-then-not-value_within : goal.pairs_within-returns-then-not-value_within
 pairs_within-returns-then-not-value_within t c =
-    let value-within-step = c.value_within in
-    let u16-at3 = c.u16_at-len in
-    let loop-test = c.loop-left-test in
-    let loop = c.loop-left in
-    let if2 = c.if-v-end in
-    let u16-at = c.u16_at-n in
-    let if1 = c.if-v-lt-RECORD_ENTRIES in
-    let args = c.args in
-    let by-rows-body = rows-body loop.invariant loop-test.true u16-at3.result u16-at3.ensures.0 value-within-step.result value-within-step.ensures
-    c.if-not-value_within.true-raw in
-    by-rows-body ∙ sym (table-open pair_row (λ _. whole_v args.levels) 0 1 args.v.now u16-at.result u16-at.ensures.0 if1.false if2.false)
+    within-body c.loop-ahead.invariant pair-local c.in-Some-take.ensures.0 c.value_within.result c.value_within.ensures c.if-not-value_within.true
+    ∙ sym (within-rows pair_row (λ _. whole_v c.args.levels) 0 1 c.args.v.now refl c.in-Some.ensures)
 
-pub pairs_within-loop-left-preserved : goal.pairs_within-loop-left-preserved
-pairs_within-loop-left-preserved t c =
-    let if5 = c.if-not-value_within in
-    let value-within-step = c.value_within in
-    let if4 = c.if-b-len in
-    let u16-at3 = c.u16_at-len in
-    let if3 = c.if-name-low in
-    let u16-at2 = c.u16_at-name in
-    let loop-test = c.loop-left-test in
-    let loop = c.loop-left in
-    rows-again loop.invariant loop-test.true u16-at3.result u16-at3.ensures.0 (leb loop.low (rd loop.e.now 0))
-    refl (let q = u16-at2.ensures.0 in
-    rw (le-leb loop.low (rd loop.e.now 0) (omega (arith, q, if3.false))) refl) if4.false value-within-step.result value-within-step.ensures
-    if5.false-raw _ (ap (λ (j : ℕ). j + 1) u16-at2.ensures.0)
+pub pairs_within-loop-ahead-preserved : goal.pairs_within-loop-ahead-preserved
+pairs_within-loop-ahead-preserved t c =
+    let low = c.loop-ahead.low in
+    let name = rd c.in-Some-take.pair.head.now 0 in
+    within-again c.loop-ahead.invariant pair-local c.in-Some-take.ensures.0 (leb low name) refl (le-leb low name (omega (arith, c.name.ensures, c.if-name-low.false)))
+    c.in-Some-take.ensures.1 c.value_within.result c.value_within.ensures c.if-not-value_within.false (c.u16_at-low.result + 1) (ap (λ (j : ℕ). j + 1) c.u16_at-low.ensures.0)
 
 pub pairs_within-returns : goal.pairs_within-returns
-pairs_within-returns t c =
-    let if2 = c.if-v-end in
-    let u16-at = c.u16_at-n in
-    let if1 = c.if-v-lt-RECORD_ENTRIES in
-    let args = c.args in
-    rows_end c.loop-left.invariant c.loop-left-test.false _ refl ∙
-    sym (table-open pair_row (λ _. whole_v args.levels) 0 1 args.v.now u16-at.result u16-at.ensures.0 if1.false if2.false)
+pairs_within-returns t c = rows_end c.loop-ahead.invariant c.loop-ahead-test.false c.is_empty.result c.is_empty.ensures ∙ sym (within-rows pair_row (λ _. whole_v c.args.levels) 0 1 c.args.v.now refl c.in-Some.ensures)
 
 pub value_within-returns-then-levels-eq0 : goal.value_within-returns-then-levels-eq0
-value_within-returns-then-levels-eq0 t c =
-    let args = c.args in
-    value_none args.levels args.v.now c.if-levels-eq0.true
+value_within-returns-then-levels-eq0 t c = value_none c.args.levels c.args.v.now c.if-levels-eq0.true
 
-pub value_within-returns-then-v-eq0 : goal.value_within-returns-then-v-eq0
-value_within-returns-then-v-eq0 t c =
-    let args = c.args in
-    value-empty args.levels args.v.now c.if-levels-eq0.false c.if-v-eq0.true
+pub value_within-returns-then-is_empty : goal.value_within-returns-then-is_empty
+value_within-returns-then-is_empty t c = value-empty c.args.levels c.args.v.now c.if-levels-eq0.false (empty c.args.v.now c.is_empty.result c.is_empty.ensures c.if-is_empty.true)
 
-pub value_within-returns-then-v-lt-STRING : goal.value_within-returns-then-v-lt-STRING
-value_within-returns-then-v-lt-STRING t c =
-    let if2 = c.if-v-eq0 in
-    let if1 = c.if-levels-eq0 in
-    let args = c.args in
-    string-short args.levels args.v.now if1.false if2.false c.in-3.is c.if-v-lt-STRING.true
+pub value_within-returns-in_default : goal.value_within-returns-in_default
+value_within-returns-in_default t c =
+    let some = not_empty c.args.v.now c.is_empty.result c.is_empty.ensures c.if-is_empty.false in
+    unknown-no-value c.args.levels c.args.v.now c.if-levels-eq0.false some c.in_default.ensures
 
-pub value_within-returns-then-k-gt-CALL : goal.value_within-returns-then-k-gt-CALL
-value_within-returns-then-k-gt-CALL t c =
-    let if2 = c.if-v-eq0 in
-    let if1 = c.if-levels-eq0 in
-    let args = c.args in
-    unknown-no-value args.levels args.v.now if1.false if2.false c.if-k-gt-CALL.true
+pub value_within-returns-in-False : goal.value_within-returns-in-False
+value_within-returns-in-False t c =
+    let some = not_empty c.args.v.now c.is_empty.result c.is_empty.ensures c.if-is_empty.false in
+    elim c.in-False.is [
+      | inl e ↦ sym (value-by c.args.levels c.args.v.now c.if-levels-eq0.false some 0 (sym c.in-Ok.ensures ∙ ap value_kind_number e))
+      | inr e ↦ sym (value-by c.args.levels c.args.v.now c.if-levels-eq0.false some 1 (sym c.in-Ok.ensures ∙ ap value_kind_number e))
+    ]
 
-pub value_within-returns-in-2 : goal.value_within-returns-in-2
-value_within-returns-in-2 t c =
-    let if2 = c.if-v-eq0 in
-    let if1 = c.if-levels-eq0 in
-    let args = c.args in
-    sym (value-by args.levels args.v.now if1.false if2.false 2 c.in-2.is)
+pub value_within-returns-in-Long : goal.value_within-returns-in-Long
+value_within-returns-in-Long t c =
+    let some = not_empty c.args.v.now c.is_empty.result c.is_empty.ensures c.if-is_empty.false in
+    sym (value-by c.args.levels c.args.v.now c.if-levels-eq0.false some 2 (sym c.in-Ok.ensures ∙ ap value_kind_number c.in-Long.is))
 
-pub value_within-returns-else-v-lt-STRING : goal.value_within-returns-else-v-lt-STRING
-value_within-returns-else-v-lt-STRING t c =
-    let if2 = c.if-v-eq0 in
-    let if1 = c.if-levels-eq0 in
-    let args = c.args in
-    string-open args.levels args.v.now if1.false if2.false c.in-3.is c.if-v-lt-STRING.false c.u16_at.result c.u16_at.ensures.0
+pub value_within-returns-then-v-ge-STRING : goal.value_within-returns-then-v-ge-STRING
+value_within-returns-then-v-ge-STRING t c =
+    let some = not_empty c.args.v.now c.is_empty.result c.is_empty.ensures c.if-is_empty.false in
+    string-open c.args.levels c.args.v.now c.if-levels-eq0.false some (sym c.in-Ok.ensures ∙ ap value_kind_number c.in-String.is) c.if-v-ge-STRING.true c.u16_at.result c.u16_at.ensures.0
 
-pub value_within-returns-in-4 : goal.value_within-returns-in-4
-value_within-returns-in-4 t c =
-    let if2 = c.if-v-eq0 in
-    let if1 = c.if-levels-eq0 in
-    let args = c.args in
-    sym (value-by args.levels args.v.now if1.false if2.false 4 c.in-4.is)
+pub value_within-returns-else-v-ge-STRING : goal.value_within-returns-else-v-ge-STRING
+value_within-returns-else-v-ge-STRING t c =
+    let some = not_empty c.args.v.now c.is_empty.result c.is_empty.ensures c.if-is_empty.false in
+    lt-leb 3 (length c.args.v.now) (omega (arith, c.if-v-ge-STRING.false))
+    ∙ string-short c.args.levels c.args.v.now c.if-levels-eq0.false some (sym c.in-Ok.ensures ∙ ap value_kind_number c.in-String.is) (omega (arith, c.if-v-ge-STRING.false))
 
-pub value_within-returns-in-5 : goal.value_within-returns-in-5
-value_within-returns-in-5 t c =
-    let if2 = c.if-v-eq0 in
-    let if1 = c.if-levels-eq0 in
-    let args = c.args in
-    c.members_within.ensures ∙ sym (value-by args.levels args.v.now if1.false if2.false 5 c.in-5.is)
+pub value_within-returns-in-Uid : goal.value_within-returns-in-Uid
+value_within-returns-in-Uid t c =
+    let some = not_empty c.args.v.now c.is_empty.result c.is_empty.ensures c.if-is_empty.false in
+    sym (value-by c.args.levels c.args.v.now c.if-levels-eq0.false some 4 (sym c.in-Ok.ensures ∙ ap value_kind_number c.in-Uid.is))
 
-pub value_within-returns-in-6 : goal.value_within-returns-in-6
-value_within-returns-in-6 t c =
-    let if2 = c.if-v-eq0 in
-    let if1 = c.if-levels-eq0 in
-    let args = c.args in
-    c.pairs_within.ensures ∙ sym (value-by args.levels args.v.now if1.false if2.false 6 c.in-6.is)
+pub value_within-returns-in-Set : goal.value_within-returns-in-Set
+value_within-returns-in-Set t c =
+    let some = not_empty c.args.v.now c.is_empty.result c.is_empty.ensures c.if-is_empty.false in
+    c.members_within.ensures ∙ sym (value-by c.args.levels c.args.v.now c.if-levels-eq0.false some 5 (sym c.in-Ok.ensures ∙ ap value_kind_number c.in-Set.is))
 
-pub value_within-returns-in-7 : goal.value_within-returns-in-7
-value_within-returns-in-7 t c =
-    let if2 = c.if-v-eq0 in
-    let if1 = c.if-levels-eq0 in
-    let args = c.args in
-    c.members_within-in-7.ensures ∙ sym (value-by args.levels args.v.now if1.false if2.false 7 c.in-7.is)
+pub value_within-returns-in-Record : goal.value_within-returns-in-Record
+value_within-returns-in-Record t c =
+    let some = not_empty c.args.v.now c.is_empty.result c.is_empty.ensures c.if-is_empty.false in
+    c.pairs_within.ensures ∙ sym (value-by c.args.levels c.args.v.now c.if-levels-eq0.false some 6 (sym c.in-Ok.ensures ∙ ap value_kind_number c.in-Record.is))
 
-pub value_within-returns-else-k-gt-CALL : goal.value_within-returns-else-k-gt-CALL
-value_within-returns-else-k-gt-CALL t c =
-    let if2 = c.if-v-eq0 in
-    let if1 = c.if-levels-eq0 in
-    let args = c.args in
-    let m = c.in_default.in_default-own.rest in
-    boolean-open args.levels args.v.now if1.false if2.false m.0.0.0.0.0.1 m.0.0.0.0.1 m.0.0.0.1 m.0.0.1 m.0.1 m.1
-    c.if-k-gt-CALL.false
+pub value_within-returns-in-Call : goal.value_within-returns-in-Call
+value_within-returns-in-Call t c =
+    let some = not_empty c.args.v.now c.is_empty.result c.is_empty.ensures c.if-is_empty.false in
+    c.members_within-in-Call.ensures ∙ sym (value-by c.args.levels c.args.v.now c.if-levels-eq0.false some 7 (sym c.in-Ok.ensures ∙ ap value_kind_number c.in-Call.is))

@@ -1,4 +1,4 @@
-use Prim.Native.Nat.{◌+◌, ◌*◌}
+use Rattle.std.proofs.Common.{◌+◌, ◌*◌}
 use Rattle.forms.specs.Rows.{none_left}
 use Rattle.forms.specs.ValueBytes.{member_row, pair_row, whole_v}
 use Rattle.forms.specs.Laws.Rows.{RowsLeft}
@@ -13,14 +13,18 @@ decreases-pairs_within l = 2 * l.levels + 1
 abbrev pub decreases-value_within : goal.decreases-value_within
 decreases-value_within l = 2 * l.levels
 
-abbrev pub invariant-members_within-loop-left : goal.invariant-members_within-loop-left
-invariant-members_within-loop-left l = RowsLeft member_row (λ _. whole_v l.levels) none_left l.n tt l.initial.e l.initial.b l.left tt l.e l.b
+abbrev pub invariant-members_within-loop-ahead : goal.invariant-members_within-loop-ahead
+invariant-members_within-loop-ahead l =
+    RowsLeft member_row (λ _. whole_v l.levels) none_left l.initial.ahead.left tt l.initial.ahead.entries.now l.initial.ahead.bodies.now l.ahead.left tt l.ahead.entries.now
+    l.ahead.bodies.now
 
-abbrev pub decreases-members_within-loop-left : goal.decreases-members_within-loop-left
-decreases-members_within-loop-left l = l.left
+abbrev pub decreases-members_within-loop-ahead : goal.decreases-members_within-loop-ahead
+decreases-members_within-loop-ahead l = l.ahead.left
 
-abbrev pub invariant-pairs_within-loop-left : goal.invariant-pairs_within-loop-left
-invariant-pairs_within-loop-left l = RowsLeft pair_row (λ _. whole_v l.levels) none_left l.n 0 l.initial.e l.initial.b l.left l.low l.e l.b
+abbrev pub invariant-pairs_within-loop-ahead : goal.invariant-pairs_within-loop-ahead
+invariant-pairs_within-loop-ahead l =
+    RowsLeft pair_row (λ _. whole_v l.levels) none_left l.initial.ahead.left 0 l.initial.ahead.entries.now l.initial.ahead.bodies.now l.ahead.left l.low l.ahead.entries.now
+    l.ahead.bodies.now
 
-abbrev pub decreases-pairs_within-loop-left : goal.decreases-pairs_within-loop-left
-decreases-pairs_within-loop-left l = l.left
+abbrev pub decreases-pairs_within-loop-ahead : goal.decreases-pairs_within-loop-ahead
+decreases-pairs_within-loop-ahead l = l.ahead.left
