@@ -87,11 +87,17 @@ def source_of(function):
     return f"src/{'/'.join(path) or 'lib'}.rt", kind, name
 
 
+def impl_of(line):
+    """The name under which a line's impl of a trait is proved: the type, the trait and the trait's argument."""
+    m = re.match(r"impl (\w+)(?:<(\w+)>)? for (\w+)", line)
+    return m and "".join(word[0].upper() + word[1:] for word in (m[3], m[1], m[2] or "") if word)
+
+
 def span(text, kind, name):
     """The lines of a function, from 1 on: where its head with its attributes, its body and the line behind it start. None if it is
     not there."""
     lines = text.splitlines()
-    start = next((i for i, line in enumerate(lines) if re.match(rf"impl\b.*\b{kind}\b", line)), None) if kind else 0
+    start = next((i for i, line in enumerate(lines) if re.match(rf"impl\b.*\b{kind}\b", line) or impl_of(line) == kind), None) if kind else 0
     if start is None:
         return None
     for head in range(start, len(lines)):
