@@ -6,7 +6,6 @@ ghost use Rattle.forms.specs.TypeBytes.{whole, dec};
 ghost use Rattle.forms.specs.ValueBytes.{whole_v, dec_v};
 ghost use Rattle.levels.specs.Deepest.{whole_form, levels_in, deepest_at};
 
-use crate::larger::larger;
 use forms::kinds::{Kind, ValueKind};
 use forms::numbers::u16_at;
 use forms::offsets::{Offset, ValueOffset};
@@ -26,8 +25,8 @@ fn deeper(form: Form, b: &[u8], levels: usize, most: usize) -> usize
     ensures { result ≡ max most (levels_in form levels b.now) }
 {
     match form {
-        Form::Types => larger(most, type_levels(&b[0..], levels)),
-        Form::Values => larger(most, value_levels(&b[0..], levels)),
+        Form::Types => most.max(type_levels(&b[0..], levels)),
+        Form::Values => most.max(value_levels(&b[0..], levels)),
     }
 }
 
@@ -76,13 +75,12 @@ pub fn type_levels(t: &[u8], levels: usize) -> usize
     }
     let above = levels - left + 1;
     let below = left - 1;
-    let k = b[0];
-    match k {
-        Kind::RECORD => {
+    match Kind::of(b) {
+        Kind::Record => {
             let at = Offset::RECORD_COUNT;
             above + deepest_body(Form::Types, b, at, Width::ATTRIBUTE, below)
         }
-        Kind::ACTION => {
+        Kind::Action => {
             let at = Offset::ACTION_COUNT;
             above + deepest_body(Form::Types, b, at, Width::ATTRIBUTE, below)
         }
@@ -97,17 +95,16 @@ pub fn value_levels(v: &[u8], levels: usize) -> usize
     ensures { result ≡ depth_value (dec_v levels v.now) }
 {
     let below = levels - 1;
-    let k = v[0];
-    match k {
-        ValueKind::SET => {
+    match ValueKind::of(v) {
+        ValueKind::Set => {
             let at = ValueOffset::SET_COUNT;
             deepest_body(Form::Values, &v[0..], at, Width::MEMBER, below) + 1
         }
-        ValueKind::RECORD => {
+        ValueKind::Record => {
             let at = ValueOffset::RECORD_COUNT;
             deepest_body(Form::Values, &v[0..], at, Width::PAIR, below) + 1
         }
-        ValueKind::CALL => {
+        ValueKind::Call => {
             let at = ValueOffset::CALL_COUNT;
             deepest_body(Form::Values, &v[0..], at, Width::MEMBER, below) + 1
         }

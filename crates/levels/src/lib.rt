@@ -2,4 +2,3 @@
 #![tactic(auto)]
 
 pub mod depths;
-pub mod larger;

@@ -9,7 +9,9 @@ use Rattle.std.proofs.Math.Decide.{dec_le}
 use Rattle.cedar.specs.TypeForm.{kind_of}
 use Rattle.forms.specs.Parts.{kind}
 use Rattle.forms.specs.TypeBytes.{whole_as, whole}
-use Rattle.forms.specs.Kinds.{kind_number}
+use Rattle.forms.specs.Kinds.{kind_number, value_kind_number}
+use Rattle.forms.specs.declared.kinds.ValueKind.{ValueKind}
+use Rattle.forms.specs.declared.kinds.ValueKind.TheVariants as value_kind_is
 use Rattle.forms.specs.contracts.kinds.Kind.{the_type}
 use Rattle.forms.specs.declared.kinds.Kind.{Kind}
 use Rattle.forms.specs.declared.kinds.Kind.TheVariants as kind_is
@@ -111,3 +113,23 @@ kinds-alike j k x q h = eqb-true (kind_number j) (kind_number k) (sym (same-numb
 
 pub kinds-unlike : (j k : Kind) (x : Bool) → x ≡ not (sameb the_type j k) → x ≡ true → kind_number j ≡ kind_number k → ⊥
 kinds-unlike j k x q h = eqb-false (kind_number j) (kind_number k) (sym (same-number j k) ∙ not-true (sameb the_type j k) (sym q ∙ h))
+
+-- The same of value kinds.
+abbrev value_kind_at : ℕ → ValueKind
+value_kind_at n =
+    get_or
+    (value_kind_is.False ∷ value_kind_is.True ∷ value_kind_is.Long ∷ value_kind_is.String ∷ value_kind_is.Uid ∷ value_kind_is.Set ∷ value_kind_is.Record ∷ [])
+    n value_kind_is.Call
+
+same_value_kind : (k : ValueKind) → value_kind_at (value_kind_number k) ≡ k
+same_value_kind value_kind_is.False = refl
+same_value_kind value_kind_is.True = refl
+same_value_kind value_kind_is.Long = refl
+same_value_kind value_kind_is.String = refl
+same_value_kind value_kind_is.Uid = refl
+same_value_kind value_kind_is.Set = refl
+same_value_kind value_kind_is.Record = refl
+same_value_kind value_kind_is.Call = refl
+
+pub value-kind-differs : (j k : ValueKind) → (j ≡ k → ⊥) → value_kind_number j ≡ value_kind_number k → ⊥
+value-kind-differs j k h e = h (sym (same_value_kind j) ∙ ap value_kind_at e ∙ same_value_kind k)

@@ -10,8 +10,16 @@ use Rattle.forms.specs.Laws.Parts.{rest_0}
 use Rattle.forms.specs.Laws.Bytes.{Bytes-index}
 use Rattle.forms.specs.Laws.Bodies.{table-bodies}
 use Rattle.forms.specs.Laws.Ahead.{table-count, table-entries, ahead-room, ahead-inside, ahead-body}
+use Rattle.std.proofs.Common.{◌≡◌}
+use Rattle.forms.specs.Kinds.{kind_number, value_kind_number}
+use Rattle.forms.specs.Parts.{kind}
+use Rattle.forms.specs.declared.kinds.Kind.{Kind}
+use Rattle.forms.specs.declared.kinds.Kind.TheVariants as is_kind
+use Rattle.forms.specs.declared.kinds.ValueKind.{ValueKind}
+use Rattle.forms.specs.declared.kinds.ValueKind.TheVariants as is_value
+use Rattle.forms.specs.Laws.Kinds.{whole-kind, kind-differs, value-kind-differs}
 use Rattle.forms.specs.Laws.Views.{not-empty, whole-level, is_set}
-use Rattle.forms.specs.Laws.Values.{value-level, value-first, value_as}
+use Rattle.forms.specs.Laws.Values.{value-level, value-first, value_as, value-kind}
 use Rattle.levels.specs.declared.depths.Form.{Form}
 use Rattle.levels.specs.declared.depths.Form.TheVariants.{Types as types, Values as values}
 use Rattle.levels.specs.Deepest.{whole_form, levels_in, deepest_at}
@@ -37,13 +45,13 @@ pub deeper-returns-in-Types : goal.deeper-returns-in-Types
 deeper-returns-in-Types t c =
     let args = c.args in
     let levels = c.type_levels.ensures ∙ ap (λ (x : List ℕ). depth (dec args.levels x)) (rest_0 args.b.now) in
-    c.larger.ensures ∙ ap (max args.most) (levels ∙ sym (ap (λ (f : Form). levels_in f args.levels args.b.now) c.in-Types.is))
+    c.max.ensures ∙ ap (max args.most) (levels ∙ sym (ap (λ (f : Form). levels_in f args.levels args.b.now) c.in-Types.is))
 
 pub deeper-returns-in-Values : goal.deeper-returns-in-Values
 deeper-returns-in-Values t c =
     let args = c.args in
     let levels = c.value_levels.ensures ∙ ap (λ (x : List ℕ). depth_value (dec_v args.levels x)) (rest_0 args.b.now) in
-    c.larger-in-Values.ensures ∙ ap (max args.most) (levels ∙ sym (ap (λ (f : Form). levels_in f args.levels args.b.now) c.in-Values.is))
+    c.max-in-Values.ensures ∙ ap (max args.most) (levels ∙ sym (ap (λ (f : Form). levels_in f args.levels args.b.now) c.in-Values.is))
 
 pub deepest_body-u16_at-n-requires : goal.deepest_body-u16_at-n-requires
 deepest_body-u16_at-n-requires t c =
@@ -221,57 +229,60 @@ type_levels-overflow_sub-below t c =
     let loop = c.loop-b in
     omega (arith, whole-level loop.left loop.b.now loop.invariant.good)
 
-pub type_levels-bounds-b-0-2 : goal.type_levels-bounds-b-0-2
-type_levels-bounds-b-0-2 t c =
+pub type_levels-of-requires : goal.type_levels-of-requires
+type_levels-of-requires t c =
     let loop = c.loop-b in
-    omega (arith, not-empty loop.left loop.b.now loop.invariant.good)
+    whole-kind loop.left loop.b.now loop.invariant.good
 
 pub type_levels-deepest_body-requires : goal.type_levels-deepest_body-requires
 type_levels-deepest_body-requires t c =
     let loop = c.loop-b in
-    (omega (arith, loop.invariant.few, whole-level loop.left loop.b.now loop.invariant.good), (omega arith, record-bodies loop.left loop.b.now loop.invariant.good c.in-8.is))
+    (omega (arith, loop.invariant.few, whole-level loop.left loop.b.now loop.invariant.good), (omega arith, record-bodies loop.left loop.b.now loop.invariant.good (sym c.in-Record.ensures)))
 
 pub type_levels-overflow_add-result : goal.type_levels-overflow_add-result
 type_levels-overflow_add-result t c =
     let walk = c.deepest_body in
     let loop = c.loop-b in
     let args = c.args in
-    let sum = sets_end loop.invariant walk.result (record-levels loop.left loop.b.now loop.invariant.good c.in-8.is ∙ ap suc (sym walk.ensures)) in
+    let sum = sets_end loop.invariant walk.result (record-levels loop.left loop.b.now loop.invariant.good (sym c.in-Record.ensures) ∙ ap suc (sym walk.ensures)) in
     let most = levels-bounds types args.levels args.t.now (Bytes-index args.t.now (λ i. (c.type_inv.t i).fits)) c.requires in
     omega (arith, sum, most.0)
 
-pub type_levels-deepest_body-requires-in-11 : goal.type_levels-deepest_body-requires-in-11
-type_levels-deepest_body-requires-in-11 t c =
+pub type_levels-deepest_body-requires-in-Action : goal.type_levels-deepest_body-requires-in-Action
+type_levels-deepest_body-requires-in-Action t c =
     let loop = c.loop-b in
-    (omega (arith, loop.invariant.few, whole-level loop.left loop.b.now loop.invariant.good), (omega arith, action-bodies loop.left loop.b.now loop.invariant.good c.in-11.is))
+    (omega (arith, loop.invariant.few, whole-level loop.left loop.b.now loop.invariant.good), (omega arith, action-bodies loop.left loop.b.now loop.invariant.good (sym c.in-Action.ensures)))
 
-pub type_levels-overflow_add-result-in-11 : goal.type_levels-overflow_add-result-in-11
-type_levels-overflow_add-result-in-11 t c =
-    let walk = c.deepest_body-in-11 in
+pub type_levels-overflow_add-result-in-Action : goal.type_levels-overflow_add-result-in-Action
+type_levels-overflow_add-result-in-Action t c =
+    let walk = c.deepest_body-in-Action in
     let loop = c.loop-b in
     let args = c.args in
-    let sum = sets_end loop.invariant walk.result (action-levels loop.left loop.b.now loop.invariant.good c.in-11.is ∙ ap suc (sym walk.ensures)) in
+    let sum = sets_end loop.invariant walk.result (action-levels loop.left loop.b.now loop.invariant.good (sym c.in-Action.ensures) ∙ ap suc (sym walk.ensures)) in
     let most = levels-bounds types args.levels args.t.now (Bytes-index args.t.now (λ i. (c.type_inv.t i).fits)) c.requires in
     omega (arith, sum, most.0)
 
-pub type_levels-returns-in-8 : goal.type_levels-returns-in-8
-type_levels-returns-in-8 t c =
+pub type_levels-returns-in-Record : goal.type_levels-returns-in-Record
+type_levels-returns-in-Record t c =
     let walk = c.deepest_body in
     let loop = c.loop-b in
-    let sum = sets_end loop.invariant walk.result (record-levels loop.left loop.b.now loop.invariant.good c.in-8.is ∙ ap suc (sym walk.ensures)) in
+    let sum = sets_end loop.invariant walk.result (record-levels loop.left loop.b.now loop.invariant.good (sym c.in-Record.ensures) ∙ ap suc (sym walk.ensures)) in
     sum
 
-pub type_levels-returns-in-11 : goal.type_levels-returns-in-11
-type_levels-returns-in-11 t c =
-    let walk = c.deepest_body-in-11 in
+pub type_levels-returns-in-Action : goal.type_levels-returns-in-Action
+type_levels-returns-in-Action t c =
+    let walk = c.deepest_body-in-Action in
     let loop = c.loop-b in
-    let sum = sets_end loop.invariant walk.result (action-levels loop.left loop.b.now loop.invariant.good c.in-11.is ∙ ap suc (sym walk.ensures)) in
+    let sum = sets_end loop.invariant walk.result (action-levels loop.left loop.b.now loop.invariant.good (sym c.in-Action.ensures) ∙ ap suc (sym walk.ensures)) in
     sum
 
 pub type_levels-returns-in_default : goal.type_levels-returns-in_default
 type_levels-returns-in_default t c =
     let loop = c.loop-b in
-    let lone = lone-levels loop.left loop.b.now loop.invariant.good c.loop-b-test.false c.in_default.in_default-own.rest.0.1 c.in_default.in_default-own.rest.1 in
+    let differs : (k : Kind) → (c.of.result ≡ k → ⊥) → kind loop.b.now ≡ kind_number k → ⊥ =
+    λ k h e. kind-differs c.of.result k h (c.of.ensures ∙ e) in
+    let lone = lone-levels loop.left loop.b.now loop.invariant.good c.loop-b-test.false (differs is_kind.Record c.in_default.not-Record)
+    (differs is_kind.Action c.in_default.not-Action) in
     omega (arith, sets_end loop.invariant 0 lone)
 
 pub value_levels-overflow_sub-below : goal.value_levels-overflow_sub-below
@@ -279,15 +290,15 @@ value_levels-overflow_sub-below t c =
     let args = c.args in
     omega (arith, value-level args.levels args.v.now c.requires)
 
-pub value_levels-bounds-v-0 : goal.value_levels-bounds-v-0
-value_levels-bounds-v-0 t c =
+pub value_levels-of-requires : goal.value_levels-of-requires
+value_levels-of-requires t c =
     let args = c.args in
-    omega (arith, value-first args.levels args.v.now c.requires)
+    (value-first args.levels args.v.now c.requires, omega (arith, value-kind args.levels args.v.now c.requires))
 
 pub value_levels-deepest_body-requires : goal.value_levels-deepest_body-requires
 value_levels-deepest_body-requires t c =
     let args = c.args in
-    let whole = value_as args.levels args.v.now c.requires 5 c.in-5.is in
+    let whole = value_as args.levels args.v.now c.requires 5 (sym c.in-Set.ensures) in
     (omega (arith, value-level args.levels args.v.now c.requires), (omega arith, rw (rest_0 args.v.now) (whole)))
 
 pub value_levels-overflow_add-result : goal.value_levels-overflow_add-result
@@ -295,65 +306,68 @@ value_levels-overflow_add-result t c =
     let walk = c.deepest_body in
     let args = c.args in
     let below = walk.ensures ∙ ap (deepest_at values (args.levels - 1) 2 1) (rest_0 args.v.now) in
-    let sum = set-value-levels args.levels args.v.now c.requires c.in-5.is in
+    let sum = set-value-levels args.levels args.v.now c.requires (sym c.in-Set.ensures) in
     let most = levels-bounds values args.levels args.v.now (Bytes-index args.v.now (λ i. (c.type_inv.v i).fits)) c.requires in
     omega (arith, below, sum, most.0)
 
-pub value_levels-deepest_body-requires-in-6 : goal.value_levels-deepest_body-requires-in-6
-value_levels-deepest_body-requires-in-6 t c =
+pub value_levels-deepest_body-requires-in-Record : goal.value_levels-deepest_body-requires-in-Record
+value_levels-deepest_body-requires-in-Record t c =
     let args = c.args in
-    let whole = value_as args.levels args.v.now c.requires 6 c.in-6.is in
+    let whole = value_as args.levels args.v.now c.requires 6 (sym c.in-Record.ensures) in
     (omega (arith, value-level args.levels args.v.now c.requires), (omega arith, rw (rest_0 args.v.now) (table-bodies pair_row (whole_v (args.levels - 1)) 0 1 args.v.now whole)))
 
-pub value_levels-overflow_add-result-in-6 : goal.value_levels-overflow_add-result-in-6
-value_levels-overflow_add-result-in-6 t c =
-    let walk = c.deepest_body-in-6 in
+pub value_levels-overflow_add-result-in-Record : goal.value_levels-overflow_add-result-in-Record
+value_levels-overflow_add-result-in-Record t c =
+    let walk = c.deepest_body-in-Record in
     let args = c.args in
     let below = walk.ensures ∙ ap (deepest_at values (args.levels - 1) 4 1) (rest_0 args.v.now) in
-    let sum = record-value-levels args.levels args.v.now c.requires c.in-6.is in
+    let sum = record-value-levels args.levels args.v.now c.requires (sym c.in-Record.ensures) in
     let most = levels-bounds values args.levels args.v.now (Bytes-index args.v.now (λ i. (c.type_inv.v i).fits)) c.requires in
     omega (arith, below, sum, most.0)
 
-pub value_levels-deepest_body-requires-in-7 : goal.value_levels-deepest_body-requires-in-7
-value_levels-deepest_body-requires-in-7 t c =
+pub value_levels-deepest_body-requires-in-Call : goal.value_levels-deepest_body-requires-in-Call
+value_levels-deepest_body-requires-in-Call t c =
     let args = c.args in
-    let whole = value_as args.levels args.v.now c.requires 7 c.in-7.is in
+    let whole = value_as args.levels args.v.now c.requires 7 (sym c.in-Call.ensures) in
     (omega (arith, value-level args.levels args.v.now c.requires), (omega arith, rw (rest_0 args.v.now) (whole)))
 
-pub value_levels-overflow_add-result-in-7 : goal.value_levels-overflow_add-result-in-7
-value_levels-overflow_add-result-in-7 t c =
-    let walk = c.deepest_body-in-7 in
+pub value_levels-overflow_add-result-in-Call : goal.value_levels-overflow_add-result-in-Call
+value_levels-overflow_add-result-in-Call t c =
+    let walk = c.deepest_body-in-Call in
     let args = c.args in
     let below = walk.ensures ∙ ap (deepest_at values (args.levels - 1) 2 3) (rest_0 args.v.now) in
-    let sum = call-levels args.levels args.v.now c.requires c.in-7.is in
+    let sum = call-levels args.levels args.v.now c.requires (sym c.in-Call.ensures) in
     let most = levels-bounds values args.levels args.v.now (Bytes-index args.v.now (λ i. (c.type_inv.v i).fits)) c.requires in
     omega (arith, below, sum, most.0)
 
-pub value_levels-returns-in-5 : goal.value_levels-returns-in-5
-value_levels-returns-in-5 t c =
+pub value_levels-returns-in-Set : goal.value_levels-returns-in-Set
+value_levels-returns-in-Set t c =
     let walk = c.deepest_body in
     let args = c.args in
     let below = walk.ensures ∙ ap (deepest_at values (args.levels - 1) 2 1) (rest_0 args.v.now) in
-    let sum = set-value-levels args.levels args.v.now c.requires c.in-5.is in
+    let sum = set-value-levels args.levels args.v.now c.requires (sym c.in-Set.ensures) in
     omega (arith, below, sum)
 
-pub value_levels-returns-in-6 : goal.value_levels-returns-in-6
-value_levels-returns-in-6 t c =
-    let walk = c.deepest_body-in-6 in
+pub value_levels-returns-in-Record : goal.value_levels-returns-in-Record
+value_levels-returns-in-Record t c =
+    let walk = c.deepest_body-in-Record in
     let args = c.args in
     let below = walk.ensures ∙ ap (deepest_at values (args.levels - 1) 4 1) (rest_0 args.v.now) in
-    let sum = record-value-levels args.levels args.v.now c.requires c.in-6.is in
+    let sum = record-value-levels args.levels args.v.now c.requires (sym c.in-Record.ensures) in
     omega (arith, below, sum)
 
-pub value_levels-returns-in-7 : goal.value_levels-returns-in-7
-value_levels-returns-in-7 t c =
-    let walk = c.deepest_body-in-7 in
+pub value_levels-returns-in-Call : goal.value_levels-returns-in-Call
+value_levels-returns-in-Call t c =
+    let walk = c.deepest_body-in-Call in
     let args = c.args in
     let below = walk.ensures ∙ ap (deepest_at values (args.levels - 1) 2 3) (rest_0 args.v.now) in
-    let sum = call-levels args.levels args.v.now c.requires c.in-7.is in
+    let sum = call-levels args.levels args.v.now c.requires (sym c.in-Call.ensures) in
     omega (arith, below, sum)
 
 pub value_levels-returns-in_default : goal.value_levels-returns-in_default
 value_levels-returns-in_default t c =
     let args = c.args in
-    sym (lone-value-levels args.levels args.v.now c.requires c.in_default.in_default-own.rest.0.0.1 c.in_default.in_default-own.rest.0.1 c.in_default.in_default-own.rest.1)
+    let differs : (k : ValueKind) → (c.of.result ≡ k → ⊥) → kind args.v.now ≡ value_kind_number k → ⊥ =
+    λ k h e. value-kind-differs c.of.result k h (c.of.ensures ∙ e) in
+    sym (lone-value-levels args.levels args.v.now c.requires (differs is_value.Set c.in_default.not-Set) (differs is_value.Record c.in_default.not-Record)
+    (differs is_value.Call c.in_default.not-Call))
