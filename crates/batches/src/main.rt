@@ -2,5 +2,5 @@
 #![tactic(auto)]
 
 fn main(rt: HostRuntime) {
-    printing::print_batch(&rt);
+    let _ = printing::print_batch(&rt);
 }

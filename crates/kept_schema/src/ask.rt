@@ -3,8 +3,9 @@ ghost use Rattle.std.specs.Prelude.{◌≡◌};
 ghost use Rattle.schemas.specs.SchemaBytes.{limits_of, checked};
 
 use crate::beyond::{deep_type, long_type};
-use crate::print::{print_both, print_kept, print_line, print_part, print_result};
+use crate::print::{print_kept, print_line, print_part};
 use schemas::whole::Checked;
+use streams::Stopped;
 use trial::{Form, result, workspace};
 use validator::all_attributes::all_attributes_checked;
 use validator::euid_literal::euid_literal_checked;
@@ -18,134 +19,129 @@ use validator::typecheck_restricted_expr::{
     typecheck_restricted_expr_checked, typecheck_restricted_expr_exact_checked,
 };
 
-fn ask_subtype(rt: &HostRuntime, schema: &[u8], check: Checked, mode: u8)
-    requires { check ≡ checked (limits_of check) schema.now }
-{
-    let below = is_subtype_checked(schema, check, mode, &Form::ENTITY_2, &Form::BOTH);
-    print_line(rt, b"is_subtype ", below);
+// A schema, and what its check came to.
+#[derive(Clone, Copy)]
+pub(crate) struct Kept<'a> {
+    pub(crate) schema: &'a [u8],
+    pub(crate) check: Checked,
+    ghost own_check: { check ≡ checked (limits_of check) schema.now },
 }
 
-fn ask_may_have(rt: &HostRuntime, schema: &[u8], check: Checked, t: &[u8])
-    requires { check ≡ checked (limits_of check) schema.now }
-{
-    let may = may_have_attr_checked(schema, check, 1, t);
-    print_line(rt, b"may_have_attr ", may);
-}
+impl Kept<'_> {
+    fn ask_subtype(self, rt: &HostRuntime, mode: u8) -> Result<(), Stopped> {
+        let below = is_subtype_checked(self.schema, self.check, mode, &Form::ENTITY_2, &Form::BOTH);
+        print_line(rt, "is_subtype", below, &[])
+    }
 
-fn ask_conforms(rt: &HostRuntime, schema: &[u8], check: Checked, t: &[u8], v: &[u8])
-    requires { check ≡ checked (limits_of check) schema.now }
-{
-    let conforms = typecheck_restricted_expr_checked(schema, check, t, v);
-    print_line(rt, b"typecheck_restricted_expr ", conforms);
-}
+    fn ask_may_have(self, rt: &HostRuntime, t: &[u8]) -> Result<(), Stopped> {
+        let may = may_have_attr_checked(self.schema, self.check, 1, t);
+        print_line(rt, "may_have_attr", may, &[])
+    }
 
-fn ask_full(rt: &HostRuntime, schema: &[u8], check: Checked, t: &[u8], v: &[u8])
-    requires { check ≡ checked (limits_of check) schema.now }
-{
-    let conforms = typecheck_restricted_expr_exact_checked(schema, check, t, v);
-    print_line(rt, b"typecheck_restricted_expr_exact ", conforms);
-}
+    fn ask_conforms(self, rt: &HostRuntime, t: &[u8], v: &[u8]) -> Result<(), Stopped> {
+        let conforms = typecheck_restricted_expr_checked(self.schema, self.check, t, v);
+        print_line(rt, "typecheck_restricted_expr", conforms, &[])
+    }
 
-// Both conformances of a uid, and of a call with an argument too many.
-fn ask_both(rt: &HostRuntime, schema: &[u8], check: Checked)
-    requires { check ≡ checked (limits_of check) schema.now }
-{
-    ask_conforms(rt, schema, check, &Form::ENTITY_2, &Form::UID_2);
-    ask_conforms(rt, schema, check, &Form::EXTENSION, &Form::CALL);
-    ask_full(rt, schema, check, &Form::ENTITY_2, &Form::UID_2);
-    ask_full(rt, schema, check, &Form::EXTENSION, &Form::CALL);
-}
+    fn ask_full(self, rt: &HostRuntime, t: &[u8], v: &[u8]) -> Result<(), Stopped> {
+        let conforms = typecheck_restricted_expr_exact_checked(self.schema, self.check, t, v);
+        print_line(rt, "typecheck_restricted_expr_exact", conforms, &[])
+    }
 
-fn ask_bound(rt: &HostRuntime, schema: &[u8], check: Checked, mode: u8, t0: &[u8], t1: &[u8])
-    requires { check ≡ checked (limits_of check) schema.now }
-{
-    let mut out = result();
-    let answer = least_upper_bound_checked(schema, check, mode, t0, t1, &mut out);
-    print_result(rt, b"least_upper_bound ", answer, &out);
-}
+    // Both conformances of a uid, and of a call with an argument too many.
+    fn ask_both(self, rt: &HostRuntime) -> Result<(), Stopped> {
+        self.ask_conforms(rt, &Form::ENTITY_2, &Form::UID_2)?;
+        self.ask_conforms(rt, &Form::EXTENSION, &Form::CALL)?;
+        self.ask_full(rt, &Form::ENTITY_2, &Form::UID_2)?;
+        self.ask_full(rt, &Form::EXTENSION, &Form::CALL)
+    }
 
-fn ask_fold(rt: &HostRuntime, schema: &[u8], check: Checked, mode: u8)
-    requires { check ≡ checked (limits_of check) schema.now }
-{
-    let mut out = result();
-    let mut work = workspace();
-    let answer = reduce_to_least_upper_bound_checked(
-        schema,
-        check,
-        mode,
-        &Form::LIST,
-        &mut out,
-        &mut work,
-    );
-    print_both(rt, b"reduce_to_least_upper_bound ", answer, &out, &work);
-}
+    fn ask_bound(self, rt: &HostRuntime, mode: u8, t0: &[u8], t1: &[u8]) -> Result<(), Stopped> {
+        let mut out = result();
+        let answer = least_upper_bound_checked(self.schema, self.check, mode, t0, t1, &mut out);
+        print_line(rt, "least_upper_bound", answer, &[&out])
+    }
 
-fn ask_lookup(rt: &HostRuntime, schema: &[u8], check: Checked)
-    requires { check ≡ checked (limits_of check) schema.now }
-{
-    let mut out = result();
-    let mut work = workspace();
-    let answer = lookup_attribute_type_checked(schema, check, 1, &Form::BOTH, &mut out, &mut work);
-    print_both(rt, b"lookup_attribute_type ", answer, &out, &work);
-}
+    fn ask_fold(self, rt: &HostRuntime, mode: u8) -> Result<(), Stopped> {
+        let mut out = result();
+        let mut work = workspace();
+        let answer = reduce_to_least_upper_bound_checked(
+            self.schema,
+            self.check,
+            mode,
+            &Form::LIST,
+            &mut out,
+            &mut work,
+        );
+        print_line(rt, "reduce_to_least_upper_bound", answer, &[&out, &work])
+    }
 
-fn ask_own(rt: &HostRuntime, schema: &[u8], check: Checked)
-    requires { check ≡ checked (limits_of check) schema.now }
-{
-    let mut told = 0u8;
-    let part = own_attribute_type_checked(schema, check, 1, &Form::RECORD, &mut told);
-    print_part(rt, b"own_attribute_type ", told, part);
-}
+    fn ask_lookup(self, rt: &HostRuntime) -> Result<(), Stopped> {
+        let mut out = result();
+        let mut work = workspace();
+        let answer = lookup_attribute_type_checked(
+            self.schema,
+            self.check,
+            1,
+            &Form::BOTH,
+            &mut out,
+            &mut work,
+        );
+        print_line(rt, "lookup_attribute_type", answer, &[&out, &work])
+    }
 
-fn ask_names(rt: &HostRuntime, schema: &[u8], check: Checked)
-    requires { check ≡ checked (limits_of check) schema.now }
-{
-    let mut out = result();
-    let mut work = workspace();
-    let answer = all_attributes_checked(schema, check, &Form::BOTH, &mut out, &mut work);
-    print_both(rt, b"all_attributes ", answer, &out, &work);
-}
+    fn ask_own(self, rt: &HostRuntime) -> Result<(), Stopped> {
+        let mut told = 0u8;
+        let part = own_attribute_type_checked(self.schema, self.check, 1, &Form::RECORD, &mut told);
+        print_part(rt, "own_attribute_type", told, part)
+    }
 
-fn ask_literal(rt: &HostRuntime, schema: &[u8], check: Checked)
-    requires { check ≡ checked (limits_of check) schema.now }
-{
-    let mut out = result();
-    let answer = euid_literal_checked(schema, check, &Form::UID_3, &mut out);
-    print_result(rt, b"euid_literal ", answer, &out);
-}
+    fn ask_names(self, rt: &HostRuntime) -> Result<(), Stopped> {
+        let mut out = result();
+        let mut work = workspace();
+        let answer = all_attributes_checked(
+            self.schema,
+            self.check,
+            &Form::BOTH,
+            &mut out,
+            &mut work,
+        );
+        print_line(rt, "all_attributes", answer, &[&out, &work])
+    }
 
-// Each call once; the bound is the same both ways round, so its second question has a second type that is not whole.
-fn ask_each(rt: &HostRuntime, schema: &[u8], check: Checked)
-    requires { check ≡ checked (limits_of check) schema.now }
-{
-    ask_subtype(rt, schema, check, 1);
-    ask_may_have(rt, schema, check, &Form::ENTITY_2);
-    ask_both(rt, schema, check);
-    ask_bound(rt, schema, check, 1, &Form::ENTITY_2, &Form::ENTITY_4);
-    ask_bound(rt, schema, check, 1, &Form::LONG, &Form::BROKEN);
-    ask_fold(rt, schema, check, 1);
-    ask_lookup(rt, schema, check);
-    ask_own(rt, schema, check);
-    ask_names(rt, schema, check);
-    ask_literal(rt, schema, check);
-}
+    fn ask_literal(self, rt: &HostRuntime) -> Result<(), Stopped> {
+        let mut out = result();
+        let answer = euid_literal_checked(self.schema, self.check, &Form::UID_3, &mut out);
+        print_line(rt, "euid_literal", answer, &[&out])
+    }
 
-// The calls that take a mode, with a number that is none.
-fn ask_no_mode(rt: &HostRuntime, schema: &[u8], check: Checked)
-    requires { check ≡ checked (limits_of check) schema.now }
-{
-    ask_subtype(rt, schema, check, 3);
-    ask_bound(rt, schema, check, 3, &Form::ENTITY_2, &Form::ENTITY_4);
-    ask_fold(rt, schema, check, 3);
-}
+    // Each call once; the bound is the same both ways round, so its second question has a second type that is not whole.
+    fn ask_each(self, rt: &HostRuntime) -> Result<(), Stopped> {
+        self.ask_subtype(rt, 1)?;
+        self.ask_may_have(rt, &Form::ENTITY_2)?;
+        self.ask_both(rt)?;
+        self.ask_bound(rt, 1, &Form::ENTITY_2, &Form::ENTITY_4)?;
+        self.ask_bound(rt, 1, &Form::LONG, &Form::BROKEN)?;
+        self.ask_fold(rt, 1)?;
+        self.ask_lookup(rt)?;
+        self.ask_own(rt)?;
+        self.ask_names(rt)?;
+        self.ask_literal(rt)
+    }
 
-// The block and the limits, each call, and two types that the standard limits refuse.
-pub(crate) fn ask_all(rt: &HostRuntime, schema: &[u8], check: Checked)
-    requires { check ≡ checked (limits_of check) schema.now }
-{
-    print_kept(rt, schema.len(), check.limits());
-    ask_each(rt, schema, check);
-    ask_no_mode(rt, schema, check);
-    ask_may_have(rt, schema, check, &deep_type());
-    ask_may_have(rt, schema, check, &long_type());
+    // The calls that take a mode, with a number that is none.
+    fn ask_no_mode(self, rt: &HostRuntime) -> Result<(), Stopped> {
+        self.ask_subtype(rt, 3)?;
+        self.ask_bound(rt, 3, &Form::ENTITY_2, &Form::ENTITY_4)?;
+        self.ask_fold(rt, 3)
+    }
+
+    // The block and the limits, each call, and two types that the standard limits refuse.
+    pub(crate) fn ask_all(self, rt: &HostRuntime) -> Result<(), Stopped> {
+        print_kept(rt, self.schema.len(), self.check.limits())?;
+        self.ask_each(rt)?;
+        self.ask_no_mode(rt)?;
+        self.ask_may_have(rt, &deep_type())?;
+        self.ask_may_have(rt, &long_type())
+    }
 }

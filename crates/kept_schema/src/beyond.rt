@@ -12,7 +12,7 @@ impl Beyond {
 
     const BYTES: usize = Limits::BYTES + 1;
 
-    const NAMES: usize = 2047;
+    const NAMES: u16 = 2047;
 }
 
 // Sets in sets: a level more.
@@ -26,14 +26,10 @@ pub(crate) fn deep_type() -> [u8; Beyond::LEVELS] {
 pub(crate) fn long_type() -> [u8; Beyond::BYTES] {
     let mut form = [0u8; Beyond::BYTES];
     form[0] = Kind::ENTITY;
-    form[1] = 255;
-    form[2] = 7;
-    let mut name = 0;
-    while name < Beyond::NAMES {
-        let at = Offset::ENTITY_NAMES + Width::NAME * name;
-        form[at] = (name % 256) as u8;
-        form[at + 1] = (name / 256) as u8;
-        name += 1;
+    [form[1], form[2]] = Beyond::NAMES.to_le_bytes();
+    for name in 0..Beyond::NAMES {
+        let at = Offset::ENTITY_NAMES + Width::NAME * usize::from(name);
+        [form[at], form[at + 1]] = name.to_le_bytes();
     }
     form
 }

@@ -5,29 +5,37 @@ mod ask;
 mod beyond;
 mod print;
 
-use ask::ask_all;
+use ask::Kept;
 use forms::limits::Limits;
 use reader::validator_schema::ValidatorSchema;
+use streams::Stopped;
 use trial::Form;
 
-// The block that is kept and its check, as plain parameters.
-fn ask_kept(rt: &HostRuntime, limits: Limits, block: &[u8]) {
+// Puts each call to a block that is kept under limits.
+fn ask_kept(rt: &HostRuntime, limits: Limits, block: &[u8]) -> Result<(), Stopped> {
     let kept = ValidatorSchema::new(limits, block);
-    ask_all(rt, kept.block(), kept.check());
+    let kept = Kept {
+        schema: kept.block(),
+        check: kept.check(),
+    };
+    kept.ask_all(rt)
 }
 
 // The schema under limits of so many levels and bytes.
-fn ask_under(rt: &HostRuntime, levels: usize, bytes: usize) {
-    let limits = Limits { levels, bytes };
-    ask_kept(rt, limits, &Form::SCHEMA);
+fn ask_under(rt: &HostRuntime, levels: usize, bytes: usize) -> Result<(), Stopped> {
+    ask_kept(rt, Limits { levels, bytes }, &Form::SCHEMA)
+}
+
+fn run(rt: &HostRuntime) -> Result<(), Stopped> {
+    ask_kept(rt, Limits::standard(), &Form::SCHEMA)?;
+    ask_under(rt, Limits::FEWEST_LEVELS, Limits::BYTES)?;
+    ask_under(rt, Limits::MOST_LEVELS, Limits::MOST_BYTES)?;
+    ask_under(rt, Limits::FEWEST_LEVELS - 1, Limits::BYTES)?;
+    ask_under(rt, Limits::LEVELS, Limits::FEWEST_BYTES - 1)?;
+    ask_kept(rt, Limits::standard(), &Form::BROKEN)?;
+    ask_kept(rt, Limits::standard(), &Form::FUNCTION)
 }
 
 fn main(rt: HostRuntime) {
-    ask_kept(&rt, Limits::standard(), &Form::SCHEMA);
-    ask_under(&rt, Limits::FEWEST_LEVELS, Limits::BYTES);
-    ask_under(&rt, Limits::MOST_LEVELS, Limits::MOST_BYTES);
-    ask_under(&rt, Limits::FEWEST_LEVELS - 1, Limits::BYTES);
-    ask_under(&rt, Limits::LEVELS, Limits::FEWEST_BYTES - 1);
-    ask_kept(&rt, Limits::standard(), &Form::BROKEN);
-    ask_kept(&rt, Limits::standard(), &Form::FUNCTION);
+    let _ = run(&rt);
 }

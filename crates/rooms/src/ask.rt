@@ -1,10 +1,8 @@
 // A call put to its entry.
-ghost use Rattle.std.specs.Prelude.{◌≡◌, ◌<◌, length};
-
-use crate::calls::{Call, Form};
+use crate::calls::{Bodies, Call, LARGEST};
 use crate::print::{print_left, print_part};
-use forms::limits::Limits;
 use jobs::Operation;
+use streams::Stopped;
 use validator::all_attributes::all_attributes;
 use validator::answers::Answer;
 use validator::are_types_disjoint::are_types_disjoint;
@@ -38,21 +36,19 @@ impl Calls {
 }
 
 // The answer of the entry that a call is put to.
-fn ask(
-    call: Call,
-    schema: &[u8],
-    first: &[u8],
-    second: &[u8],
-    out: &mut [u8],
-    work: &mut [u8],
-) -> Answer {
-    let limits = Limits {
-        levels: call.levels,
-        bytes: call.bytes,
-    };
-    let mode = call.mode;
-    let attribute = call.attribute;
-    let operation = call.operation;
+fn answer(call: Call, given: Bodies<'_>, out: &mut [u8], work: &mut [u8]) -> Answer {
+    let Bodies {
+        schema,
+        first,
+        second,
+    } = given;
+    let Call {
+        operation,
+        mode,
+        attribute,
+        limits,
+        ..
+    } = call;
     match operation {
         Operation::SUBTYPE => is_subtype(limits, mode, schema, first, second),
         Operation::BOUND => least_upper_bound(limits, mode, schema, first, second, out),
@@ -71,59 +67,29 @@ fn ask(
     }
 }
 
-// Prints the line of a call whose buffers are lent.
-fn print_lent(
-    rt: &HostRuntime,
-    call: Call,
-    schema: &[u8],
-    first: &[u8],
-    second: &[u8],
-    out: &mut [u8],
-    work: &mut [u8],
-) {
-    let answer = ask(call, schema, first, second, out, work);
-    print_left(rt, answer, out, work);
-}
-
-// Prints the line of a call of the second entry of lookup.
-fn print_own(rt: &HostRuntime, limits: Limits, schema: &[u8], attribute: u16, form: &[u8]) {
+// Puts a call to the second entry of lookup, and prints its line.
+fn ask_own(rt: &HostRuntime, call: Call, given: Bodies<'_>) -> Result<(), Stopped> {
     let mut told = Calls::UNTOUCHED;
-    let part = own_attribute_type(limits, schema, attribute, form, &mut told);
-    let place = own_attribute_part(limits, schema, attribute, form);
-    print_part(rt, told, place, part);
-}
-
-// A buffer before a call.
-fn untouched() -> [u8; Form::LARGEST]
-    ensures { 65535 ≡ length result }
-{
-    [Calls::UNTOUCHED; Form::LARGEST]
-}
-
-// Prints the line of a call.
-pub(crate) fn print_answer(rt: &HostRuntime, call: Call, schema: &[u8], first: &[u8], second: &[u8])
-    requires { (call.room < 65536) × (call.workspace < 65536) }
-{
-    let operation = call.operation;
-    if operation == Calls::OWN {
-        let limits = Limits {
-            levels: call.levels,
-            bytes: call.bytes,
-        };
-        print_own(rt, limits, schema, call.attribute, first);
-        return;
-    }
-    let mut result = untouched();
-    let mut work = untouched();
-    let room = call.room;
-    let workspace = call.workspace;
-    print_lent(
-        rt,
-        call,
-        schema,
-        first,
-        second,
-        &mut result[..room],
-        &mut work[..workspace],
+    let part = own_attribute_type(
+        call.limits,
+        given.schema,
+        call.attribute,
+        given.first,
+        &mut told,
     );
+    let place = own_attribute_part(call.limits, given.schema, call.attribute, given.first);
+    print_part(rt, told, place, part)
+}
+
+// Puts a call to its entry, and prints its line.
+pub(crate) fn ask(rt: &HostRuntime, call: Call, given: Bodies<'_>) -> Result<(), Stopped> {
+    if call.operation == Calls::OWN {
+        return ask_own(rt, call, given);
+    }
+    let mut out = [Calls::UNTOUCHED; LARGEST];
+    let mut work = [Calls::UNTOUCHED; LARGEST];
+    let out = &mut out[..usize::from(call.room)];
+    let work = &mut work[..usize::from(call.workspace)];
+    let answer = answer(call, given, out, work);
+    print_left(rt, answer, &[out, work])
 }

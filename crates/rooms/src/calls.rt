@@ -1,8 +1,9 @@
 // The form of a call.
-ghost use Rattle.std.specs.Prelude.{◌≡◌, ◌<◌, ◌≤◌};
+ghost use Rattle.std.specs.Prelude.{◌≡◌, ◌≤◌};
+ghost use Rattle.forms.specs.Parts.{rd};
 ghost use Rattle.rooms.specs.CallBytes.{wide_of, call_of};
 
-use forms::numbers::u16_at;
+use forms::limits::Limits;
 
 // What an entry is asked: the operation, its mode and attribute, the lengths of the result buffer and the workspace, the lengths of the
 // schema and the two bodies, and the limits.
@@ -11,79 +12,62 @@ pub struct Call {
     pub operation: u8,
     pub mode: u8,
     pub attribute: u16,
-    pub room: usize,
-    pub workspace: usize,
-    pub schema: usize,
-    pub first: usize,
-    pub second: usize,
-    pub levels: usize,
-    pub bytes: usize,
+    pub room: u16,
+    pub workspace: u16,
+    pub schema: u16,
+    pub first: u16,
+    pub second: u16,
+    pub limits: Limits,
 }
 
-// Where the numbers of a call stand before its bodies, how many bytes they take, and the most that the bodies can take.
+impl Call {
+    // How many bytes its numbers take.
+    pub const BYTES: usize = 22;
+}
+
+// The most bytes that a body, a result buffer or a workspace has.
+pub const LARGEST: usize = 65535;
+
+// What a call is given: a schema and two bodies.
 #[derive(Clone, Copy)]
-pub struct Form;
+pub struct Bodies<'a> {
+    pub schema: &'a [u8],
+    pub first: &'a [u8],
+    pub second: &'a [u8],
+}
 
-impl Form {
-    const MODE: usize = 1;
-
-    const ATTRIBUTE: usize = 2;
-
-    const ROOM: usize = 4;
-
-    const WORKSPACE: usize = 6;
-
-    const SCHEMA: usize = 8;
-
-    const FIRST: usize = 10;
-
-    const SECOND: usize = 12;
-
-    const LEVELS: usize = 14;
-
-    const BYTES: usize = 18;
-
-    pub const HEAD: usize = 22;
-
-    const HALF: usize = 65536;
-
-    pub const LARGEST: usize = 65535;
-
-    pub const BODIES: usize = 3 * Self::LARGEST;
+// A number of two bytes, the low one first.
+fn u16_at(head: &[u8; Call::BYTES], at: usize) -> u16
+    requires { «at» ≤ 20 }
+    ensures { result ≡ rd head.now «at» }
+{
+    u16::from_le_bytes([head[at], head[at + 1]])
 }
 
 // A number of four bytes, the low one first.
-fn u32_at(head: &[u8; Form::HEAD], at: usize) -> usize
+fn u32_at(head: &[u8; Call::BYTES], at: usize) -> usize
     requires { «at» ≤ 18 }
     ensures { result ≡ wide_of «at» head.now }
 {
-    u16_at(head, at) + Form::HALF * u16_at(head, at + 2)
+    u32::from_le_bytes([head[at], head[at + 1], head[at + 2], head[at + 3]]) as usize
 }
 
 // The call that a head says.
-pub fn call_of(head: &[u8; Form::HEAD]) -> Call
-    ensures value { result ≡ call_of head.now }
-    ensures room_bound { (result.room < 65536) × (result.workspace < 65536) }
-    ensures schema_bound { (result.schema < 65536) × (result.first < 65536) × (result.second < 65536) }
+pub fn call_of(head: &[u8; Call::BYTES]) -> Call
+    ensures { result ≡ call_of head.now }
 {
-    let attribute = u16_at(head, Form::ATTRIBUTE);
-    let room = u16_at(head, Form::ROOM);
-    let workspace = u16_at(head, Form::WORKSPACE);
-    let schema = u16_at(head, Form::SCHEMA);
-    let first = u16_at(head, Form::FIRST);
-    let second = u16_at(head, Form::SECOND);
-    let levels = u32_at(head, Form::LEVELS);
-    let bytes = u32_at(head, Form::BYTES);
     Call {
         operation: head[0],
-        mode: head[Form::MODE],
-        attribute: attribute as u16,
-        room,
-        workspace,
-        schema,
-        first,
-        second,
-        levels,
-        bytes,
+        mode: head[1],
+        attribute: u16_at(head, 2),
+        room: u16_at(head, 4),
+        workspace: u16_at(head, 6),
+        schema: u16_at(head, 8),
+        first: u16_at(head, 10),
+        second: u16_at(head, 12),
+        limits: Limits {
+            levels: u32_at(head, 14),
+            bytes: u32_at(head, 18),
+        },
     }
 }

@@ -1,37 +1,31 @@
-// The line of a call: refusal or 0, answer, and between brackets the bytes of its result buffer and of its workspace; of the second entry
-// of lookup, where the part stands and its bytes.
-use streams::write_output;
-use trial::{print_answer, print_bytes, print_counted, print_refusal};
+// The line of a call.
+use std::fmt::Write;
+use streams::{Output, Stopped};
+use trial::{Buffers, Shown};
 use validator::answers::Answer;
 use validator::own_attribute_type::{OwnPart, Told};
 
-// Prints what an entry answered and left in its buffers.
-pub(crate) fn print_left(rt: &HostRuntime, answer: Answer, res: &[u8], work: &[u8]) {
-    print_answer(rt, answer);
-    print_bytes(rt, res);
-    print_bytes(rt, work);
-    write_output(rt, b"\n");
+// Prints the answer, and between brackets the bytes of each buffer that the entry was lent.
+pub(crate) fn print_left(rt: &HostRuntime, answer: Answer, lent: &[&[u8]]) -> Result<(), Stopped> {
+    writeln!(Output(rt), "{}{}", Shown(answer), Buffers(lent))?;
+    Ok(())
 }
 
-// Prints where a part starts and ends.
-fn print_place(rt: &HostRuntime, word: &[u8], place: OwnPart) {
-    let OwnPart::At(start, end, _) = place else {
-        return;
-    };
-    print_counted(rt, word, start);
-    print_counted(rt, b"..", end);
-}
-
-// Prints what the second entry of lookup told, where the part stands, and the part that it handed back.
-pub(crate) fn print_part(rt: &HostRuntime, told: u8, place: OwnPart, part: &[u8]) {
-    match told {
-        Told::NOTHING => {
-            write_output(rt, b"0 none");
-        }
-        Told::REQUIRED => print_place(rt, b"0 r:", place),
-        Told::OPTIONAL => print_place(rt, b"0 o:", place),
-        n => print_refusal(rt, n),
+// Prints what the second entry of lookup told, where the part stands, and the part that it handed back: refusal or 0; none, or where the
+// part starts and ends, behind r: or o:, or -.
+pub(crate) fn print_part(
+    rt: &HostRuntime,
+    told: u8,
+    place: OwnPart,
+    part: &[u8],
+) -> Result<(), Stopped> {
+    let mut out = Output(rt);
+    match (told, place) {
+        (Told::NOTHING, _) => write!(out, "0 none")?,
+        (Told::REQUIRED, OwnPart::At(start, end, _)) => write!(out, "0 r:{start}..{end}")?,
+        (Told::OPTIONAL, OwnPart::At(start, end, _)) => write!(out, "0 o:{start}..{end}")?,
+        _ => write!(out, "{told} -")?,
     }
-    print_bytes(rt, part);
-    write_output(rt, b"\n");
+    writeln!(out, "{}", Buffers(&[part]))?;
+    Ok(())
 }

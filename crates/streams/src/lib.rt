@@ -5,6 +5,6 @@ mod error;
 mod input;
 mod output;
 
-pub use error::stop;
-pub use input::{Input, read_input};
-pub use output::write_output;
+pub use error::{Stopped, stop};
+pub use input::read_input;
+pub use output::{Output, write_output};

@@ -1,60 +1,42 @@
 // Standard output, written in full.
-ghost use Rattle.streams.specs.Within.{put_within};
-ghost use Rattle.std.specs.Prelude.{length};
+ghost use Rattle.std.specs.Prelude.{◌≤◌, length, IfOk};
 
-use crate::error::fail;
-use std::io::{Error, ErrorKind, Write};
-use std::thread::yield_now;
+use crate::error::{Stopped, try_again};
+use std::fmt;
+use std::io::Write;
 
-// What one write took.
-#[derive(Clone, Copy)]
-enum Put {
-    Bytes(usize),
-    Failed,
-}
-
-// Whether the call that just failed is worth another try: a signal came first, or the pipe was full or empty for now.
-pub(crate) fn may_try_again(error: Error) -> bool {
-    match error.kind() {
-        ErrorKind::Interrupted => true,
-        ErrorKind::WouldBlock => {
-            yield_now();
-            true
-        }
-        _ => false,
-    }
-}
-
-// One write; where it fails, says so on standard error.
-fn write_some(rt: &HostRuntime, buf: &[u8]) -> Put
-    ensures { put_within result (length buf.now) }
+// How many bytes one write took.
+fn write_some(rt: &HostRuntime, buf: &[u8]) -> Result<usize, Stopped>
+    ensures { IfOk result (λ n. n ≤ length buf.now) }
 {
     match rt.stdout().write(buf) {
-        Ok(n) => Put::Bytes(n),
+        Ok(n) => Ok(n),
         Err(error) => {
-            if may_try_again(error) {
-                return Put::Bytes(0);
-            }
-            fail(rt, "standard output", error);
-            Put::Failed
+            try_again(rt, "standard output", error)?;
+            Ok(0)
         }
     }
 }
 
-// Writes all of buf, in as many writes as it takes; where that fails, says so on standard error and answers false. The turns are more
-// than any run takes.
-pub fn write_output(rt: &HostRuntime, buf: &[u8]) -> bool {
+// Writes all of buf, in as many writes as it takes. The turns are more than any run takes.
+pub fn write_output(rt: &HostRuntime, buf: &[u8]) -> Result<(), Stopped> {
     let mut left = buf;
-    let mut turns = u64::MAX;
-    while 0 < left.len() {
-        if turns == 0 {
-            return false;
+    for _ in 0..u64::MAX {
+        if left.is_empty() {
+            return Ok(());
         }
-        turns -= 1;
-        let Put::Bytes(n) = write_some(rt, left) else {
-            return false;
-        };
+        let n = write_some(rt, left)?;
         left = &left[n..];
     }
-    true
+    Err(Stopped)
+}
+
+// Standard output as what text is written to.
+#[derive(Clone, Copy)]
+pub struct Output<'a>(pub &'a HostRuntime);
+
+impl fmt::Write for Output<'_> {
+    fn write_str(&mut self, s: &str) -> fmt::Result {
+        write_output(self.0, s.as_bytes()).map_err(|_| fmt::Error)
+    }
 }

@@ -1,0 +1,50 @@
+// How answers and buffers are shown.
+use std::fmt;
+use validator::answers::Answer;
+
+// An answer: refusal or 0; yes, no, none, or the answer's length, or -. A type's length stands with its levels, as in 10/2; behind r: or
+// o: for an attribute, behind m: where a form is measured.
+#[derive(Clone, Copy)]
+pub struct Shown(pub Answer);
+
+impl fmt::Display for Shown {
+    fn fmt<W: fmt::Write>(&self, f: &mut fmt::Formatter<W>) -> fmt::Result {
+        match self.0 {
+            Answer::Refused(n) => write!(f, "{n} -"),
+            Answer::Yes => write!(f, "0 yes"),
+            Answer::No => write!(f, "0 no"),
+            Answer::Nothing => write!(f, "0 none"),
+            Answer::Measured(n, levels) => write!(f, "0 m:{n}/{levels}"),
+            Answer::Typed(n, levels) => write!(f, "0 {n}/{levels}"),
+            Answer::Attribute(true, n, levels) => write!(f, "0 r:{n}/{levels}"),
+            Answer::Attribute(false, n, levels) => write!(f, "0 o:{n}/{levels}"),
+            Answer::Named(n) => write!(f, "0 {n}"),
+        }
+    }
+}
+
+// Buffers, each behind a space and between brackets, in hexadecimal.
+#[derive(Clone, Copy)]
+pub struct Buffers<'a>(pub &'a [&'a [u8]]);
+
+impl fmt::Display for Buffers<'_> {
+    fn fmt<W: fmt::Write>(&self, f: &mut fmt::Formatter<W>) -> fmt::Result {
+        for buffer in self.0 {
+            write!(f, " [{}]", Hex(buffer))?;
+        }
+        Ok(())
+    }
+}
+
+// Bytes in hexadecimal.
+#[derive(Clone, Copy)]
+struct Hex<'a>(&'a [u8]);
+
+impl fmt::Display for Hex<'_> {
+    fn fmt<W: fmt::Write>(&self, f: &mut fmt::Formatter<W>) -> fmt::Result {
+        for byte in self.0 {
+            write!(f, "{byte:02x}")?;
+        }
+        Ok(())
+    }
+}
