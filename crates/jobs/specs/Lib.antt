@@ -1,3 +1,4 @@
+pub mod Operations
 pub mod JobBytes
 pub mod LineBytes
 pub mod Walk

@@ -1,14 +1,12 @@
 -- A walk over the questions of a job by cursors, and the lines along it. Assumes nothing: these are definitions.
-use Rattle.std.specs.Prelude.{ℕ, zero, suc, ◌+◌, ◌*◌, ◌-◌, List, [], ◌++◌, Bool, ◌&&◌, cond, ◌≡◌, leb, ltb, length, get_or}
+use Rattle.std.specs.Prelude.{ℕ, zero, suc, ◌+◌, ◌*◌, ◌-◌, List, [], ◌++◌, Bool, true, false, ◌&&◌, cond, ◌≡◌, leb, ltb, length, get_or, Option, Some, None, MatchOption}
 use Rattle.cedar.specs.Outcome.{Outcome, over}
-use Rattle.cedar.specs.Limits.{standard}
-use Rattle.cedar.specs.JobForm.{Operation}
-use Rattle.cedar.specs.Lines.{ask_call, outcome_of, line}
+use Rattle.cedar.specs.JobForm.{Question as Asked}
+use Rattle.cedar.specs.Lines.{outcome_of, line}
 use Rattle.forms.specs.Parts.{rd}
 use Rattle.jobs.specs.declared.questions.Cursor.{Cursor}
 use Rattle.jobs.specs.declared.questions.Question.{Question}
-use Rattle.jobs.specs.declared.steps.NextLine.{NextLine}
-use Rattle.jobs.specs.declared.steps.NextLine.TheVariants.{Line, End}
+use Rattle.jobs.specs.Operations.{op}
 use Rattle.jobs.specs.JobBytes.{last_operation, entry_at, lengths_at, bodies_at, bodies_from, schema_of}
 
 -- How many questions a job says it has, and where its first one stands.
@@ -31,25 +29,13 @@ stands_at b c =
     && (leb (get_or b (entry_of c) 0) last_operation
     && (leb c.body (length b) && leb (lengths_at b (entry_of c)) (length b - c.body))))
 
--- The question there.
-unfoldable pub question_at : List ℕ → Cursor → Question
-question_at b c =
-    record {
-      operation = get_or b (entry_of c) 0;
-      mode = get_or b (entry_of c + 1) 0;
-      attribute = rd b (entry_of c + 2);
-      first = c.body;
-      second = c.body + rd b (entry_of c + 4);
-      end = c.body + lengths_at b (entry_of c);
-    }
-
 -- The cursor behind it.
 unfoldable pub next_at : List ℕ → Cursor → Cursor
 next_at b c = record { index = c.index + 1; body = c.body + lengths_at b (entry_of c) }
 
--- A question of a job put to its call.
-unfoldable pub asked : Operation → ℕ → ℕ → List ℕ → List ℕ → List ℕ → Outcome
-asked o m a s x y = ask_call o standard m a s x y
+-- How many questions the job says stand from a cursor on.
+abbrev pub ahead : List ℕ → Cursor → ℕ
+ahead b c = count_of b - c.index
 
 -- What the question comes to.
 unfoldable pub outcome_at : List ℕ → Cursor → Outcome
@@ -64,7 +50,18 @@ unfoldable pub lines_along : List ℕ → ℕ → Cursor → List ℕ
 lines_along b zero c = []
 lines_along b (suc n) c = line_at b c ++ lines_along b n (next_at b c)
 
+-- What a question of the code asks, and its bodies.
+abbrev pub asks : Question → Asked × (List ℕ × List ℕ)
+asks q = (record { operation = op q.operation; mode = q.mode; attribute = q.attribute; first_length = length q.first.now }, (q.first.now, q.second.now))
+
+-- The question at which a cursor stands and the cursor behind it, or none where no question stands.
+abbrev pub QuestionAt : List ℕ → Cursor → Option (Question × Cursor) → Type 0
+QuestionAt b c r =
+    MatchOption r (stands_at b c ≡ false)
+    (λ p. (stands_at b c ≡ true) × (asks p.0 ≡ (entry_at b (entry_of c), bodies_at b (entry_of c) c.body)) × (p.1 ≡ next_at b c))
+
 -- A question answered: its line over the front of the buffer, its length and the next cursor; where no question stands, nothing.
-pub record LineWritten (b : List ℕ) (c : Cursor) (before after : List ℕ) (r : NextLine) : Type 0 where
-  pub answer : r ≡ cond (stands_at b c) (Line (length (line_at b c)) (next_at b c)) End
+pub record LineWritten (b : List ℕ) (c : Cursor) (before after : List ℕ) (r : Option ℕ) (d : Cursor) : Type 0 where
+  pub answer : r ≡ cond (stands_at b c) (Some (length (line_at b c))) None
+  pub next : d ≡ cond (stands_at b c) (next_at b c) c
   pub bytes : after ≡ over (line_at b c) before

@@ -1,17 +1,14 @@
 // The answer to a question of a job, by the entry that it is put to.
-ghost use Rattle.std.specs.Prelude.{◌≡◌, true, ◌≤◌, length};
-ghost use Rattle.cedar.specs.Limits.{standard};
-ghost use Rattle.cedar.specs.Calls.{fold_call, lookup_call, names_call};
-ghost use Rattle.cedar.specs.Lines.{job_room, job_work};
-ghost use Rattle.schemas.specs.SchemaBytes.{checked};
+ghost use Rattle.std.specs.Prelude.{◌≡◌, length};
+ghost use Rattle.cedar.specs.Lines.{job_room, outcome_of};
+ghost use Rattle.schemas.specs.SchemaBytes.{limits_of, checked};
 ghost use Rattle.validator.specs.Answers.{Answered};
-ghost use Rattle.jobs.specs.JobBytes.{last_operation, op_of, job_limits, job_check};
-ghost use Rattle.jobs.specs.Walk.{asked, stands_at, outcome_at};
+ghost use Rattle.jobs.specs.JobBytes.{job_limits};
+ghost use Rattle.jobs.specs.Walk.{asks};
 
 use crate::operations::Operation;
-use crate::questions::{Cursor, Question, question_at};
+use crate::questions::Question;
 use crate::steps::Buffers;
-use crate::whole::{bodies_from, schema_from};
 use forms::limits::Limits;
 use schemas::whole::Checked;
 use validator::all_attributes::all_attributes_checked;
@@ -29,88 +26,38 @@ use validator::typecheck_restricted_expr::{
     typecheck_restricted_expr_checked, typecheck_restricted_expr_exact_checked,
 };
 
-// The fold of a list, with a job's workspace.
-fn fold(schema: &[u8], check: Checked, mode: u8, list: &[u8], res: &mut [u8]) -> Answer
-    requires own_check { check ≡ checked job_limits schema.now }
+// A question put to its entry, under the check of the schema.
+pub fn ask(q: Question<'_>, schema: &[u8], check: Checked, res: &mut [u8]) -> Answer
+    requires own_check { check ≡ checked (limits_of check) schema.now }
+    requires own_limits { limits_of check ≡ job_limits }
     requires res_len { length res.old ≡ job_room }
-    ensures { Answered (fold_call standard mode schema.now list.now job_room job_work) res.old res.new result }
+    ensures { Answered (outcome_of schema.now (asks q.entry)) res.old res.new result }
 {
+    let Question {
+        operation,
+        mode,
+        attribute,
+        first,
+        second,
+    } = q;
+    let limits = Limits::standard();
     let mut work = [0u8; Buffers::WORK];
-    reduce_to_least_upper_bound_checked(schema, check, mode, list, res, &mut work)
-}
-
-// The lookup of an attribute, with a job's workspace.
-fn lookup(schema: &[u8], check: Checked, attribute: u16, t: &[u8], res: &mut [u8]) -> Answer
-    requires own_check { check ≡ checked job_limits schema.now }
-    requires res_len { length res.old ≡ job_room }
-    ensures { Answered (lookup_call standard schema.now attribute t.now job_room job_work) res.old res.new result }
-{
-    let mut work = [0u8; Buffers::WORK];
-    lookup_attribute_type_checked(schema, check, attribute, t, res, &mut work)
-}
-
-// The names of a type's attributes, with a job's workspace.
-fn names(schema: &[u8], check: Checked, t: &[u8], res: &mut [u8]) -> Answer
-    requires own_check { check ≡ checked job_limits schema.now }
-    requires res_len { length res.old ≡ job_room }
-    ensures { Answered (names_call standard schema.now t.now job_room job_work) res.old res.new result }
-{
-    let mut work = [0u8; Buffers::WORK];
-    all_attributes_checked(schema, check, t, res, &mut work)
-}
-
-// A question put to its entry.
-fn ask(
-    q: Question,
-    schema: &[u8],
-    check: Checked,
-    first: &[u8],
-    second: &[u8],
-    res: &mut [u8],
-) -> Answer
-    requires known_operation { q.operation ≤ last_operation }
-    requires own_check { check ≡ checked job_limits schema.now }
-    requires res_len { length res.old ≡ job_room }
-    ensures { Answered (asked (op_of q.operation) q.mode q.attribute schema.now first.now second.now) res.old res.new result }
-{
-    let mode = q.mode;
-    let attribute = q.attribute;
-    let operation = q.operation;
     match operation {
-        Operation::SUBTYPE => is_subtype_checked(schema, check, mode, first, second),
-        Operation::BOUND => least_upper_bound_checked(schema, check, mode, first, second, res),
-        Operation::DISJOINT => are_types_disjoint(Limits::standard(), first, second),
-        Operation::LOOKUP => lookup(schema, check, attribute, first, res),
-        Operation::MAY_HAVE => may_have_attr_checked(schema, check, attribute, first),
-        Operation::NAMES => names(schema, check, first, res),
-        Operation::CONSISTENT => is_consistent_with(Limits::standard(), first, second),
-        Operation::CONVERT => convert(Limits::standard(), first, res),
-        Operation::CONFORMS => typecheck_restricted_expr_checked(schema, check, first, second),
-        Operation::FOLD => fold(schema, check, mode, first, res),
-        Operation::LITERAL => euid_literal_checked(schema, check, first, res),
-        _ => typecheck_restricted_expr_exact_checked(schema, check, first, second),
+        Operation::Subtype => is_subtype_checked(schema, check, mode, first, second),
+        Operation::Bound => least_upper_bound_checked(schema, check, mode, first, second, res),
+        Operation::Disjoint => are_types_disjoint(limits, first, second),
+        Operation::Lookup => {
+            lookup_attribute_type_checked(schema, check, attribute, first, res, &mut work)
+        }
+        Operation::MayHave => may_have_attr_checked(schema, check, attribute, first),
+        Operation::Names => all_attributes_checked(schema, check, first, res, &mut work),
+        Operation::Consistent => is_consistent_with(limits, first, second),
+        Operation::Convert => convert(limits, first, res),
+        Operation::Conforms => typecheck_restricted_expr_checked(schema, check, first, second),
+        Operation::Fold => {
+            reduce_to_least_upper_bound_checked(schema, check, mode, first, res, &mut work)
+        }
+        Operation::Literal => euid_literal_checked(schema, check, first, res),
+        Operation::Full => typecheck_restricted_expr_exact_checked(schema, check, first, second),
     }
-}
-
-// The answer to the question at which a cursor stands.
-pub fn answer_at(job: &[u8], check: Checked, cursor: Cursor, res: &mut [u8]) -> Answer
-    requires stands { stands_at job.now cursor ≡ true }
-    requires own_check { check ≡ job_check job.now }
-    requires res_len { length res.old ≡ job_room }
-    ensures { Answered (outcome_at job.now cursor) res.old res.new result }
-{
-    let q = question_at(job, cursor);
-    let schema = schema_from(job);
-    let bodies = bodies_from(job);
-    let first = q.first;
-    let second = q.second;
-    let end = q.end;
-    ask(
-        q,
-        &job[schema..bodies],
-        check,
-        &job[first..second],
-        &job[second..end],
-        res,
-    )
 }

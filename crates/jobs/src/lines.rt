@@ -17,13 +17,7 @@ fn number(answer: Answer) -> usize
 {
     match answer {
         Answer::Refused(n) => wide(n),
-        Answer::Yes => 0,
-        Answer::No => 0,
-        Answer::Nothing => 0,
-        Answer::Measured(_, _) => 0,
-        Answer::Typed(_, _) => 0,
-        Answer::Attribute(_, _, _) => 0,
-        Answer::Named(_) => 0,
+        _ => 0,
     }
 }
 
@@ -42,10 +36,7 @@ fn put_required(required: bool, out: &mut [u8]) -> usize
     requires { 2 ≤ length out.old }
     ensures { Written (required_word required) out.old out.new result }
 {
-    if required {
-        return put_bytes(b"r:", out);
-    }
-    put_bytes(b"o:", out)
+    put_bytes(if required { b"r:" } else { b"o:" }, out)
 }
 
 // Writes a looked-up attribute: whether it is required, and its type's form.

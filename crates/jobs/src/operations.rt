@@ -1,76 +1,79 @@
-// What a question asks, by number, and which fields it takes.
-ghost use Rattle.std.specs.Prelude.{◌≡◌, ◌≤◌};
+// What a question asks, and which fields it takes.
+ghost use Rattle.std.specs.Prelude.{◌≡◌};
 ghost use Rattle.cedar.specs.JobForm.{takes_mode, takes_attribute, takes_second};
-ghost use Rattle.jobs.specs.JobBytes.{last_operation, op_of};
+ghost use Rattle.jobs.specs.Operations.{op, Decodes};
 
-#[derive(Clone, Copy)]
-pub struct Operation;
+#[derive(Clone, Copy, Debug, PartialEq, Eq)]
+pub enum Operation {
+    Subtype,
+    Bound,
+    Disjoint,
+    Lookup,
+    MayHave,
+    Names,
+    Consistent,
+    Convert,
+    Conforms,
+    Fold,
+    Literal,
+    Full,
+}
+
+// A number that no operation has.
+#[derive(Clone, Copy, Debug, PartialEq, Eq)]
+pub struct UnknownOperation(pub u8);
+
+impl TryFrom<u8> for Operation {
+    type Error = UnknownOperation;
+
+    ghost try_from_gives = { Decodes };
+
+    fn try_from(k: u8) -> Result<Operation, UnknownOperation> {
+        match k {
+            0 => Ok(Operation::Subtype),
+            1 => Ok(Operation::Bound),
+            2 => Ok(Operation::Disjoint),
+            3 => Ok(Operation::Lookup),
+            4 => Ok(Operation::MayHave),
+            5 => Ok(Operation::Names),
+            6 => Ok(Operation::Consistent),
+            7 => Ok(Operation::Convert),
+            8 => Ok(Operation::Conforms),
+            9 => Ok(Operation::Fold),
+            10 => Ok(Operation::Literal),
+            11 => Ok(Operation::Full),
+            _ => Err(UnknownOperation(k)),
+        }
+    }
+}
 
 impl Operation {
-    pub const SUBTYPE: u8 = 0;
-
-    pub const BOUND: u8 = 1;
-
-    pub const DISJOINT: u8 = 2;
-
-    pub const LOOKUP: u8 = 3;
-
-    pub const MAY_HAVE: u8 = 4;
-
-    pub const NAMES: u8 = 5;
-
-    pub const CONSISTENT: u8 = 6;
-
-    pub const CONVERT: u8 = 7;
-
-    pub const CONFORMS: u8 = 8;
-
-    pub const FOLD: u8 = 9;
-
-    pub const LITERAL: u8 = 10;
-
-    pub const FULL: u8 = 11;
-
-    pub const LAST: u8 = Operation::FULL;
-}
-
-// Whether an operation takes a mode.
-pub fn takes_mode(k: u8) -> bool
-    requires { k ≤ last_operation }
-    ensures { result ≡ takes_mode (op_of k) }
-{
-    match k {
-        Operation::SUBTYPE => true,
-        Operation::BOUND => true,
-        Operation::FOLD => true,
-        _ => false,
+    pub fn takes_mode(self) -> bool
+        ensures { result ≡ takes_mode (op self) }
+    {
+        matches!(
+            self,
+            Operation::Subtype | Operation::Bound | Operation::Fold
+        )
     }
-}
 
-// Whether an operation takes an attribute.
-pub fn takes_attribute(k: u8) -> bool
-    requires { k ≤ last_operation }
-    ensures { result ≡ takes_attribute (op_of k) }
-{
-    match k {
-        Operation::LOOKUP => true,
-        Operation::MAY_HAVE => true,
-        _ => false,
+    pub fn takes_attribute(self) -> bool
+        ensures { result ≡ takes_attribute (op self) }
+    {
+        matches!(self, Operation::Lookup | Operation::MayHave)
     }
-}
 
-// Whether an operation takes a second body.
-pub fn takes_second(k: u8) -> bool
-    requires { k ≤ last_operation }
-    ensures { result ≡ takes_second (op_of k) }
-{
-    match k {
-        Operation::SUBTYPE => true,
-        Operation::BOUND => true,
-        Operation::DISJOINT => true,
-        Operation::CONSISTENT => true,
-        Operation::CONFORMS => true,
-        Operation::FULL => true,
-        _ => false,
+    pub fn takes_second(self) -> bool
+        ensures { result ≡ takes_second (op self) }
+    {
+        matches!(
+            self,
+            Operation::Subtype
+                | Operation::Bound
+                | Operation::Disjoint
+                | Operation::Consistent
+                | Operation::Conforms
+                | Operation::Full
+        )
     }
 }

@@ -1,10 +1,9 @@
 // The questions of a job, one after the other.
-ghost use Rattle.std.specs.Prelude.{◌≡◌, true, ◌+◌, ◌≤◌, length};
-ghost use Rattle.jobs.specs.JobBytes.{lengths_at};
-ghost use Rattle.jobs.specs.Walk.{count_of, start_of, stands_at, question_at, next_at};
+ghost use Rattle.std.specs.Prelude.{◌≡◌, ◌<◌, OnSome};
+ghost use Rattle.jobs.specs.Walk.{count_of, start_of, QuestionAt};
 
 use crate::operations::Operation;
-use crate::whole::{Entry, JobForm, bodies_from};
+use crate::whole::{Entry, JobForm, bodies_from, lengths};
 use forms::numbers::u16_at;
 
 // Where a walk over a job's questions stands: the index of a question, and where its bodies begin.
@@ -14,20 +13,20 @@ pub struct Cursor {
     pub body: usize,
 }
 
-// A question: what it asks, and where its two bodies begin and end.
+// A question: what it asks, and its two bodies.
 #[derive(Clone, Copy)]
-pub struct Question {
-    pub operation: u8,
+pub struct Question<'a> {
+    pub operation: Operation,
     pub mode: u8,
     pub attribute: u16,
-    pub first: usize,
-    pub second: usize,
-    pub end: usize,
+    pub first: &'a [u8],
+    pub second: &'a [u8],
 }
 
 // How many questions a job says it has.
+#[tactic(auto, unfolding(crate::specs::Walk::count_of))]
 pub fn count(job: &[u8]) -> usize
-    ensures { result ≡ count_of job.now }
+    ensures { (result ≡ count_of job.now) × (result < 65536) }
 {
     if job.len() < JobForm::ENTRIES {
         return 0;
@@ -36,6 +35,7 @@ pub fn count(job: &[u8]) -> usize
 }
 
 // The first question of a job.
+#[tactic(auto, unfolding(crate::specs::Walk::start_of))]
 pub fn start(job: &[u8]) -> Cursor
     ensures { result ≡ start_of job.now }
 {
@@ -46,67 +46,42 @@ pub fn start(job: &[u8]) -> Cursor
     Cursor { index: 0, body }
 }
 
-// How long the bodies of the entry at `at` are together.
-fn lengths(job: &[u8], at: usize) -> usize
-    requires { at + 8 ≤ length job.now }
-    ensures { result ≡ lengths_at job.now at }
+// The question at which a cursor stands, and the cursor behind it; or none: the job has none of that index, no such operation, or
+// not the bytes.
+pub fn question_at(job: &[u8], cursor: Cursor) -> Option<(Question<'_>, Cursor)>
+    ensures question { QuestionAt job.now cursor result }
+    ensures small { OnSome result (cursor.index < 65536) }
 {
-    u16_at(job, at + Entry::FIRST_LENGTH) + u16_at(job, at + Entry::SECOND_LENGTH)
-}
-
-// Whether a cursor stands at a question: the job has one of that index, an operation, and the bytes.
-pub fn stands(job: &[u8], cursor: Cursor) -> bool
-    ensures { result ≡ stands_at job.now cursor }
-{
-    let index = cursor.index;
-    let body = cursor.body;
+    let Cursor { index, body } = cursor;
     if count(job) <= index {
-        return false;
+        return None;
     }
     if job.len() < bodies_from(job) {
-        return false;
+        return None;
     }
     let at = JobForm::ENTRIES + Entry::BYTES * index;
-    if Operation::LAST < job[at] {
-        return false;
-    }
+    let Ok(operation) = Operation::try_from(job[at]) else {
+        return None;
+    };
+    let lengths = lengths(job, at);
     if job.len() < body {
-        return false;
+        return None;
     }
-    lengths(job, at) <= job.len() - body
-}
-
-// The question at which a cursor stands.
-pub fn question_at(job: &[u8], cursor: Cursor) -> Question
-    requires { stands_at job.now cursor ≡ true }
-    ensures { result ≡ question_at job.now cursor }
-{
-    let index = cursor.index;
-    let body = cursor.body;
-    let at = JobForm::ENTRIES + Entry::BYTES * index;
-    let attribute = u16_at(job, at + Entry::ATTRIBUTE);
-    let first_length = u16_at(job, at + Entry::FIRST_LENGTH);
-    let both = lengths(job, at);
-    Question {
-        operation: job[at],
+    if job.len() - body < lengths {
+        return None;
+    }
+    let end = body + lengths;
+    let second = body + u16_at(job, at + Entry::FIRST_LENGTH);
+    let question = Question {
+        operation,
         mode: job[at + Entry::MODE],
-        attribute: attribute as u16,
-        first: body,
-        second: body + first_length,
-        end: body + both,
-    }
-}
-
-// The cursor behind the question at which one stands.
-pub fn next(job: &[u8], cursor: Cursor) -> Cursor
-    requires { stands_at job.now cursor ≡ true }
-    ensures { result ≡ next_at job.now cursor }
-{
-    let index = cursor.index;
-    let body = cursor.body;
-    let both = lengths(job, JobForm::ENTRIES + Entry::BYTES * index);
-    Cursor {
+        attribute: u16_at(job, at + Entry::ATTRIBUTE) as u16,
+        first: &job[body..second],
+        second: &job[second..end],
+    };
+    let next = Cursor {
         index: index + 1,
-        body: body + both,
-    }
+        body: end,
+    };
+    Some((question, next))
 }

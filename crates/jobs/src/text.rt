@@ -46,11 +46,9 @@ pub fn put_hex(b: &[u8], out: &mut [u8]) -> usize
     requires { length (hex b.now) ≤ length out.old }
     ensures { Written (hex b.now) out.old out.new result }
 {
-    let mut ahead = b;
     let mut at = 0;
-    while 0 < ahead.len() {
-        put_byte(ahead[0], &mut out[at..]);
-        ahead = &ahead[1..];
+    for x in b {
+        put_byte(*x, &mut out[at..]);
         at += 2;
     }
     at

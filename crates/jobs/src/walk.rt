@@ -1,29 +1,50 @@
 // The lines of a job, one after the other.
-ghost use Rattle.std.specs.Prelude.{◌≡◌};
+ghost use Rattle.std.specs.Prelude.{◌≡◌, ◌<◌, OnSome};
 ghost use Rattle.jobs.specs.JobBytes.{job_check};
-ghost use Rattle.jobs.specs.Walk.{LineWritten};
+ghost use Rattle.jobs.specs.Walk.{start_of, ahead, LineWritten};
 
-use crate::answers::answer_at;
+use crate::answers::ask;
+use crate::checks::check_job;
 use crate::lines::put_line;
-use crate::questions::{Cursor, next, stands};
-use crate::steps::{Buffers, NextLine};
+use crate::questions::{Cursor, question_at, start};
+use crate::steps::Buffers;
+use crate::whole::{bodies_from, schema_from};
 use schemas::whole::Checked;
 
-// Writes the line of the question at which a cursor stands, under the job's schema as it was checked.
-pub fn next_line(
-    job: &[u8],
-    check: Checked,
-    cursor: Cursor,
-    out: &mut [u8; Buffers::LINE],
-) -> NextLine
-    requires { check ≡ job_check job.now }
-    ensures { LineWritten job.now cursor out.old out.new result }
-{
-    if !stands(job, cursor) {
-        return NextLine::End;
+// A walk over a job's questions: the job, the check of its schema, and where the walk stands.
+#[derive(Clone, Copy)]
+pub struct Walk<'a> {
+    pub job: &'a [u8],
+    pub check: Checked,
+    pub cursor: Cursor,
+    ghost own_check: { check ≡ job_check job.now },
+}
+
+impl<'a> Walk<'a> {
+    // A walk from the first question on, under the job's schema as it is checked here.
+    pub fn new(job: &'a [u8]) -> Walk<'a>
+        ensures { (result.job ≡ job.entry) × (result.cursor ≡ start_of job.entry.now) }
+    {
+        Walk {
+            job,
+            check: check_job(job),
+            cursor: start(job),
+        }
     }
-    let mut result = [0u8; Buffers::RESULT];
-    let answer = answer_at(job, check, cursor, &mut result);
-    let n = put_line(cursor.index, answer, &result, out);
-    NextLine::Line(n, next(job, cursor))
+
+    // Writes the line of the next question, and returns how long it is; or none where no question stands.
+    pub fn next_line(&mut self, out: &mut [u8; Buffers::LINE]) -> Option<usize>
+        ensures job { self.new.job ≡ self.old.job }
+        ensures line { LineWritten self.old.job.now self.old.cursor out.old out.new result self.new.cursor }
+        ensures fewer { OnSome result (ahead self.new.job.now self.new.cursor < ahead self.old.job.now self.old.cursor) }
+    {
+        let job = self.job;
+        let Cursor { index, .. } = self.cursor;
+        let (question, next) = question_at(job, self.cursor)?;
+        self.cursor = next;
+        let schema = &job[schema_from(job)..bodies_from(job)];
+        let mut result = [0u8; Buffers::RESULT];
+        let answer = ask(question, schema, self.check, &mut result);
+        Some(put_line(index, answer, &result, out))
+    }
 }

@@ -2,11 +2,11 @@
 ghost use Rattle.std.specs.Prelude.{◌≡◌, ◌+◌, ◌*◌, ◌≤◌, ◌<◌, length};
 ghost use Rattle.cedar.specs.Types.{present};
 ghost use Rattle.cedar.specs.JobForm.{taken_or_zero, whole_job};
-ghost use Rattle.jobs.specs.JobBytes.{entry_fits, fits_from, schema_from, bodies_from};
+ghost use Rattle.jobs.specs.JobBytes.{entry_fits, lengths_at, fits_from, schema_from, bodies_from};
 
-use crate::operations::{Operation, takes_attribute, takes_mode, takes_second};
+use crate::operations::Operation;
 use forms::limits::Limits;
-use forms::numbers::{u16_at, wide};
+use forms::numbers::u16_at;
 
 // Where the parts of a job stand: the schema's length, the count of questions, their entries.
 #[derive(Clone, Copy)]
@@ -36,14 +36,20 @@ impl Entry {
     pub const BYTES: usize = 8;
 }
 
+// How long the bodies of the entry at `at` are together.
+#[tactic(auto, unfolding(crate::specs::JobBytes::lengths_at))]
+pub fn lengths(job: &[u8], at: usize) -> usize
+    requires { at + 8 ≤ length job.now }
+    ensures { result ≡ lengths_at job.now at }
+{
+    u16_at(job, at + Entry::FIRST_LENGTH) + u16_at(job, at + Entry::SECOND_LENGTH)
+}
+
 // Whether a field is taken or 0.
 fn taken_or_zero(taken: bool, n: usize) -> bool
     ensures { result ≡ taken_or_zero taken n }
 {
-    if taken {
-        return true;
-    }
-    n == 0
+    taken || n == 0
 }
 
 // Whether the entry at `at` has an operation, and 0 in the fields that this doesn't take.
@@ -51,17 +57,18 @@ fn entry_fits(job: &[u8], at: usize) -> bool
     requires { at + 8 ≤ length job.now }
     ensures { result ≡ entry_fits job.now at }
 {
-    let k = job[at];
-    if Operation::LAST < k {
+    let Ok(operation) = Operation::try_from(job[at]) else {
         return false;
-    }
-    if !taken_or_zero(takes_mode(k), wide(job[at + Entry::MODE])) {
-        return false;
-    }
-    if !taken_or_zero(takes_attribute(k), u16_at(job, at + Entry::ATTRIBUTE)) {
-        return false;
-    }
-    taken_or_zero(takes_second(k), u16_at(job, at + Entry::SECOND_LENGTH))
+    };
+    taken_or_zero(operation.takes_mode(), usize::from(job[at + Entry::MODE]))
+        && taken_or_zero(
+            operation.takes_attribute(),
+            u16_at(job, at + Entry::ATTRIBUTE),
+        )
+        && taken_or_zero(
+            operation.takes_second(),
+            u16_at(job, at + Entry::SECOND_LENGTH),
+        )
 }
 
 // Whether n entries are in order, and their bodies are so many bytes.
@@ -69,21 +76,17 @@ fn entries_fit(job: &[u8], n: usize, bytes: usize) -> bool
     requires { 4 + 8 * n ≤ length job.now }
     ensures { result ≡ fits_from job.now n 4 bytes }
 {
-    let mut at = JobForm::ENTRIES;
-    let mut left = n;
     let mut room = bytes;
-    while 0 < left {
+    for index in 0..n {
+        let at = JobForm::ENTRIES + Entry::BYTES * index;
         if !entry_fits(job, at) {
             return false;
         }
-        let lengths = u16_at(job, at + Entry::FIRST_LENGTH)
-            + u16_at(job, at + Entry::SECOND_LENGTH);
+        let lengths = lengths(job, at);
         if room < lengths {
             return false;
         }
         room -= lengths;
-        at += Entry::BYTES;
-        left -= 1;
     }
     room == 0
 }

@@ -1,5 +1,5 @@
 -- The head of a job in a batch. Assumes nothing: these are definitions.
-use Rattle.std.specs.Prelude.{ℕ, ◌+◌, ◌*◌, List, Option, Some, None, Result, Ok, Err, cond, ltb, eqb}
+use Rattle.std.specs.Prelude.{ℕ, ◌+◌, ◌*◌, List, Option, Some, None, Result, Ok, Err, cond, ltb}
 use Rattle.forms.specs.Parts.{rd}
 use Rattle.printing.specs.declared.batch.BadHead.{BadHead}
 use Rattle.printing.specs.declared.batch.BadHead.TheVariants.{Cut, TooLong}

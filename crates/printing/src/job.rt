@@ -1,18 +1,13 @@
 // The lines of one job.
-use jobs::{Buffers, NextLine};
+use jobs::{Buffers, Walk};
 use streams::{Stopped, write_output};
 
-// Prints the lines of a whole job, whose schema is checked once.
+// Prints the lines of a whole job.
 fn print_lines(rt: &HostRuntime, job: &[u8]) -> Result<(), Stopped> {
     let mut line = [0u8; Buffers::LINE];
-    let check = jobs::check_job(job);
-    let mut cursor = jobs::start(job);
-    for _ in 0..jobs::count(job) {
-        let NextLine::Line(n, next) = jobs::next_line(job, check, cursor, &mut line) else {
-            break;
-        };
+    let mut walk = Walk::new(job);
+    while let Some(n) = walk.next_line(&mut line) {
         write_output(rt, &line[..n])?;
-        cursor = next;
     }
     Ok(())
 }

@@ -21,55 +21,67 @@ use validator::typecheck_restricted_expr::{
     typecheck_restricted_expr, typecheck_restricted_expr_exact,
 };
 
-// What no operation of a job asks: the second entry of lookup, and measuring; and what stands in the buffers before a call.
+// What an entry is asked: the second entry of lookup, measuring, or what a question of a job asks.
 #[derive(Clone, Copy)]
-struct Calls;
-
-impl Calls {
-    const OWN: u8 = 255;
-
-    const MEASURE_TYPE: u8 = 254;
-
-    const MEASURE_VALUE: u8 = 253;
-
-    const UNTOUCHED: u8 = 165;
+enum Asked {
+    OwnAttribute,
+    MeasureType,
+    MeasureValue,
+    OfJob(Operation),
 }
 
-// The answer of the entry that a call is put to.
-fn answer(call: Call, given: Bodies<'_>, out: &mut [u8], work: &mut [u8]) -> Answer {
+impl From<u8> for Asked {
+    fn from(n: u8) -> Asked {
+        match n {
+            255 => Asked::OwnAttribute,
+            254 => Asked::MeasureType,
+            253 => Asked::MeasureValue,
+            _ => Asked::OfJob(Operation::try_from(n).unwrap_or(Operation::Full)),
+        }
+    }
+}
+
+// What stands in the buffers before a call.
+const UNTOUCHED: u8 = 165;
+
+// The answer of the entry of an operation.
+fn answer(
+    operation: Operation,
+    call: Call,
+    given: Bodies<'_>,
+    out: &mut [u8],
+    work: &mut [u8],
+) -> Answer {
     let Bodies {
         schema,
         first,
         second,
     } = given;
     let Call {
-        operation,
         mode,
         attribute,
         limits,
         ..
     } = call;
     match operation {
-        Operation::SUBTYPE => is_subtype(limits, mode, schema, first, second),
-        Operation::BOUND => least_upper_bound(limits, mode, schema, first, second, out),
-        Operation::DISJOINT => are_types_disjoint(limits, first, second),
-        Operation::LOOKUP => lookup_attribute_type(limits, schema, attribute, first, out, work),
-        Operation::MAY_HAVE => may_have_attr(limits, schema, attribute, first),
-        Operation::NAMES => all_attributes(limits, schema, first, out, work),
-        Operation::CONSISTENT => is_consistent_with(limits, first, second),
-        Operation::CONVERT => convert(limits, first, out),
-        Operation::CONFORMS => typecheck_restricted_expr(limits, schema, first, second),
-        Operation::FOLD => reduce_to_least_upper_bound(limits, mode, schema, first, out, work),
-        Operation::LITERAL => euid_literal(limits, schema, first, out),
-        Calls::MEASURE_TYPE => measure_type(limits, first),
-        Calls::MEASURE_VALUE => measure_value(limits, first),
-        _ => typecheck_restricted_expr_exact(limits, schema, first, second),
+        Operation::Subtype => is_subtype(limits, mode, schema, first, second),
+        Operation::Bound => least_upper_bound(limits, mode, schema, first, second, out),
+        Operation::Disjoint => are_types_disjoint(limits, first, second),
+        Operation::Lookup => lookup_attribute_type(limits, schema, attribute, first, out, work),
+        Operation::MayHave => may_have_attr(limits, schema, attribute, first),
+        Operation::Names => all_attributes(limits, schema, first, out, work),
+        Operation::Consistent => is_consistent_with(limits, first, second),
+        Operation::Convert => convert(limits, first, out),
+        Operation::Conforms => typecheck_restricted_expr(limits, schema, first, second),
+        Operation::Fold => reduce_to_least_upper_bound(limits, mode, schema, first, out, work),
+        Operation::Literal => euid_literal(limits, schema, first, out),
+        Operation::Full => typecheck_restricted_expr_exact(limits, schema, first, second),
     }
 }
 
 // Puts a call to the second entry of lookup, and prints its line.
 fn ask_own(rt: &HostRuntime, call: Call, given: Bodies<'_>) -> Result<(), Stopped> {
-    let mut told = Calls::UNTOUCHED;
+    let mut told = UNTOUCHED;
     let part = own_attribute_type(
         call.limits,
         given.schema,
@@ -83,13 +95,15 @@ fn ask_own(rt: &HostRuntime, call: Call, given: Bodies<'_>) -> Result<(), Stoppe
 
 // Puts a call to its entry, and prints its line.
 pub(crate) fn ask(rt: &HostRuntime, call: Call, given: Bodies<'_>) -> Result<(), Stopped> {
-    if call.operation == Calls::OWN {
-        return ask_own(rt, call, given);
-    }
-    let mut out = [Calls::UNTOUCHED; LARGEST];
-    let mut work = [Calls::UNTOUCHED; LARGEST];
+    let mut out = [UNTOUCHED; LARGEST];
+    let mut work = [UNTOUCHED; LARGEST];
     let out = &mut out[..usize::from(call.room)];
     let work = &mut work[..usize::from(call.workspace)];
-    let answer = answer(call, given, out, work);
+    let answer = match Asked::from(call.operation) {
+        Asked::OwnAttribute => return ask_own(rt, call, given),
+        Asked::MeasureType => measure_type(call.limits, given.first),
+        Asked::MeasureValue => measure_value(call.limits, given.first),
+        Asked::OfJob(operation) => answer(operation, call, given, out, work),
+    };
     print_left(rt, answer, &[out, work])
 }

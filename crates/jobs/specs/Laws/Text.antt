@@ -1,20 +1,13 @@
 -- Laws of numbers and bytes as text. Assumes nothing.
 use Rattle.std.specs.Prelude.{◌≡◌, refl, List, [], ◌∷◌, ◌++◌, ℕ, zero, suc, ◌+◌, ◌*◌, ◌-◌, ◌/◌, ◌%◌, ◌^◌, ◌≤◌, ◌<◌, length, take, drop, get_or}
-use Rattle.std.proofs.Common.{ap, arith, length-append, lt-ltb, le-ltb}
+use Rattle.std.proofs.Common.{ap, arith, add-one, length-append, drop-cons, lt-ltb, le-ltb}
 use Rattle.std.proofs.Math.Nat.{pow-succ'}
 use Rattle.std.proofs.Math.Decide.{dec_le}
 use Rattle.cedar.specs.Lines.{digit, decimal_from, decimal, hex}
 use Rattle.cedar.specs.Outcome.{over}
 use Rattle.forms.specs.Parts.{rest}
-use Rattle.forms.specs.Laws.Parts.{rest-is}
 use Rattle.writing.specs.Written.{Written}
 use Rattle.writing.specs.Laws.Writing.{written_one, written-more}
-
-pub digit_low : (d : ℕ) → d < 10 → 48 + d ≡ digit d
-digit_low d h = rw (lt-ltb d 10 h) refl
-
-pub digit-high : (d : ℕ) → 10 ≤ d → 87 + d ≡ digit d
-digit-high d h = rw (le-ltb d 10 h) refl
 
 -- More than n digits are never asked for.
 decimal-fuel : (f g n : ℕ) → n < f → n < g → decimal_from f n ≡ decimal_from g n
@@ -43,14 +36,8 @@ decimal-short (suc k) n h = go (dec_le 10 n) (decimal-short k (n / 10) (omega (a
 
 -- A writer of a number of two digits or more: the digits before the last, then the last.
 module _ (n : ℕ) (o : List ℕ) (h : length (decimal n) ≤ length o) where
-  pub low-room : n < 10 → 1 ≤ length o
-  low-room p = omega (arith, ap length (decimal-low n p))
-
   pub high-room : 10 ≤ n → length (decimal (n / 10)) + 1 ≤ length o
   high-room p = omega (arith, ap length (decimal-high n p), length-append (decimal (n / 10)) (digit (n % 10) ∷ []))
-
-  pub low_told : n < 10 → {xs : List ℕ} (d : ℕ) → d ≡ digit n → xs ≡ over (d ∷ []) o → Written (decimal n) o xs 1
-  low_told p d e t = rw (decimal-low n p, ← e) (written_one d t)
 
   pub high-told : 10 ≤ n → {xs ys : List ℕ} {at : ℕ} (d : ℕ) → Written (decimal (n / 10)) o xs at → d ≡ digit (n % 10) → ys ≡ over (d ∷ []) (rest at xs) →
       Written (decimal n) o (take at xs ++ (ys ++ drop (length xs - at) (drop at xs))) (at + 1)
@@ -61,15 +48,6 @@ pub length-hex : (b : List ℕ) → length (hex b) ≡ 2 * length b
 length-hex [] = refl
 length-hex (x ∷ b) = omega (arith, length-hex b)
 
-pub byte-told : (x : ℕ) {o xs ys : List ℕ} (c d : ℕ) → 2 ≤ length o → c ≡ digit (x / 16) → xs ≡ over (c ∷ []) o → d ≡ digit (x % 16) →
-    ys ≡ over (d ∷ []) (rest 1 xs) →
-    Written (hex (x ∷ [])) o (take 1 xs ++ (ys ++ drop (length xs - 1) (drop 1 xs))) 2
-byte-told x c d h e t f u = rw (← e, ← f) (written-more (written_one c t) (written_one d u) h)
-
-pub hex-first : (b : List ℕ) → 0 < length b → hex b ≡ hex (get_or b 0 0 ∷ []) ++ hex (rest 1 b)
-hex-first [] p = absurd (omega arith)
-hex-first (x ∷ b) p = rw (rest-is 1 (x ∷ b)) refl
-
-pub hex-none : (b : List ℕ) → length b ≤ 0 → hex b ≡ []
-hex-none [] h = refl
-hex-none (x ∷ b) h = absurd (omega arith)
+-- The digits of the bytes from i on begin with those of byte i.
+pub hex-from : (b : List ℕ) (i x : ℕ) → i < length b → x ≡ get_or b i 0 → hex (drop i b) ≡ hex (x ∷ []) ++ hex (drop (i + 1) b)
+hex-from b i x h e = rw (add-one i, drop-cons b i 0, e) refl

@@ -1,20 +1,22 @@
 -- Laws of the walk over a job's questions. Assumes nothing.
 use Rattle.std.specs.Prelude.{◌≡◌, List, ◌++◌, true, false, ◌&&◌, ℕ, zero, suc, ◌+◌, ◌*◌, ◌-◌, ◌≤◌, ◌<◌, leb, ltb, length, get_or}
 use Rattle.std.proofs.Math.Path.{refl}
-use Rattle.std.proofs.Common.{ap, sym, ◌∙◌, add-one}
+use Rattle.std.proofs.Common.{ap, sym, ◌∙◌, add-one, drop, length-drop, length-take-le}
 use Rattle.std.proofs.Math.Option.{some}
 use native.Mathlib.Omega.{arith}
 use Rattle.std.proofs.Math.Decide.{dec_le}
 use borrow.Author.Tests.{leb-true, ltb-true, le-leb, lt-leb, lt-ltb, le-ltb}
 use Rattle.cedar.specs.Limits.{block_bytes}
-use Rattle.cedar.specs.JobForm.{Job, whole_job}
+use Rattle.cedar.specs.JobForm.{Question as Asked, Job, whole_job}
 use Rattle.cedar.specs.Lines.{line, lines_from, printed}
-use Rattle.forms.specs.Parts.{rd}
+use Rattle.forms.specs.Parts.{part, rd}
 use Rattle.forms.specs.Laws.Parts.{and_l, and_r, and_yes, and-not-l}
 use Rattle.forms.specs.Laws.Sure.{sure-some}
 use Rattle.jobs.specs.declared.questions.Cursor.{Cursor}
-use Rattle.jobs.specs.JobBytes.{last_operation, entry_fits, lengths_at, bodies_from, schema_of, fits_from, questions_from}
-use Rattle.jobs.specs.Walk.{count_of, start_of, entry_of, stands_at, question_at, next_at, outcome_at, line_at, lines_along}
+use Rattle.jobs.specs.declared.operations.Operation.{Operation}
+use Rattle.jobs.specs.JobBytes.{last_operation, op_of, entry_fits, entry_at, lengths_at, bodies_at, bodies_from, schema_of, fits_from, questions_from}
+use Rattle.jobs.specs.Operations.{op}
+use Rattle.jobs.specs.Walk.{count_of, start_of, ahead, entry_of, stands_at, next_at, outcome_at, line_at, lines_along}
 use Rattle.jobs.specs.Laws.Whole.{whole_to}
 
 module _ (b : List ℕ) where
@@ -25,10 +27,6 @@ module _ (b : List ℕ) where
   pub count-is : 4 ≤ length b → rd b 2 ≡ count_of b
   unfolding count_of
   count-is h = rw (le-leb 4 (length b) h) refl
-
-  pub start-short : length b < 4 → record { index = 0; body = 0 } ≡ start_of b
-  unfolding start_of
-  start-short h = rw (lt-leb 4 (length b) h) refl
 
   pub start_is : 4 ≤ length b → (n : ℕ) → n ≡ bodies_from b → record { index = 0; body = n } ≡ start_of b
   unfolding start_of
@@ -109,25 +107,32 @@ module _ (b : List ℕ) (c : Cursor) where
         entry = stands-entry p q;
       }
 
--- The lengths of an entry, and the question.
-pub lengths-are : (b : List ℕ) (e : ℕ) {m n : ℕ} → m ≡ rd b (e + 4) → n ≡ rd b (e + 6) → m + n ≡ lengths_at b e
-unfolding lengths_at
-lengths-are b e p q = omega arith
-
 module _ (b : List ℕ) (c : Cursor) where
   pub first-inside : rd b (entry_of c + 4) ≤ lengths_at b (entry_of c)
   unfolding lengths_at
   first-inside = omega arith
 
-  pub question-is : {a m n : ℕ} → a ≡ rd b (entry_of c + 2) → m ≡ rd b (entry_of c + 4) → n ≡ lengths_at b (entry_of c) →
-      record { operation = get_or b (entry_of c) 0; mode = get_or b (entry_of c + 1) 0; attribute = a; first = c.body; second = c.body + m; end = c.body + n } ≡
-      question_at b c
-  unfolding question_at
-  question-is p q r = rw (p, q, r) refl
+  -- What the code reads there.
+  pub asks-is : (o : Operation) → op o ≡ op_of (get_or b (entry_of c) 0) → {a n l : ℕ} → a ≡ rd b (entry_of c + 2) → n ≡ rd b (entry_of c + 4) →
+      l ≡ lengths_at b (entry_of c) → c.body + n ≤ length b → c.body + l ≤ length b →
+      ◌≡◌ {A = Asked × (List ℕ × List ℕ)} (
+        record { operation = op o; mode = get_or b (entry_of c + 1) 0; attribute = a; first_length = length (part c.body (c.body + n) b) },
+        (part c.body (c.body + n) b, part (c.body + n) (c.body + l) b),
+      )
+      (entry_at b (entry_of c), bodies_at b (entry_of c) c.body)
+  unfolding entry_at bodies_at
+  asks-is o k {a} {n} {l} p q r h g =
+      let f : length (part c.body (c.body + n) b) ≡ n = omega (arith, length-take-le (c.body + n - c.body) (drop c.body b) (omega (arith, length-drop c.body b))) in
+      rw (f, k, p, q, r) refl
 
-pub next-is : (b : List ℕ) (c : Cursor) {n : ℕ} → n ≡ lengths_at b (entry_of c) → record { index = c.index + 1; body = c.body + n } ≡ next_at b c
-unfolding next_at
-next-is b c e = rw e refl
+  pub next-is : {n : ℕ} → n ≡ lengths_at b (entry_of c) → record { index = c.index + 1; body = c.body + n } ≡ next_at b c
+  unfolding next_at
+  next-is e = rw e refl
+
+  -- Fewer stand behind it.
+  pub fewer : stands_at b c ≡ true → {d : Cursor} → d ≡ next_at b c → ahead b d < ahead b c
+  unfolding next_at
+  fewer s e = let t = stands-is b c s in omega (arith, t.below, count-is b t.long, ap (λ (d : Cursor). d.index) e)
 
 -- A cursor in a job whose entries from there on are in order.
 module _ (b : List ℕ) (n i a : ℕ) where

@@ -1,5 +1,5 @@
 -- Whether a job is whole, as a test and its tree. Assumes nothing.
-use Rattle.std.specs.Prelude.{◌≡◌, List, Bool, true, false, not, ◌&&◌, cond, ℕ, zero, suc, ◌+◌, ◌*◌, ◌-◌, ◌≤◌, ◌<◌, eqb, leb, length, take, drop, get_or}
+use Rattle.std.specs.Prelude.{◌≡◌, List, Bool, true, false, ◌&&◌, cond, ℕ, zero, suc, ◌+◌, ◌*◌, ◌-◌, ◌≤◌, ◌<◌, eqb, leb, length, take, drop, get_or}
 use Rattle.std.proofs.Math.Path.{refl, ap}
 use Rattle.std.proofs.Common.{ap₂, sym, ◌∙◌, sub-one, length-drop, le-leb}
 use Rattle.std.proofs.Math.Bool.{and-false}
@@ -7,7 +7,7 @@ use Rattle.std.proofs.Math.Option.{Option, none}
 use native.Mathlib.Omega.{arith}
 use Rattle.std.proofs.Math.Decide.{dec_le}
 use Rattle.std.proofs.Math.Seq.{drop-drop}
-use Rattle.std.proofs.lemmas.Bool.{lt-leb, not-true, not-false}
+use Rattle.std.proofs.lemmas.Bool.{lt-leb}
 use Rattle.cedar.specs.Types.{present}
 use Rattle.cedar.specs.Bytes.{◌>>=◌, guard, word}
 use Rattle.cedar.specs.Limits.{block_bytes}
@@ -99,12 +99,6 @@ module _ (b : List ℕ) where
   whole-not : false ≡ job_fits b → false ≡ present (whole_job b)
   whole-not h = h ∙ sym (sure-present whole_to)
 
-  pub whole_long : block_bytes < length b → false ≡ present (whole_job b)
-  whole_long h = whole-not (and-not-l (leb (length b) block_bytes) _ (lt-leb (length b) block_bytes h))
-
-  pub whole-short : length b < 4 → false ≡ present (whole_job b)
-  whole-short h = whole-not (and-not-r (leb (length b) block_bytes) _ (sym (and-not-l (leb 4 (length b)) _ (lt-leb 4 (length b) h))))
-
   module _ (n : ℕ) (e : n ≡ bodies_from b) where
     pub whole-over : length b < n → false ≡ present (whole_job b)
     whole-over h =
@@ -120,42 +114,43 @@ module _ (b : List ℕ) where
         ∙ and_yes (leb 4 (length b)) _ (le-leb 4 (length b) g)
         ∙ and_yes (leb (bodies_from b) (length b)) _ (le-leb (bodies_from b) (length b) (rw (← e) k)))
 
--- The tests of `entry_fits`.
+-- The entry at e, by what its number says.
 module _ (b : List ℕ) (e : ℕ) where
-  abbrev o : Operation
-  o = op_of (get_or b e 0)
-
   pub entry-over : last_operation < get_or b e 0 → false ≡ entry_fits b e
   unfolding entry_fits
   entry-over h = and-not-l (leb (get_or b e 0) last_operation) _ (lt-leb (get_or b e 0) last_operation h)
 
-  module _ (h : get_or b e 0 ≤ last_operation) (x : Bool) (p : x ≡ taken_or_zero (takes_mode o) (get_or b (e + 1) 0)) where
-    entry-by : entry_fits b e ≡ (x && (taken_or_zero (takes_attribute o) (rd b (e + 2)) && taken_or_zero (takes_second o) (rd b (e + 6))))
+  -- Of an operation o: whether its mode, its attribute and its second length are taken or 0.
+  module _ (o : Operation) (known : (get_or b e 0 ≤ last_operation) × (o ≡ op_of (get_or b e 0))) where
+    abbrev mode : Bool
+    mode = taken_or_zero (takes_mode o) (get_or b (e + 1) 0)
+
+    abbrev attribute : Bool
+    attribute = taken_or_zero (takes_attribute o) (rd b (e + 2))
+
+    abbrev second : Bool
+    second = taken_or_zero (takes_second o) (rd b (e + 6))
+
+    entry-known : entry_fits b e ≡ (mode && (attribute && second))
     unfolding entry_fits
-    entry-by =
-        and_yes (leb (get_or b e 0) last_operation) _ (le-leb (get_or b e 0) last_operation h) ∙
-        ap (λ (t : Bool). t && (taken_or_zero (takes_attribute o) (rd b (e + 2)) && taken_or_zero (takes_second o) (rd b (e + 6)))) (sym p)
+    entry-known = rw (le-leb (get_or b e 0) last_operation known.0, ← known.1) refl
 
-    pub entry-mode : not x ≡ true → false ≡ entry_fits b e
-    entry-mode f = and-not-l x _ (not-true x f) ∙ sym entry-by
+    pub entry-mode : mode ≡ false → false ≡ entry_fits b e
+    entry-mode h = and-not-l mode _ h ∙ sym entry-known
 
-    module _ (f : not x ≡ false) (y : Bool) (q : y ≡ taken_or_zero (takes_attribute o) (rd b (e + 2))) where
-      pub entry-attribute : not y ≡ true → false ≡ entry_fits b e
-      entry-attribute g =
-          and-not-l y _ (not-true y g) ∙ ap (λ (t : Bool). t && taken_or_zero (takes_second o) (rd b (e + 6))) q ∙ sym (and_yes x _ (not-false x f)) ∙ sym entry-by
+    pub entry-attribute : mode ≡ true → attribute ≡ false → false ≡ entry_fits b e
+    entry-attribute g h = and-not-l attribute _ h ∙ sym (entry-known ∙ and_yes mode _ g)
 
-      pub entry-second : not y ≡ false → (z : Bool) → z ≡ taken_or_zero (takes_second o) (rd b (e + 6)) → z ≡ entry_fits b e
-      entry-second g z r =
-          r ∙ sym (and_yes y (taken_or_zero (takes_second o) (rd b (e + 6))) (not-false y g))
-          ∙ ap (λ (t : Bool). t && taken_or_zero (takes_second o) (rd b (e + 6))) q ∙ sym (and_yes x _ (not-false x f)) ∙ sym entry-by
+    pub entry-second : mode ≡ true → attribute ≡ true → second ≡ entry_fits b e
+    entry-second g h = sym (entry-known ∙ and_yes mode _ g ∙ and_yes attribute _ h)
 
--- The loop of `entries_fit`: what is left answers for all.
-pub record EntriesLeft (b : List ℕ) (n bytes at left room : ℕ) : Type 0 where
-  pub same : fits_from b n 4 bytes ≡ fits_from b left at room
-  pub inside : at + 8 * left ≤ length b
+-- The loop of `entries_fit`: the entries from an index on answer for all.
+pub record EntriesLeft (b : List ℕ) (n bytes index room : ℕ) : Type 0 where
+  pub inside : 4 + 8 * n ≤ length b
+  pub same : fits_from b n 4 bytes ≡ fits_from b (n - index) (4 + 8 * index) room
 
-pub entries-start : {b : List ℕ} {n bytes : ℕ} → 4 + 8 * n ≤ length b → EntriesLeft b n bytes 4 n bytes
-entries-start h = record { same = refl; inside = h }
+pub entries-start : {b : List ℕ} {n bytes : ℕ} → 4 + 8 * n ≤ length b → EntriesLeft b n bytes 0 bytes
+entries-start {b} {n} {bytes} h = record { inside = h; same = let e : n - 0 ≡ n = omega arith in rw e refl }
 
 entries-step : (b : List ℕ) (n e room : ℕ) → 0 < n →
     fits_from b n e room ≡ (leb (e + 8) (length b) && (entry_fits b e && (leb (lengths_at b e) room && fits_from b (n - 1) (e + 8) (room - lengths_at b e))))
@@ -163,38 +158,36 @@ unfolding fits_from
 entries-step b zero e room p = absurd (omega arith)
 entries-step b (suc n) e room p = rw (sub-one (suc n)) refl
 
-module _ {b : List ℕ} {n bytes at left room : ℕ} (i : EntriesLeft b n bytes at left room) where
-  pub entries-end : left ≤ 0 → eqb room 0 ≡ fits_from b n 4 bytes
-  entries-end h = sym (i.same ∙ go left h)
+module _ {b : List ℕ} {n bytes index room : ℕ} (i : EntriesLeft b n bytes index room) where
+  pub entries-end : n ≤ index → eqb room 0 ≡ fits_from b n 4 bytes
+  entries-end h = sym (i.same ∙ go (n - index) (omega arith))
     where
-      go : (k : ℕ) → k ≤ 0 → fits_from b k at room ≡ eqb room 0
+      go : (k : ℕ) → k ≤ 0 → fits_from b k (4 + 8 * index) room ≡ eqb room 0
       go zero h = unfold fits_from in refl
       go (suc k) h = absurd (omega arith)
 
-  module _ (p : 0 < left) where
-    entries-first : fits_from b n 4 bytes ≡ (entry_fits b at && (leb (lengths_at b at) room && fits_from b (left - 1) (at + 8) (room - lengths_at b at)))
-    entries-first = i.same ∙ entries-step b left at room p ∙ and_yes (leb (at + 8) (length b)) _ (le-leb (at + 8) (length b) (omega (arith, i.inside)))
+  module _ (p : index < n) where
+    abbrev at : ℕ
+    at = 4 + 8 * index
 
-    module _ (x : Bool) (q : x ≡ entry_fits b at) where
-      pub entries-unfit : not x ≡ true → false ≡ fits_from b n 4 bytes
-      entries-unfit h = and-not-l (entry_fits b at) _ (sym q ∙ not-true x h) ∙ sym entries-first
+    entries-first : fits_from b n 4 bytes ≡
+        (entry_fits b at && (leb (lengths_at b at) room && fits_from b (n - (index + 1)) (4 + 8 * (index + 1)) (room - lengths_at b at)))
+    entries-first =
+        let e : n - index - 1 ≡ n - (index + 1) = omega arith in
+        let f : at + 8 ≡ 4 + 8 * (index + 1) = omega arith in
+        i.same ∙ entries-step b (n - index) at room (omega arith) ∙ and_yes (leb (at + 8) (length b)) _ (le-leb (at + 8) (length b) (omega (arith, i.inside)))
+        ∙ ap₂ (λ (j k : ℕ). entry_fits b at && (leb (lengths_at b at) room && fits_from b j k (room - lengths_at b at))) e f
 
-      module _ (h : not x ≡ false) (k l : ℕ) (f : k ≡ rd b (at + 4)) (g : l ≡ rd b (at + 6)) where
-        both : k + l ≡ lengths_at b at
-        unfolding lengths_at
-        both = omega arith
+    pub entries-unfit : entry_fits b at ≡ false → false ≡ fits_from b n 4 bytes
+    entries-unfit h = and-not-l (entry_fits b at) _ h ∙ sym entries-first
 
-        pub entries-short : room < k + l → false ≡ fits_from b n 4 bytes
-        entries-short r =
-            and-not-r (entry_fits b at) _ (sym (and-not-l (leb (lengths_at b at) room) _ (lt-leb (lengths_at b at) room (omega (arith, both))))) ∙
-            sym entries-first
+    pub entries-short : room < lengths_at b at → false ≡ fits_from b n 4 bytes
+    entries-short r =
+        and-not-r (entry_fits b at) _ (sym (and-not-l (leb (lengths_at b at) room) _ (lt-leb (lengths_at b at) room r))) ∙ sym entries-first
 
-        pub entries-again : k + l ≤ room → EntriesLeft b n bytes (at + 8) (left - 1) (room - (k + l))
-        entries-again r =
-            record {
-              same =
-                  entries-first ∙ and_yes (entry_fits b at) _ (sym q ∙ not-false x h)
-                  ∙ and_yes (leb (lengths_at b at) room) _ (le-leb (lengths_at b at) room (omega (arith, both)))
-                  ∙ ap (λ (j : ℕ). fits_from b (left - 1) (at + 8) (room - j)) (sym both);
-              inside = omega (arith, i.inside);
-            }
+    pub entries-again : entry_fits b at ≡ true → lengths_at b at ≤ room → EntriesLeft b n bytes (index + 1) (room - lengths_at b at)
+    entries-again h r =
+        record {
+          inside = i.inside;
+          same = entries-first ∙ and_yes (entry_fits b at) _ h ∙ and_yes (leb (lengths_at b at) room) _ (le-leb (lengths_at b at) room r);
+        }

@@ -1,4 +1,4 @@
-use Rattle.writing.specs.Laws.Writing.{written-room, written-length}
+use Rattle.writing.specs.Laws.Writing.{written-room}
 use Rattle.jobs.specs.Laws.Lines.{bad-number, bad-head, bad-told}
 use lib.ListN.{length}
 use mathlib.Core.Path.{ap}
@@ -11,38 +11,12 @@ put_field-requires c =
     let put-bytes = c.put_bytes-number_at in
     omega (arith, ap length (bad-number put-bytes.ensures c.requires wide.result wide.ensures.0), written-room put-bytes.ensures (omega (arith, c.requires)))
 
-pub overflow_add-end : goal.overflow_add-end
-overflow_add-end c =
-    let put-field = c.put_field in
-    let wide = c.wide in
-    let put-bytes = c.put_bytes-number_at in
-    omega (arith, (bad-head put-bytes.ensures c.requires wide.result wide.ensures.0 put-field.ensures).many)
-
-pub slice_bounds-put_bytes-count : goal.slice_bounds-put_bytes-count
-slice_bounds-put_bytes-count c =
-    let put-field = c.put_field in
-    let wide = c.wide in
-    let put-bytes = c.put_bytes-number_at in
-    let by-bad-head = bad-head put-bytes.ensures c.requires wide.result wide.ensures.0 put-field.ensures in
-    omega (arith, by-bad-head.many, written-length by-bad-head (omega (arith, c.requires)))
-
-pub slice_bounds-put_bytes-start : goal.slice_bounds-put_bytes-start
-slice_bounds-put_bytes-start c = slice_bounds-put_bytes-count c
-
 pub put_bytes-requires : goal.put_bytes-requires
 put_bytes-requires c =
     let put-field = c.put_field in
     let wide = c.wide in
     let put-bytes = c.put_bytes-number_at in
     omega (arith, written-room (bad-head put-bytes.ensures c.requires wide.result wide.ensures.0 put-field.ensures) (omega (arith, c.requires)), c.requires)
-
-pub overflow_add-result : goal.overflow_add-result
-overflow_add-result c =
-    let put-bytes2 = c.put_bytes in
-    let put-field = c.put_field in
-    let wide = c.wide in
-    let put-bytes = c.put_bytes-number_at in
-    omega (arith, (bad-head put-bytes.ensures c.requires wide.result wide.ensures.0 put-field.ensures).many, put-bytes2.ensures.many)
 
 pub returns : goal.returns
 returns c =

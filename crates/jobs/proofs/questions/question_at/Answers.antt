@@ -1,66 +1,73 @@
-use Rattle.jobs.specs.Laws.Walk.{stands-is, first-inside, question-is}
-use native.Mathlib.Omega.{arith}
+use Rattle.std.proofs.Common.{arith, sym, ◌∙◌, ◌-◌, length, le-leb}
+use Rattle.std.proofs.lemmas.Bool.{lt-leb}
+use Rattle.jobs.specs.Laws.Walk.{counted, stands-none, stands-short, stands-entry, stands-unknown, stands-over, stands-last, first-inside, asks-is, next-is}
 use Rattle.jobs.proofs.questions.question_at.Goals as goal
 
+pub returns-then-count-index-clause-question : goal.returns-then-count-index-clause-question
+returns-then-count-index-clause-question c = sym (stands-none c.args.job.now c.args.cursor (omega (arith, c.count.ensures.0, c.if-count-index.true)))
+
+pub bodies_from-requires : goal.bodies_from-requires
+bodies_from-requires c = (counted c.args.job.now c.args.cursor.index (omega (arith, c.count.ensures.0, c.if-count-index.false))).0
+
+pub returns-then-job-bodies_from-clause-question : goal.returns-then-job-bodies_from-clause-question
+returns-then-job-bodies_from-clause-question c = sym (stands-short c.args.job.now c.args.cursor (omega (arith, c.count.ensures.0, c.if-count-index.false)) (omega (arith, c.bodies_from.ensures, c.if-job-bodies_from.true)))
+
+pub returns-in_default-clause-question : goal.returns-in_default-clause-question
+returns-in_default-clause-question c = sym (stands-unknown c.args.job.now c.args.cursor (omega (arith, c.count.ensures.0, c.if-count-index.false)) (omega (arith, c.bodies_from.ensures, c.if-job-bodies_from.false)) c.in_default.ensures)
+
+pub returns-then-job-body-clause-question : goal.returns-then-job-body-clause-question
+returns-then-job-body-clause-question c = sym (stands-over c.args.job.now c.args.cursor (omega (arith, c.count.ensures.0, c.if-count-index.false)) (omega (arith, c.bodies_from.ensures, c.if-job-bodies_from.false)) c.in-Ok.ensures.0 c.if-job-body.true)
+
+pub returns-then-job-body-2-clause-question : goal.returns-then-job-body-2-clause-question
+returns-then-job-body-2-clause-question c =
+    sym (stands-last c.args.job.now c.args.cursor (omega (arith, c.count.ensures.0, c.if-count-index.false)) (omega (arith, c.bodies_from.ensures, c.if-job-bodies_from.false)) c.in-Ok.ensures.0 c.if-job-body.false c.lengths-lengths.result c.lengths-lengths.ensures) ∙
+    lt-leb c.lengths-lengths.result (length c.args.job.now - c.args.cursor.body) c.if-job-body-2.true
+
 pub overflow_mul-at : goal.overflow_mul-at
-overflow_mul-at c = let s = stands-is c.args.job.now c.args.cursor c.requires in omega (arith, s.entry, s.body, c.well_formed)
+overflow_mul-at c = let p = stands-entry c.args.job.now c.args.cursor (omega (arith, c.count.ensures.0, c.if-count-index.false)) (omega (arith, c.bodies_from.ensures, c.if-job-bodies_from.false)) in omega (arith, p, c.well_formed)
 
 pub overflow_add-at : goal.overflow_add-at
-overflow_add-at c = let s = stands-is c.args.job.now c.args.cursor c.requires in omega (arith, s.entry, s.body, c.well_formed)
-
-pub overflow_add-at-2 : goal.overflow_add-at-2
-overflow_add-at-2 c = let s = stands-is c.args.job.now c.args.cursor c.requires in omega (arith, s.entry, s.body, c.well_formed)
-
-pub u16_at-attribute-requires : goal.u16_at-attribute-requires
-u16_at-attribute-requires c = let s = stands-is c.args.job.now c.args.cursor c.requires in omega (arith, s.entry, s.body, c.well_formed)
-
-pub overflow_add-at-3 : goal.overflow_add-at-3
-overflow_add-at-3 c =
-    let s = stands-is c.args.job.now c.args.cursor c.requires in
-    omega (arith, s.entry, s.body, c.well_formed)
-
-pub u16_at-first_length-requires : goal.u16_at-first_length-requires
-u16_at-first_length-requires c =
-    let s = stands-is c.args.job.now c.args.cursor c.requires in
-    omega (arith, s.entry, s.body, c.well_formed)
-
-pub lengths-both-requires : goal.lengths-both-requires
-lengths-both-requires c =
-    let s = stands-is c.args.job.now c.args.cursor c.requires in
-    omega (arith, s.entry, s.body, c.well_formed)
+overflow_add-at c = let p = stands-entry c.args.job.now c.args.cursor (omega (arith, c.count.ensures.0, c.if-count-index.false)) (omega (arith, c.bodies_from.ensures, c.if-job-bodies_from.false)) in omega (arith, p, c.well_formed)
 
 pub bounds-job-at : goal.bounds-job-at
-bounds-job-at c =
-    let s = stands-is c.args.job.now c.args.cursor c.requires in
-    omega (arith, s.entry, s.body, c.well_formed)
+bounds-job-at c = let p = stands-entry c.args.job.now c.args.cursor (omega (arith, c.count.ensures.0, c.if-count-index.false)) (omega (arith, c.bodies_from.ensures, c.if-job-bodies_from.false)) in omega (arith, p, c.well_formed)
 
-pub overflow_add-result : goal.overflow_add-result
-overflow_add-result c =
-    let s = stands-is c.args.job.now c.args.cursor c.requires in
-    omega (arith, s.entry, s.body, c.well_formed)
+pub lengths-lengths-requires : goal.lengths-lengths-requires
+lengths-lengths-requires c = let p = stands-entry c.args.job.now c.args.cursor (omega (arith, c.count.ensures.0, c.if-count-index.false)) (omega (arith, c.bodies_from.ensures, c.if-job-bodies_from.false)) in omega (arith, p, c.well_formed)
+
+pub overflow_add-at-2 : goal.overflow_add-at-2
+overflow_add-at-2 c = let p = stands-entry c.args.job.now c.args.cursor (omega (arith, c.count.ensures.0, c.if-count-index.false)) (omega (arith, c.bodies_from.ensures, c.if-job-bodies_from.false)) in omega (arith, p, c.well_formed)
+
+pub u16_at-requires : goal.u16_at-requires
+u16_at-requires c = let p = stands-entry c.args.job.now c.args.cursor (omega (arith, c.count.ensures.0, c.if-count-index.false)) (omega (arith, c.bodies_from.ensures, c.if-job-bodies_from.false)) in omega (arith, p, c.well_formed)
+
+pub overflow_add-question : goal.overflow_add-question
+overflow_add-question c = let p = stands-entry c.args.job.now c.args.cursor (omega (arith, c.count.ensures.0, c.if-count-index.false)) (omega (arith, c.bodies_from.ensures, c.if-job-bodies_from.false)) in omega (arith, p, c.well_formed)
 
 pub bounds-job-at-2 : goal.bounds-job-at-2
-bounds-job-at-2 c =
-    let s = stands-is c.args.job.now c.args.cursor c.requires in
-    omega (arith, s.entry, s.body, c.well_formed)
+bounds-job-at-2 c = let p = stands-entry c.args.job.now c.args.cursor (omega (arith, c.count.ensures.0, c.if-count-index.false)) (omega (arith, c.bodies_from.ensures, c.if-job-bodies_from.false)) in omega (arith, p, c.well_formed)
 
-pub overflow_add-result-2 : goal.overflow_add-result-2
-overflow_add-result-2 c =
-    let u16-at2 = c.u16_at-first_length in
-    let args = c.args in
-    let s = stands-is args.job.now args.cursor c.requires in
-    omega (arith, s.body, first-inside args.job.now args.cursor, u16-at2.ensures.0, c.well_formed)
+pub overflow_add-at-3 : goal.overflow_add-at-3
+overflow_add-at-3 c = let p = stands-entry c.args.job.now c.args.cursor (omega (arith, c.count.ensures.0, c.if-count-index.false)) (omega (arith, c.bodies_from.ensures, c.if-job-bodies_from.false)) in omega (arith, p, c.well_formed)
 
-pub overflow_add-result-3 : goal.overflow_add-result-3
-overflow_add-result-3 c =
-    let lengths = c.lengths-both in
-    let s = stands-is c.args.job.now c.args.cursor c.requires in
-    omega (arith, s.body, lengths.ensures, c.well_formed)
+pub u16_at-requires-2 : goal.u16_at-requires-2
+u16_at-requires-2 c = let p = stands-entry c.args.job.now c.args.cursor (omega (arith, c.count.ensures.0, c.if-count-index.false)) (omega (arith, c.bodies_from.ensures, c.if-job-bodies_from.false)) in omega (arith, p, c.well_formed)
 
-pub returns : goal.returns
-returns c =
-    let lengths = c.lengths-both in
-    let u16-at2 = c.u16_at-first_length in
-    let u16-at = c.u16_at-attribute in
-    let args = c.args in
-    question-is args.job.now args.cursor u16-at.ensures.0 u16-at2.ensures.0 lengths.ensures
+pub slice_bounds-question-end : goal.slice_bounds-question-end
+slice_bounds-question-end c = omega (arith, first-inside c.args.job.now c.args.cursor, c.u16_at.ensures.0, c.lengths-lengths.ensures)
+
+pub slice_bounds-question-count-2 : goal.slice_bounds-question-count-2
+slice_bounds-question-count-2 c = omega (arith, first-inside c.args.job.now c.args.cursor, c.u16_at.ensures.0, c.lengths-lengths.ensures)
+
+pub slice_bounds-question-start-2 : goal.slice_bounds-question-start-2
+slice_bounds-question-start-2 c = slice_bounds-question-count-2 c
+
+pub returns-clause-question : goal.returns-clause-question
+returns-clause-question c =
+    let job = c.args.job.now in
+    let at = c.args.cursor in
+    let n = c.u16_at.ensures.0 in
+    let l = c.lengths-lengths.ensures in
+    let s = sym (stands-last job at (omega (arith, c.count.ensures.0, c.if-count-index.false)) (omega (arith, c.bodies_from.ensures, c.if-job-bodies_from.false)) c.in-Ok.ensures.0 c.if-job-body.false c.lengths-lengths.result l) ∙
+    le-leb c.lengths-lengths.result (length job - at.body) c.if-job-body-2.false in
+    (s, asks-is job at c.in-Ok.operation c.in-Ok.ensures.1 c.u16_at-2.ensures.0 n l (omega (arith, first-inside job at, n, l)) (omega (arith, l)), next-is job at l)

@@ -1,15 +1,5 @@
-use Rattle.jobs.specs.Laws.Whole.{whole_long, whole-short, whole-over, whole_is}
+use Rattle.jobs.specs.Laws.Whole.{whole-over, whole_is}
 use Rattle.jobs.proofs.whole.whole_job.Goals as goal
-
-pub returns-then-job-gt-BLOCK_BYTES : goal.returns-then-job-gt-BLOCK_BYTES
-returns-then-job-gt-BLOCK_BYTES c =
-    let args = c.args in
-    whole_long args.job.now c.if-job-gt-BLOCK_BYTES.true
-
-pub returns-then-job-lt-ENTRIES : goal.returns-then-job-lt-ENTRIES
-returns-then-job-lt-ENTRIES c =
-    let args = c.args in
-    whole-short args.job.now c.if-job-lt-ENTRIES.true
 
 pub returns-then-job-bodies : goal.returns-then-job-bodies
 returns-then-job-bodies c =
