@@ -42,7 +42,9 @@ impl<'a> Walk<'a> {
         let Cursor { index, .. } = self.cursor;
         let (question, next) = question_at(job, self.cursor)?;
         self.cursor = next;
-        let schema = &job[schema_from(job)..bodies_from(job)];
+        let start = schema_from(job);
+        let end = bodies_from(job);
+        let schema = &job[start..end];
         let mut result = [0u8; Buffers::RESULT];
         let answer = ask(question, schema, self.check, &mut result);
         Some(put_line(index, answer, &result, out))
