@@ -10,6 +10,7 @@ pub mod ValueBytes
 pub mod ListBytes
 pub mod Tables
 pub mod AttributeRows
+pub mod Names
 pub mod Codes
 pub mod Search
 pub mod Laws

@@ -1,13 +1,13 @@
 -- Lists of names in the borrow checker's terms. Assumes nothing: these are definitions.
-use Rattle.std.specs.Prelude.{ℕ, ◌+◌, ◌*◌, ◌≤◌, true, List, ◌≡◌, length}
+use Rattle.std.specs.Prelude.{ℕ, ◌+◌, ◌*◌, ◌/◌, ◌≤◌, true, List, ◌≡◌, length}
 use Rattle.forms.specs.Parts.{rest, rd}
 use Rattle.forms.specs.TypeBytes.{names_up, names_by}
 
--- At least n names are there, and they ascend strictly from some name on.
-pub record Ascending (n : ℕ) (b : List ℕ) : Type 0 where
+-- Whole names, which ascend strictly from some name on.
+pub record Ascending (b : List ℕ) : Type 0 where
   pub low : ℕ
-  pub sized : 2 * n ≤ length b
-  pub up : names_up n low b ≡ true
+  pub sized : length b ≡ 2 * (length b / 2)
+  pub up : names_up (length b / 2) low b ≡ true
 
 -- An entity form: at least one name, as many as it says, which ascend.
 pub record EntityForm (b : List ℕ) : Type 0 where

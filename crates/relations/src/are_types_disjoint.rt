@@ -1,30 +1,25 @@
 // Whether two types have no entity type in common.
-ghost use Rattle.std.specs.Prelude.{◌≡◌, true};
+ghost use Rattle.std.specs.Prelude.{◌≡◌, true, IfSome, IfNone};
+ghost use Rattle.std.proofs.Math.Option.{none};
 ghost use Rattle.cedar.specs.Disjoint.{type_names, disjoint};
 ghost use Rattle.forms.specs.TypeBytes.{whole, dec};
 ghost use Rattle.relations.specs.TypeNames.{NamesFound};
 
 use crate::names::names_share;
 use forms::kinds::Kind;
-use forms::numbers::u16_at;
 use forms::offsets::Offset;
-
-// Where the names of a type begin in its form, and how many they are.
-#[derive(Clone, Copy)]
-pub enum TypeNames {
-    From(usize, usize),
-    Nothing,
-}
+use forms::widths::Width;
 
 // The names of an entity, or the one name of an action; all else has none.
-fn type_names(t: &[u8], levels: usize) -> TypeNames
+fn type_names(t: &[u8], levels: usize) -> Option<&[u8]>
     requires { whole levels t.now ≡ true }
-    ensures { NamesFound t.now (type_names (dec levels t.now)) result }
+    ensures some { IfSome result (λ names. NamesFound (type_names (dec levels t.now)) names.now) }
+    ensures none { IfNone result (type_names (dec levels t.now) ≡ none) }
 {
     match Kind::of(t) {
-        Kind::Entity => TypeNames::From(Offset::ENTITY_NAMES, u16_at(t, Offset::ENTITY_COUNT)),
-        Kind::Action => TypeNames::From(Offset::ACTION_NAME, 1),
-        _ => TypeNames::Nothing,
+        Kind::Entity => Some(&t[Offset::ENTITY_NAMES..]),
+        Kind::Action => Some(&t[Offset::ACTION_NAME..Offset::ACTION_NAME + Width::NAME]),
+        _ => None,
     }
 }
 
@@ -34,11 +29,11 @@ pub fn are_types_disjoint(t0: &[u8], t1: &[u8], levels: usize) -> bool
     requires t1_whole { whole levels t1.now ≡ true }
     ensures { result ≡ disjoint (dec levels t0.now) (dec levels t1.now) }
 {
-    let TypeNames::From(a, n) = type_names(t0, levels) else {
+    let Some(first) = type_names(t0, levels) else {
         return false;
     };
-    let TypeNames::From(b, m) = type_names(t1, levels) else {
+    let Some(second) = type_names(t1, levels) else {
         return false;
     };
-    !names_share(&t0[a..], n, &t1[b..], m)
+    !names_share(first, second)
 }

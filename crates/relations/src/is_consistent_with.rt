@@ -13,6 +13,7 @@ use forms::kinds::{Kind, Openness};
 use forms::numbers::u16_at;
 use forms::offsets::Offset;
 use forms::rows::{Attributes, Rows};
+use forms::widths::Width;
 
 // Whether a type of kind j is consistent with one of another kind k, which is no entity.
 fn kind_consistent(j: Kind, k: Kind) -> bool
@@ -35,9 +36,7 @@ fn entity_consistent(t0: &[u8], t1: &[u8], levels: usize) -> bool
         Kind::AnyEntity => true,
         Kind::Entity => names_share(
             &t0[Offset::ENTITY_NAMES..],
-            u16_at(t0, Offset::ENTITY_COUNT),
-            &t1[Offset::ENTITY_NAMES..],
-            1,
+            &t1[Offset::ENTITY_NAMES..Offset::ENTITY_NAMES + Width::NAME],
         ),
         Kind::Action => u16_at(t0, Offset::ACTION_NAME) == u16_at(t1, Offset::ENTITY_NAMES),
         _ => false,

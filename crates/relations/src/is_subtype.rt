@@ -12,7 +12,6 @@ use crate::names::names_subset;
 use forms::kinds::{Kind, Openness};
 use forms::modes::Mode;
 use forms::names::same_names;
-use forms::numbers::u16_at;
 use forms::offsets::Offset;
 use forms::rows::{Attributes, Rows};
 use forms::widths::Width;
@@ -53,12 +52,7 @@ fn entity_under(mode: Mode, t0: &[u8], t1: &[u8]) -> bool
     let a = &t0[Offset::ENTITY_NAMES..];
     let b = &t1[Offset::ENTITY_NAMES..];
     if mode.is_permissive() {
-        return names_subset(
-            a,
-            u16_at(t0, Offset::ENTITY_COUNT),
-            b,
-            u16_at(t1, Offset::ENTITY_COUNT),
-        );
+        return names_subset(a, b);
     }
     a == b
 }

@@ -7,13 +7,15 @@ use Rattle.cedar.specs.Types.{Atom, true', false', anyset, anyent, Ty, atom, set
 use Rattle.cedar.specs.TypeForm.{kind_of, atom_code}
 use Rattle.cedar.specs.Disjoint.{shares}
 use Rattle.cedar.specs.Consistency.{plain, consistent_atom, consistent_entity, consistent}
-use Rattle.forms.specs.Parts.{rest, rd, kind}
+use Rattle.forms.specs.Parts.{part, rest, rd, kind}
 use Rattle.forms.specs.TypeBytes.{names_by, whole, dec}
+use Rattle.forms.specs.Names.{names_in}
 use Rattle.forms.specs.Laws.Parts.{rest-is}
 use Rattle.forms.specs.Laws.Sure.{rd-drop, eqb_same}
 use Rattle.forms.specs.Laws.Names.{names-first}
 use Rattle.forms.specs.Laws.Views.{is-entity, is-action}
 use Rattle.relations.specs.Names.{EntityForm, entity_names}
+use Rattle.relations.specs.Laws.Names.{entity-form, names-of-entity, one-name-is}
 use Rattle.relations.specs.Meets.{plain_kind, kind_meets}
 use Rattle.std.proofs.Math.Decide.{dec_lt}
 use Rattle.forms.specs.Kinds.{kind_number}
@@ -163,11 +165,11 @@ module _ (l : ℕ) (a b : List ℕ) (h : whole l a ≡ true) (f : EntityForm b) 
   pub entity-any : kind a ≡ 9 → true ≡ consistent_entity (dec l a) (entity_names b)
   entity-any e = rw heads (any-entity (dec l a) (rd (rest 3 b) 0) (names_by 2 (rd b 1 - 1) (rest 2 (rest 3 b))) (code-dec l a h ∙ e))
 
-  pub entity-name : kind a ≡ 10 → (n : ℕ) → n ≡ rd a 1 → (r : Bool) → r ≡ shares (names_by 2 n (rest 3 a)) (names_by 2 1 (rest 3 b)) →
-      r ≡ consistent_entity (dec l a) (entity_names b)
-  unfolding names_by
-  entity-name e n q r t =
-      t ∙ shares-one (names_by 2 n (rest 3 a)) (rd (rest 3 b) 0) ∙ rw (q, heads, (is-entity l a h e).is) refl
+  pub entity-name : kind a ≡ 10 → (r : Bool) → r ≡ shares (names_in (rest 3 a)) (names_in (part 3 5 b)) → r ≡ consistent_entity (dec l a) (entity_names b)
+  entity-name e r t =
+      let s = is-entity l a h e in
+      let first : names_in (part 3 5 b) ≡ rd (rest 3 b) 0 ∷ [] = one-name-is 3 b (omega (arith, f.sized, f.many)) ∙ ap (λ (x : ℕ). x ∷ []) (sym (rd-rest 3 b)) in
+      t ∙ ap₂ shares (sym (names-of-entity (entity-form s))) first ∙ shares-one (entity_names a) (rd (rest 3 b) 0) ∙ rw (heads, s.is) refl
 
   pub entity-action : kind a ≡ 11 → (x y : ℕ) → x ≡ rd a 1 → y ≡ rd b 3 → eqb x y ≡ consistent_entity (dec l a) (entity_names b)
   entity-action e x y p q =

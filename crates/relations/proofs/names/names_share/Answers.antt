@@ -1,46 +1,34 @@
-use mathlib.Core.Path.{refl, ◌∙◌}
-use native.Mathlib.Omega.{arith}
-use Rattle.relations.specs.Laws.Names.{walk_start, walk-second, shares-skip, share-end, share-hit, share-over, share-past}
+use Rattle.std.proofs.Common.{sym, ◌∙◌, arith, eqb-true}
+use Rattle.std.proofs.lemmas.Bool.{eqb-false}
+use Rattle.relations.specs.Laws.Names.{walk_start, walk-second, shares-skip, share-end, share-over, share-hit, share-past, first-name}
 use Rattle.relations.proofs.names.names_share.Goals as goal
-use Rattle.relations.proofs.names.names_share.Goals.{else-loop-more-test, then-loop-more-test+else-x-y+then-x-y-2}
 
-pub search-init : goal.search-init
-search-init c = (walk_start c.requires.ascending c.requires.ascending_2, refl)
+pub loop-a-init : goal.loop-a-init
+loop-a-init c = walk_start c.requires.first_up c.requires.second_up
 
-pub loop-more-init : goal.loop-more-init
-loop-more-init c =
-    let search-step = c.search in
-    search-step.invariant
+pub returns-then-is_empty : goal.returns-then-is_empty
+returns-then-is_empty c = share-over c.loop-a.invariant (eqb-true _ 0 (sym c.if-is_empty.ensures))
 
-pub loop-more-preserved : goal.loop-more-preserved
-loop-more-preserved c =
-    let if1 = c.if-x-y in
-    let y = c.u16_at-y in
-    let by-walk-second = walk-second c.loop-more.invariant.0 c.search-test.true c.loop-more-test.true
-    shares-skip c.u16_at-x.result y.result c.u16_at-x.ensures.0 y.ensures.0
-    (omega (arith, if1.false, c.if-x-y-2.false)) in
-    (by-walk-second, c.loop-more.invariant.1)
+pub u16_at-x-requires : goal.u16_at-x-requires
+u16_at-x-requires c = omega (arith, (first-name c.loop-a.invariant.first (eqb-false _ 0 (sym c.loop-a-test.ensures))).some)
 
-pub search-preserved : goal.search-preserved
-search-preserved c =
-    let loop = c.loop-more in
-    let x = c.u16_at-x in
-    let l = loop.invariant in
-    let p = c.search-test.true in (
-      elim c.loop-more-test.branch [
-        | else-loop-more-test w ↦ share-over l.0 p x.result x.ensures.0 w.loop-more-test.false
-        | then-loop-more-test+else-x-y+then-x-y-2 w ↦
-            share-past l.0 p x.result x.ensures.0 w.loop-more-test.true w.u16_at-y.result w.u16_at-y.ensures.0 w.if-x-y-2.true
-      ],
-      l.1,
-    )
-
-pub returns-after-search : goal.returns-after-search
-returns-after-search c = c.search.invariant.1 ∙ share-end c.search.invariant.0 c.search-test.false
+pub u16_at-y-requires : goal.u16_at-y-requires
+u16_at-y-requires c = omega (arith, (first-name c.loop-a.invariant.second (eqb-false _ 0 (sym c.if-is_empty.ensures))).some)
 
 pub returns-then-x-y : goal.returns-then-x-y
 returns-then-x-y c =
-    let loop-test = c.loop-more-test in
-    let loop = c.loop-more in
-    share-hit loop.invariant.0 c.search-test.true c.u16_at-x.result c.u16_at-x.ensures.0 loop-test.true
-    c.u16_at-y.result c.u16_at-y.ensures.0 c.if-x-y.true
+    share-hit c.loop-a.invariant (eqb-false _ 0 (sym c.loop-a-test.ensures)) (eqb-false _ 0 (sym c.if-is_empty.ensures))
+    (sym c.u16_at-x.ensures.0 ∙ c.if-x-y.true ∙ c.u16_at-y.ensures.0)
+
+pub loop-a-preserved-then-y-x : goal.loop-a-preserved-then-y-x
+loop-a-preserved-then-y-x c =
+    walk-second c.loop-a.invariant (eqb-false _ 0 (sym c.loop-a-test.ensures)) (eqb-false _ 0 (sym c.if-is_empty.ensures)) shares-skip
+    (omega (arith, c.if-y-x.true, c.u16_at-x.ensures.0, c.u16_at-y.ensures.0))
+
+pub loop-a-preserved : goal.loop-a-preserved
+loop-a-preserved c =
+    share-past c.loop-a.invariant (eqb-false _ 0 (sym c.loop-a-test.ensures)) (eqb-false _ 0 (sym c.if-is_empty.ensures))
+    (omega (arith, c.if-x-y.false, c.if-y-x.false, c.u16_at-x.ensures.0, c.u16_at-y.ensures.0))
+
+pub returns : goal.returns
+returns c = share-end c.loop-a.invariant (eqb-true _ 0 (sym c.loop-a-test.ensures))
