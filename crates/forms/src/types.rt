@@ -1,5 +1,5 @@
 // Whether bytes are a whole type form.
-ghost use Rattle.std.specs.Prelude.{◌≡◌, ◌*◌, ◌<◌, ◌≤◌, length};
+ghost use Rattle.std.specs.Prelude.{◌≡◌, ◌/◌, ◌<◌, ◌≤◌, length};
 ghost use Rattle.cedar.specs.Types.{present};
 ghost use Rattle.cedar.specs.Whole.{whole_type};
 ghost use Rattle.forms.specs.Limits.{as_limits};
@@ -13,22 +13,17 @@ use crate::offsets::Offset;
 use crate::rows::Attributes;
 use crate::widths::Width;
 
-// Whether n names ascend strictly.
-pub fn names_ascend(names: &[u8], n: usize) -> bool
-    requires { 2 * n ≤ length names.now }
-    ensures { result ≡ names_up n 0 names.now }
+// Whether names, two bytes each, ascend strictly.
+pub fn names_ascend(names: &[u8]) -> bool
+    ensures { result ≡ names_up (length names.now / 2) 0 names.now }
 {
-    let mut b = names;
-    let mut left = n;
     let mut low = 0;
-    while 0 < left {
-        let name = u16_at(b, 0);
+    for pair in names.chunks_exact(Width::NAME) {
+        let name = u16_at(pair, 0);
         if name < low {
             return false;
         }
         low = name + 1;
-        b = &b[Width::NAME..];
-        left -= 1;
     }
     true
 }
@@ -47,7 +42,7 @@ fn entity_within(t: &[u8]) -> bool
     if t.len() != Offset::ENTITY_NAMES + Width::NAME * n {
         return false;
     }
-    names_ascend(&t[Offset::ENTITY_NAMES..], n)
+    names_ascend(&t[Offset::ENTITY_NAMES..])
 }
 
 // Whether an attribute's entry has a flag and a name of at least low.

@@ -1,7 +1,8 @@
 -- Laws of type forms. Assumes nothing.
-use Rattle.std.specs.Prelude.{◌≡◌, List, [], ◌∷◌, true, false, ◌&&◌, ℕ, zero, suc, ◌+◌, ◌*◌, ◌-◌, ◌≤◌, ◌<◌, eqb, leb, ltb, length, get_or}
+use Rattle.std.specs.Prelude.{◌≡◌, List, [], ◌∷◌, ◌++◌, true, false, ◌&&◌, ℕ, zero, suc, ◌+◌, ◌*◌, ◌-◌, ◌/◌, ◌≤◌, ◌<◌, eqb, leb, ltb, length, get_or}
+use Rattle.std.specs.declared.slice.ChunksExact.{ChunksExact}
 use Rattle.std.proofs.Math.Path.{refl}
-use Rattle.std.proofs.Common.{ap, sym, ◌∙◌, sub-one, arith, leb-true, le-leb, lt-ltb, le-ltb, eq-eqb, ne_eqb}
+use Rattle.std.proofs.Common.{ap, ap₂, sym, ◌∙◌, sub-one, arith, leb-true, le-leb, lt-ltb, le-ltb, eq-eqb, ne_eqb}
 use Rattle.std.proofs.Math.ListN.{get_or-eq_default}
 use Rattle.std.proofs.lemmas.Bool.{lt-leb}
 use Rattle.forms.specs.Parts.{rest, rd, kind}
@@ -9,14 +10,23 @@ use Rattle.forms.specs.TypeBytes.{names_up, names_fit, attr_row, whole_as, whole
 use Rattle.forms.specs.Rows.{table_fits}
 use Rattle.cedar.specs.Types.{Atom, never, true', false', bool, long, string, anyset, anyent}
 use Rattle.cedar.specs.TypeForm.{one, set_kind, rec_kind, ent_kind, act_kind, ext_kind, no_kind, kind_of}
-use Rattle.forms.specs.Laws.Parts.{and_l, and_r, and-not-l, and-not-r, and_yes, length_rest, rest_0, pos}
+use Rattle.forms.specs.Laws.Parts.{and_l, and_r, and-not-l, and-not-r, and_yes, length_rest, rest-is, rest_0, pos}
 
 pub names-step : (n low : ℕ) (b : List ℕ) → 0 < n → names_up n low b ≡ (leb low (rd b 0) && names_up (n - 1) (rd b 0 + 1) (rest 2 b))
 unfolding names_up
 names-step zero low b p = absurd (omega arith)
 names-step (suc n) low b p = rw (sub-one (suc n)) refl
 
--- The first of n names, and the others.
+names-front : (low : ℕ) (p b : List ℕ) → length p ≡ 2 →
+    names_up (length (p ++ b) / 2) low (p ++ b) ≡ (leb low (rd p 0) && names_up (length b / 2) (rd p 0 + 1) b)
+names-front low [] b h = absurd (omega arith)
+names-front low (x ∷ []) b h = absurd (omega arith)
+names-front low (x ∷ y ∷ []) b h =
+    let n : length (x ∷ y ∷ b) / 2 - 1 ≡ length b / 2 = omega arith in
+    names-step (length (x ∷ y ∷ b) / 2) low (x ∷ y ∷ b) (omega arith)
+    ∙ ap₂ (λ (k : ℕ) (c : List ℕ). leb low (x + 256 * y) && names_up k (x + 256 * y + 1) c) n (rest-is 2 (x ∷ y ∷ b))
+names-front low (x ∷ y ∷ z ∷ p) b h = absurd (omega arith)
+
 -- Names that ascend: the first is not too low, and the others ascend from it on.
 pub names-up : (n low : ℕ) (b : List ℕ) → 0 < n → names_up n low b ≡ true → (low ≤ rd b 0) × (names_up (n - 1) (rd b 0 + 1) (rest 2 b) ≡ true)
 names-up n low b p h =
@@ -26,30 +36,40 @@ names-up n low b p h =
     )
 
 -- The loop of `names_ascend`: what is left answers for all.
-pub record NamesLeft (n : ℕ) (ns : List ℕ) (left low : ℕ) (b : List ℕ) : Type 0 where
-  pub same : names_up n 0 ns ≡ names_up left low b
-  pub sized : 2 * left ≤ length b
+pub record UpLeft (ns : List ℕ) (low : ℕ) (left : ChunksExact ℕ) : Type 0 where
+  pub size : left.size ≡ 2
+  pub same : names_up (length ns / 2) 0 ns ≡ names_up (length left.rest.now / 2) low left.rest.now
 
-pub names-start : {n : ℕ} {ns : List ℕ} → 2 * n ≤ length ns → NamesLeft n ns n 0 ns
-names-start h = record { same = refl; sized = h }
+pub up-start : {ns : List ℕ} {items left : ChunksExact ℕ} → left ≡ items → items.rest.now ≡ ns → items.size ≡ 2 → UpLeft ns 0 left
+up-start e r s =
+    record {
+      size = ap (λ (c : ChunksExact ℕ). c.size) e ∙ s;
+      same = ap (λ (b : List ℕ). names_up (length b / 2) 0 b) (sym (ap (λ (c : ChunksExact ℕ). c.rest.now) e ∙ r));
+    }
 
-module _ {n left low : ℕ} {ns b : List ℕ} (i : NamesLeft n ns left low b) where
-  pub names-end : left ≤ 0 → true ≡ names_up n 0 ns
-  names-end h = sym (i.same ∙ go left h)
+module _ {ns : List ℕ} {low : ℕ} {left : ChunksExact ℕ} (i : UpLeft ns low left) where
+  pub up-end : length left.rest.now < left.size → true ≡ names_up (length ns / 2) 0 ns
+  up-end h = sym (i.same ∙ go (length left.rest.now / 2) (omega (arith, i.size)))
     where
-      go : (k : ℕ) → k ≤ 0 → names_up k low b ≡ true
+      go : (k : ℕ) → k ≤ 0 → names_up k low left.rest.now ≡ true
       go zero h = unfold names_up in refl
       go (suc k) h = absurd (omega arith)
 
-  module _ (p : 0 < left) (k : ℕ) (q : k ≡ rd b 0) where
-    pub names-low : k < low → false ≡ names_up n 0 ns
-    names-low h = and-not-l (leb low (rd b 0)) _ (lt-leb low (rd b 0) (omega arith)) ∙ sym (i.same ∙ names-step left low b p)
+  module _ (pair b : List ℕ) (cut : left.rest.now ≡ pair ++ b) (sized : length pair ≡ left.size) where
+    pub pair-room : length pair ≡ 2
+    pair-room = sized ∙ i.size
 
-    pub names-again : low ≤ k → NamesLeft n ns (left - 1) (k + 1) (rest 2 b)
-    names-again h =
+    first : names_up (length ns / 2) 0 ns ≡ (leb low (rd pair 0) && names_up (length b / 2) (rd pair 0 + 1) b)
+    first = i.same ∙ ap (λ (c : List ℕ). names_up (length c / 2) low c) cut ∙ names-front low pair b pair-room
+
+    pub up-low : rd pair 0 < low → false ≡ names_up (length ns / 2) 0 ns
+    up-low h = and-not-l (leb low (rd pair 0)) _ (lt-leb low (rd pair 0) h) ∙ sym first
+
+    pub up-again : low ≤ rd pair 0 → (next : ChunksExact ℕ) → next.size ≡ left.size → next.rest.now ≡ b → UpLeft ns (rd pair 0 + 1) next
+    up-again h next s r =
         record {
-          same = i.same ∙ names-step left low b p ∙ and_yes (leb low (rd b 0)) _ (le-leb low (rd b 0) (omega arith)) ∙ rw q refl;
-          sized = omega (arith, length_rest 2 b, i.sized);
+          size = s ∙ i.size;
+          same = first ∙ and_yes (leb low (rd pair 0)) _ (le-leb low (rd pair 0) h) ∙ ap (λ (c : List ℕ). names_up (length c / 2) (rd pair 0 + 1) c) (sym r);
         }
 
 -- An entity form.
@@ -66,12 +86,12 @@ module _ (b : List ℕ) where
         and-not-r (leb 3 (length b)) _ (sym (and-not-r (leb 1 (rd b 1)) _ (sym (and-not-l (eqb (length b) (3 + 2 * rd b 1)) _
         (ne_eqb (length b) (3 + 2 * rd b 1) (λ z. h (z ∙ rw q refl)))))))
 
-    pub entity-open : 3 ≤ length b → 1 ≤ n → length b ≡ 3 + 2 * n → names_fit b ≡ names_up n 0 (rest 3 b)
+    pub entity-open : 3 ≤ length b → 1 ≤ n → length b ≡ 3 + 2 * n → names_fit b ≡ names_up (length (rest 3 b) / 2) 0 (rest 3 b)
     entity-open h g e =
         and_yes (leb 3 (length b)) _ (le-leb 3 (length b) h)
         ∙ and_yes (leb 1 (rd b 1)) _ (le-leb 1 (rd b 1) (omega arith))
         ∙ and_yes (eqb (length b) (3 + 2 * rd b 1)) _ (eq-eqb (length b) (3 + 2 * rd b 1) (omega arith))
-        ∙ ap (λ (j : ℕ). names_up j 0 (rest 3 b)) (sym q)
+        ∙ ap (λ (j : ℕ). names_up j 0 (rest 3 b)) (omega (arith, length_rest 3 b))
 
 -- A form of some levels, by its kind.
 pub whole-none : (l : ℕ) (b : List ℕ) → l ≡ 0 → false ≡ whole l b

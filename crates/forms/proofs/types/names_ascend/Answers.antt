@@ -1,22 +1,26 @@
-use Rattle.forms.specs.Laws.Types.{names-start, names-low, names-again, names-end}
+use Rattle.std.proofs.Common.{arith, refl}
+use Rattle.forms.specs.Laws.Types.{up-start, up-end, pair-room, up-low, up-again}
 use Rattle.forms.proofs.types.names_ascend.Goals as goal
 
-pub loop-left-init : goal.loop-left-init
-loop-left-init c = names-start c.requires
+pub loop-pair-init : goal.loop-pair-init
+loop-pair-init c =
+    let items = c.chunks_exact-pair-items.ensures in
+    up-start c.into_iter-pair-iterator.ensures.into_iter_gives items.rest items.size
+
+pub u16_at-name-requires : goal.u16_at-name-requires
+u16_at-name-requires c =
+    let s = c.in-Some.ensures.steps in
+    omega (arith, pair-room c.loop-pair.invariant _ _ s.1.0 s.1.1)
 
 pub returns-then-name-low : goal.returns-then-name-low
 returns-then-name-low c =
-    let u16-at = c.u16_at-name in
-    let loop-test = c.loop-left-test in
-    let loop = c.loop-left in
-    names-low loop.invariant loop-test.true u16-at.result u16-at.ensures.0 c.if-name-low.true
+    let s = c.in-Some.ensures.steps in
+    up-low c.loop-pair.invariant _ _ s.1.0 s.1.1 (omega (arith, c.if-name-low.true, c.u16_at-name.ensures.0))
 
-pub loop-left-preserved : goal.loop-left-preserved
-loop-left-preserved c =
-    let u16-at = c.u16_at-name in
-    let loop-test = c.loop-left-test in
-    let loop = c.loop-left in
-    names-again loop.invariant loop-test.true u16-at.result u16-at.ensures.0 c.if-name-low.false
+pub loop-pair-preserved : goal.loop-pair-preserved
+loop-pair-preserved c =
+    let s = c.in-Some.ensures.steps in
+    rw c.u16_at-name.ensures.0 (up-again c.loop-pair.invariant _ _ s.1.0 s.1.1 (omega (arith, c.if-name-low.false, c.u16_at-name.ensures.0)) c.next.new.self s.0 refl)
 
 pub returns : goal.returns
-returns c = names-end c.loop-left.invariant c.loop-left-test.false
+returns c = up-end c.loop-pair.invariant c.in-None.ensures.steps.1.0
