@@ -1,5 +1,5 @@
 -- Text from an index on, and what the steps of the code say of it. Assumes nothing: these are definitions.
-use Rattle.std.specs.Prelude.{ℕ, ◌+◌, ◌<◌, ◌≤◌, List, Bool, ◌&&◌, cond, ◌≡◌, eqb, ltb, length, get_or, drop}
+use Rattle.std.specs.Prelude.{ℕ, ◌+◌, ◌<◌, ◌≤◌, List, Bool, false, cond, ◌≡◌, eqb, length, get_or, drop, Option, MatchOption}
 use Rattle.cedar.specs.Text.{Range, in_range, tail, is_text}
 
 -- The bytes from i on are text.
@@ -15,10 +15,15 @@ unfoldable pub second_range : ℕ → Range
 second_range x =
     cond (eqb x 0xE0) (0xA0, 0xBF) (cond (eqb x 0xED) (0x80, 0x9F) (cond (eqb x 0xF0) (0x90, 0xBF) (cond (eqb x 0xF4) (0x80, 0x8F) tail)))
 
--- The character at `at` has r bytes, 0 if there is none.
-pub record Width (b : List ℕ) (at r : ℕ) : Type 0 where
-  pub fits : at + r ≤ length b
-  pub right : text_from b at ≡ (ltb 0 r && text_from b (at + r))
+-- At `at` stands a character of n bytes.
+pub record Character (b : List ℕ) (at n : ℕ) : Type 0 where
+  pub some : 0 < n
+  pub fits : at + n ≤ length b
+  pub right : text_from b at ≡ text_from b (at + n)
+
+-- How many bytes the character at `at` has; where there is none, the bytes from `at` on are no text.
+abbrev pub Width : List ℕ → ℕ → Option ℕ → Type 0
+Width b at r = MatchOption r (text_from b at ≡ false) (λ n. Character b at n)
 
 -- From `at` to r there is nothing but whole characters.
 pub record Passes (b : List ℕ) (at r : ℕ) : Type 0 where
@@ -26,11 +31,9 @@ pub record Passes (b : List ℕ) (at r : ℕ) : Type 0 where
   pub fits : r ≤ length b
   pub right : text_from b at ≡ text_from b r
 
--- The same past `at`, or 0: the bytes from `at` on are no text.
-pub record PassesWide (b : List ℕ) (at r : ℕ) : Type 0 where
-  pub fits : r ≤ length b
-  pub ahead : 0 < r → at < r
-  pub right : text_from b at ≡ (ltb 0 r && text_from b r)
+-- The same past `at`; where there is none, the bytes from `at` on are no text.
+abbrev pub PassesWide : List ℕ → ℕ → Option ℕ → Type 0
+PassesWide b at r = MatchOption r (text_from b at ≡ false) (λ n. (at < n) × Passes b at n)
 
 -- The n bytes from `at` on are below 128.
 pub record Plain (b : List ℕ) (at n : ℕ) : Type 0 where

@@ -17,10 +17,7 @@ impl Block {
 fn within(low: u8, high: u8, x: u8) -> bool
     ensures { result ≡ is_in (low, high) x }
 {
-    if x < low {
-        return false;
-    }
-    x <= high
+    (low..=high).contains(&x)
 }
 
 // Is x a tail: a byte after the second, or the second of two?
@@ -43,79 +40,60 @@ fn is_second(x: u8, y: u8) -> bool
     }
 }
 
-// 2 where a character of two bytes stands at `at`, whose first byte begins one; else 0.
-fn width_two(b: &[u8], at: usize) -> usize
+// Two where a character of two bytes stands at `at`, whose first byte begins one.
+fn width_two(b: &[u8], at: usize) -> Option<usize>
     requires { (at < length b.now) × (0xC2 ≤ get_or b.now at 0) × (get_or b.now at 0 < 0xE0) }
     ensures { Width b.now at result }
 {
     if b.len() - at < 2 {
-        return 0;
+        return None;
     }
-    if is_tail(b[at + 1]) {
-        return 2;
-    }
-    0
+    is_tail(b[at + 1]).then_some(2)
 }
 
 // The same of three.
-fn width_three(b: &[u8], at: usize) -> usize
+fn width_three(b: &[u8], at: usize) -> Option<usize>
     requires { (at < length b.now) × (0xE0 ≤ get_or b.now at 0) × (get_or b.now at 0 < 0xF0) }
     ensures { Width b.now at result }
 {
     if b.len() - at < 3 {
-        return 0;
+        return None;
     }
     if !is_second(b[at], b[at + 1]) {
-        return 0;
+        return None;
     }
-    if is_tail(b[at + 2]) {
-        return 3;
-    }
-    0
+    is_tail(b[at + 2]).then_some(3)
 }
 
 // The same of four.
-fn width_four(b: &[u8], at: usize) -> usize
+fn width_four(b: &[u8], at: usize) -> Option<usize>
     requires { (at < length b.now) × (0xF0 ≤ get_or b.now at 0) × (get_or b.now at 0 < 0xF5) }
     ensures { Width b.now at result }
 {
     if b.len() - at < 4 {
-        return 0;
+        return None;
     }
     if !is_second(b[at], b[at + 1]) {
-        return 0;
+        return None;
     }
     if !is_tail(b[at + 2]) {
-        return 0;
+        return None;
     }
-    if is_tail(b[at + 3]) {
-        return 4;
-    }
-    0
+    is_tail(b[at + 3]).then_some(4)
 }
 
-// How many bytes the character at `at` has; 0 where there is none.
-fn width(b: &[u8], at: usize) -> usize
+// How many bytes the character at `at` has.
+fn width(b: &[u8], at: usize) -> Option<usize>
     requires { at < length b.now }
     ensures { Width b.now at result }
 {
-    let x = b[at];
-    if x < 0x80 {
-        return 1;
+    match b[at] {
+        0..=0x7F => Some(1),
+        0xC2..=0xDF => width_two(b, at),
+        0xE0..=0xEF => width_three(b, at),
+        0xF0..=0xF4 => width_four(b, at),
+        _ => None,
     }
-    if x < 0xC2 {
-        return 0;
-    }
-    if x < 0xE0 {
-        return width_two(b, at);
-    }
-    if x < 0xF0 {
-        return width_three(b, at);
-    }
-    if x < 0xF5 {
-        return width_four(b, at);
-    }
-    0
 }
 
 // Are the n bytes at `at` all below 128?
@@ -123,11 +101,9 @@ pub(crate) fn plain(b: &[u8], at: usize, n: usize) -> bool
     requires { at + n ≤ length b.now }
     ensures { result ≡ true → Plain b.now at n }
 {
-    let mut all: u8 = 0;
-    let mut j = 0;
-    while j < n {
-        all |= b[at + j];
-        j += 1;
+    let mut all = 0;
+    for x in &b[at..at + n] {
+        all |= x;
     }
     all < 128
 }
@@ -152,14 +128,12 @@ fn pass_plain(b: &[u8], at: usize) -> usize
     requires { at ≤ length b.now }
     ensures { Passes b.now at result × (result < length b.now → 128 ≤ get_or b.now result 0) }
 {
-    let mut i = at;
-    while i < b.len() {
+    for i in at..b.len() {
         if 128 <= b[i] {
             return i;
         }
-        i += 1;
     }
-    i
+    b.len()
 }
 
 // Do bytes below 128 go on from `at`: two of them, or the last one?
@@ -167,33 +141,24 @@ fn plain_goes_on(b: &[u8], at: usize) -> bool
     requires { at < length b.now }
     ensures { result ≡ true → get_or b.now at 0 < 128 }
 {
-    if 128 <= b[at] {
-        return false;
-    }
-    if b.len() - at < 2 {
-        return true;
-    }
-    b[at + 1] < 128
+    b[at] < 128 && (b.len() - at < 2 || b[at + 1] < 128)
 }
 
-// Past the characters from `at` on up to where plain bytes go on; 0 where there is none in between. A single byte below 128, as a space
-// between words, is passed with the others.
-fn pass_wide(b: &[u8], at: usize) -> usize
+// Past the characters from `at` on up to where plain bytes go on, if there are only characters in between. A single byte below 128, as a
+// space between words, is passed with the others.
+fn pass_wide(b: &[u8], at: usize) -> Option<usize>
     requires { (at < length b.now) × (128 ≤ get_or b.now at 0) }
     ensures { PassesWide b.now at result }
 {
     let mut i = at;
     while i < b.len() {
         if plain_goes_on(b, i) {
-            return i;
+            return Some(i);
         }
-        let w = width(b, i);
-        if w == 0 {
-            return 0;
-        }
+        let w = width(b, i)?;
         i += w;
     }
-    i
+    Some(i)
 }
 
 // Whether b is text.
@@ -208,10 +173,9 @@ pub fn is_text(b: &[u8]) -> bool
         if j == b.len() {
             return true;
         }
-        let k = pass_wide(b, j);
-        if k == 0 {
+        let Some(k) = pass_wide(b, j) else {
             return false;
-        }
+        };
         i = k;
     }
     true

@@ -1,16 +1,17 @@
 -- What each step of the code says of the text from an index on. Assumes nothing.
-use Rattle.std.specs.Prelude.{ℕ, zero, suc, ◌+◌, ◌<◌, ◌≤◌, Bool, true, false, ◌&&◌, ◌≡◌, T, leb, ltb, length, get_or, drop}
-use Rattle.std.proofs.Common.{add-zero, add-one, arith, ap, ◌∙◌, subst, inl, inr, ltb→lt, length-drop, drop_of_length-le, drop-cons, le-leb, lt-ltb, ne_eqb}
+use Rattle.std.specs.Prelude.{ℕ, zero, suc, ◌+◌, ◌-◌, ◌<◌, ◌≤◌, Bool, true, false, ◌&&◌, ◌≡◌, T, Option, leb, ltb, length, get_or, take, drop}
+use Rattle.std.proofs.Common.{add-zero, add-one, arith, ap, ◌∙◌, subst, inl, inr, ltb→lt, length-drop, length-take, get_or-take, get_or-drop, drop_of_length-le, drop-cons, le-leb, ne_eqb}
 use mathlib.Core.List.{List, [], ◌∷◌}
 use Rattle.std.proofs.Math.Path.{refl, sym}
 use Rattle.std.proofs.Math.Option.{none, some}
+use Rattle.std.specs.Bool.{then_some}
 use Rattle.std.specs.Int.Bits.{bit_or, or_add_and}
 use Rattle.std.proofs.lemmas.Nat.{and_le_l, and_le_r}
 use Rattle.std.proofs.lemmas.Bool.{lt-leb}
 use Rattle.cedar.specs.Types.{maybe}
 use Rattle.cedar.specs.Text.{Range, tail, text_rows, followed, goes_on, is_text}
 use Rattle.cedar.proofs.Laws.Text.{split, rows-rise, followed-row, followed-none}
-use Rattle.strings.specs.Steps.{text_from, is_in, second_range, Width, Passes, PassesWide, Plain}
+use Rattle.strings.specs.Steps.{text_from, is_in, second_range, Character, Width, Passes, Plain}
 
 -- ---- Bytes in ranges
 
@@ -126,37 +127,37 @@ goes-short (r ∷ rs) (x ∷ l) h = go (is_in r x) (goes-short rs l (omega arith
     go true e = e
     go false e = refl
 
-none-at : (b : List ℕ) (at : ℕ) → at < length b → text_from b at ≡ false → Width b at 0
-none-at b at h e = record { fits = omega arith; right = e }
-
-some_at : (b : List ℕ) (at r : ℕ) → 0 < r → at + r ≤ length b → text_from b at ≡ text_from b (at + r) → Width b at r
-some_at b at r p h e = record { fits = h; right = e ∙ rw (lt-ltb 0 r p) }
+-- A width by its last test.
+pub then-width : {b : List ℕ} {at n : ℕ} (t : Bool) {r : Option ℕ} → r ≡ then_some t n → (t ≡ false → text_from b at ≡ false) → (t ≡ true → Character b at n) →
+    Width b at r
+then-width true e f g = rw e (g refl)
+then-width false e f g = rw e (f refl)
 
 -- A first byte and what must follow it.
 module _ (b : List ℕ) (at : ℕ) (h : at < length b) where
-  width-none : followed text_rows (get_or b at 0) ≡ none → Width b at 0
-  width-none e = none-at b at h (text-step b at h ∙ rw e)
+  width-none : followed text_rows (get_or b at 0) ≡ none → text_from b at ≡ false
+  width-none e = text-step b at h ∙ rw e
 
   module _ (rs : List Range) (e : followed text_rows (get_or b at 0) ≡ some rs) where
-    width-short : length b < at + 1 + length rs → Width b at 0
-    width-short l = none-at b at h (text-step b at h ∙ rw e (goes-short rs (drop (at + 1) b) (omega (arith, length-drop (at + 1) b))))
+    width-short : length b < at + 1 + length rs → text_from b at ≡ false
+    width-short l = text-step b at h ∙ rw e (goes-short rs (drop (at + 1) b) (omega (arith, length-drop (at + 1) b)))
 
     module _ (l : at + 1 + length rs ≤ length b) where
       width_is : text_from b at ≡ (fills_at rs b at 1 && text_from b (at + 1 + length rs))
       width_is = text-step b at h ∙ rw e (goes_at rs b at 1 l)
 
-      width-no : fills_at rs b at 1 ≡ false → Width b at 0
-      width-no n = none-at b at h (width_is ∙ rw n)
+      width-no : fills_at rs b at 1 ≡ false → text_from b at ≡ false
+      width-no n = width_is ∙ rw n
 
-      width-yes : fills_at rs b at 1 ≡ true → (r : ℕ) → at + 1 + length rs ≡ at + r → Width b at r
-      width-yes y r q = some_at b at r (omega arith) (omega arith) (width_is ∙ rw (y, q))
+      width-yes : fills_at rs b at 1 ≡ true → (r : ℕ) → at + 1 + length rs ≡ at + r → Character b at r
+      width-yes y r q = record { some = omega arith; fits = omega arith; right = width_is ∙ rw (y, q) }
 
   -- The ways out of `width`.
-  pub width-plain : get_or b at 0 < 128 → Width b at 1
+  pub width-plain : get_or b at 0 < 128 → Character b at 1
   unfolding fills_at
   width-plain k = width-yes [] (followed-row 0 text_rows ((0x00, 0x7F), []) (get_or b at 0) rows-rise (inl refl) (omega arith)) (omega arith) refl 1 (omega arith)
 
-  pub width_low : 128 ≤ get_or b at 0 → get_or b at 0 < 0xC2 → Width b at 0
+  pub width_low : 128 ≤ get_or b at 0 → get_or b at 0 < 0xC2 → text_from b at ≡ false
   width_low l k =
       width-none (followed-none text_rows (get_or b at 0) (
         inr (omega arith),
@@ -181,7 +182,7 @@ module _ (b : List ℕ) (at : ℕ) (h : at < length b) where
         ),
       ))
 
-  pub width-high : 0xF5 ≤ get_or b at 0 → Width b at 0
+  pub width-high : 0xF5 ≤ get_or b at 0 → text_from b at ≡ false
   width-high l = width-none (followed-none text_rows (get_or b at 0) (
     inr (omega arith),
     (
@@ -209,15 +210,15 @@ module _ (b : List ℕ) (at : ℕ) (h : at < length b) where
     rows-two : followed text_rows (get_or b at 0) ≡ some (tail ∷ [])
     rows-two = lead-two (get_or b at 0) l k
 
-    pub two-short : length b < at + 2 → Width b at 0
+    pub two-short : length b < at + 2 → text_from b at ≡ false
     two-short s = width-short (tail ∷ []) rows-two (omega arith)
 
     module _ (m : at + 2 ≤ length b) (t : Bool) (e : t ≡ is_in tail (get_or b (at + 1) 0)) where
-      pub two-no : t ≡ false → Width b at 0
+      pub two-no : t ≡ false → text_from b at ≡ false
       unfolding fills_at
       two-no n = width-no (tail ∷ []) rows-two (omega arith) (rw (sym e ∙ n))
 
-      pub two-yes : t ≡ true → Width b at 2
+      pub two-yes : t ≡ true → Character b at 2
       unfolding fills_at
       two-yes y = width-yes (tail ∷ []) rows-two (omega arith) (rw (sym e ∙ y)) 2 (omega arith)
 
@@ -225,20 +226,20 @@ module _ (b : List ℕ) (at : ℕ) (h : at < length b) where
     rows-three : followed text_rows (get_or b at 0) ≡ some (second_range (get_or b at 0) ∷ tail ∷ [])
     rows-three = lead-three (get_or b at 0) l k
 
-    pub three-short : length b < at + 3 → Width b at 0
+    pub three-short : length b < at + 3 → text_from b at ≡ false
     three-short s = width-short _ rows-three (omega arith)
 
     module _ (m : at + 3 ≤ length b) (t : Bool) (e : t ≡ is_in (second_range (get_or b at 0)) (get_or b (at + 1) 0)) where
-      pub three-second : t ≡ false → Width b at 0
+      pub three-second : t ≡ false → text_from b at ≡ false
       unfolding fills_at
       three-second n = width-no _ rows-three (omega arith) (rw (sym e ∙ n))
 
       module _ (y : t ≡ true) (u : Bool) (f : u ≡ is_in tail (get_or b (at + 2) 0)) where
-        pub three-no : u ≡ false → Width b at 0
+        pub three-no : u ≡ false → text_from b at ≡ false
         unfolding fills_at
         three-no n = width-no _ rows-three (omega arith) (rw (sym e ∙ y, sym f ∙ n))
 
-        pub three-yes : u ≡ true → Width b at 3
+        pub three-yes : u ≡ true → Character b at 3
         unfolding fills_at
         three-yes z = width-yes _ rows-three (omega arith) (rw (sym e ∙ y, sym f ∙ z)) 3 (omega arith)
 
@@ -246,38 +247,41 @@ module _ (b : List ℕ) (at : ℕ) (h : at < length b) where
     rows_four : followed text_rows (get_or b at 0) ≡ some (second_range (get_or b at 0) ∷ tail ∷ tail ∷ [])
     rows_four = lead-four (get_or b at 0) l k
 
-    pub four-short : length b < at + 4 → Width b at 0
+    pub four-short : length b < at + 4 → text_from b at ≡ false
     four-short s = width-short _ rows_four (omega arith)
 
     module _ (m : at + 4 ≤ length b) (t : Bool) (e : t ≡ is_in (second_range (get_or b at 0)) (get_or b (at + 1) 0)) where
-      pub four-second : t ≡ false → Width b at 0
+      pub four-second : t ≡ false → text_from b at ≡ false
       unfolding fills_at
       four-second n = width-no _ rows_four (omega arith) (rw (sym e ∙ n))
 
       module _ (y : t ≡ true) (u : Bool) (f : u ≡ is_in tail (get_or b (at + 2) 0)) where
-        pub four-third : u ≡ false → Width b at 0
+        pub four-third : u ≡ false → text_from b at ≡ false
         unfolding fills_at
         four-third n = width-no _ rows_four (omega arith) (rw (sym e ∙ y, sym f ∙ n))
 
         module _ (z : u ≡ true) (v : Bool) (g : v ≡ is_in tail (get_or b (at + 3) 0)) where
-          pub four-no : v ≡ false → Width b at 0
+          pub four-no : v ≡ false → text_from b at ≡ false
           unfolding fills_at
           four-no n = width-no _ rows_four (omega arith) (rw (sym e ∙ y, sym f ∙ z, sym g ∙ n))
 
-          pub four-yes : v ≡ true → Width b at 4
+          pub four-yes : v ≡ true → Character b at 4
           unfolding fills_at
           four-yes w = width-yes _ rows_four (omega arith) (rw (sym e ∙ y, sym f ∙ z, sym g ∙ w)) 4 (omega arith)
 
 -- ---- Passing over characters
 
+-- A byte of the n bytes at `at`.
+pub byte-of : (b : List ℕ) (at n j : ℕ) → j < length (take (at + n - at) (drop at b)) → get_or (take (at + n - at) (drop at b)) j 0 ≡ get_or b (at + j) 0
+byte-of b at n j h = get_or-take (at + n - at) (drop at b) j 0 (omega (arith, length-take (at + n - at) (drop at b))) ∙ get_or-drop at b j 0
+
 -- One byte more in a block, by all bits together.
-pub plain_more : (b : List ℕ) (at j all : ℕ) → (all < 128 → Plain b at j) → bit_or all (get_or b (at + j) 0) < 128 → Plain b at (j + 1)
-plain_more b at j all f h =
-    let x = get_or b (at + j) 0 in
+pub plain_more : (b : List ℕ) (at j all x : ℕ) → x ≡ get_or b (at + j) 0 → (all < 128 → Plain b at j) → bit_or all x < 128 → Plain b at (j + 1)
+plain_more b at j all x q f h =
     let low : (all < 128) × (x < 128) = omega (arith, or_add_and all x, and_le_l all x, and_le_r all x) in
     record {
       each = λ k l. split k j (λ i. (f low.0).each k i)
-          (λ i. let e : j ≡ k = omega arith in subst (λ (m : ℕ). get_or b (at + m) 0 < 128) e low.1);
+          (λ i. let e : j ≡ k = omega arith in subst (λ (m : ℕ). get_or b (at + m) 0 < 128) e (omega (arith, q, low.1)));
     }
 
 pub plain-none : (b : List ℕ) (at : ℕ) → Plain b at 0
@@ -293,16 +297,20 @@ passes_none b at h = record { from = omega arith; fits = h; right = refl }
 pub passes_then : {b : List ℕ} {at i j : ℕ} → Passes b at i → Passes b i j → Passes b at j
 passes_then p q = record { from = omega (arith, p.from, q.from); fits = q.fits; right = p.right ∙ q.right }
 
+-- A pass to the end.
+pub passes_whole : {b : List ℕ} {at i : ℕ} → Passes b at i → length b ≤ i → Passes b at (length b)
+passes_whole {b} {at} {i} p h = let e : i ≡ length b = omega (arith, p.fits) in subst (λ (j : ℕ). Passes b at j) e p
+
 -- Long blocks, short blocks, single bytes.
 pub passes-thrice : {b : List ℕ} {at i long short j : ℕ} → Passes b at i → Passes b i long → Passes b long short → Passes b short j → Passes b at j
 passes-thrice p q r s = passes_then (passes_then p q) (passes_then r s)
 
 -- One character more.
-pub passes-width : {b : List ℕ} {at i : ℕ} → Passes b at i → (w : ℕ) → Width b i w → 0 < w → Passes b at (i + w)
-passes-width {b} {at} {i} p w f h = record { from = omega (arith, p.from); fits = f.fits; right = p.right ∙ f.right ∙ rw (lt-ltb 0 w h) }
+pub passes-width : {b : List ℕ} {at i : ℕ} → Passes b at i → {w : ℕ} → Character b i w → Passes b at (i + w)
+passes-width p f = record { from = omega (arith, p.from); fits = f.fits; right = p.right ∙ f.right }
 
 pub passes-plain : {b : List ℕ} {at i : ℕ} → Passes b at i → i < length b → get_or b i 0 < 128 → Passes b at (i + 1)
-passes-plain {b} {at} {i} p h l = passes-width p 1 (width-plain b i h l) (omega arith)
+passes-plain {b} {at} {i} p h l = passes-width p (width-plain b i h l)
 
 -- A block more.
 pub passes-block : {b : List ℕ} {at i : ℕ} (n : ℕ) → Passes b at i → i + n ≤ length b → Plain b i n → Passes b at (i + n)
@@ -312,19 +320,10 @@ passes-block {b} {at} {i} (suc n) p h f =
     let e : i + n + 1 ≡ i + suc n = omega arith in
     subst (Passes b at) e (passes-plain before (omega arith) (f.each n (omega arith)))
 
--- The ways out of a pass over wide characters.
-pub wide-end : {b : List ℕ} {at i : ℕ} → Passes b at i → at < i → PassesWide b at i
-wide-end {b} {at} {i} p h = record { fits = p.fits; ahead = λ z. h; right = p.right ∙ rw (lt-ltb 0 i (omega arith)) }
-
-pub wide-stop : {b : List ℕ} {at i : ℕ} → Passes b at i → 128 ≤ get_or b at 0 → get_or b i 0 < 128 → PassesWide b at i
-wide-stop {b} {at} {i} p l h = split at i (wide-end p)
+-- Where plain bytes go on, a pass over wide characters is past its start.
+pub wide-stop : {b : List ℕ} {at i : ℕ} → Passes b at i → 128 ≤ get_or b at 0 → get_or b i 0 < 128 → at < i
+wide-stop {b} {at} {i} p l h = split at i (λ k. k)
     (λ k. let e : at ≡ i = omega (arith, p.from) in let q = subst (λ (j : ℕ). 128 ≤ get_or b j 0) e l in absurd (omega arith))
-
-pub wide-none : {b : List ℕ} {at i : ℕ} → Passes b at i → (w : ℕ) → Width b i w → w ≡ 0 → PassesWide b at 0
-wide-none p w f h = record { fits = omega arith; ahead = λ z. absurd (omega arith); right = p.right ∙ f.right ∙ rw h }
-
-pub passes_on : {b : List ℕ} {at j : ℕ} → Passes b at j → (k : ℕ) → PassesWide b j k → 0 < k → Passes b at k
-passes_on p k q h = record { from = omega (arith, p.from, q.ahead h); fits = q.fits; right = p.right ∙ q.right ∙ rw (lt-ltb 0 k h) }
 
 -- The ways out of the whole test.
 text-start : (b : List ℕ) → text_from b 0 ≡ is_text b
@@ -334,5 +333,5 @@ text-start b = refl
 pub text-yes : {b : List ℕ} {j : ℕ} → Passes b 0 j → length b ≤ j → true ≡ is_text b
 text-yes {b} {j} p h = sym (text-end b j h) ∙ sym p.right ∙ text-start b
 
-pub text-no : {b : List ℕ} {j : ℕ} → Passes b 0 j → (k : ℕ) → PassesWide b j k → k ≡ 0 → false ≡ is_text b
-text-no {b} p k q h = sym (p.right ∙ q.right ∙ rw h) ∙ text-start b
+pub text-no : {b : List ℕ} {j : ℕ} → Passes b 0 j → text_from b j ≡ false → false ≡ is_text b
+text-no {b} p e = sym (p.right ∙ e) ∙ text-start b

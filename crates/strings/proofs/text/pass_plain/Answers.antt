@@ -1,5 +1,5 @@
 use native.Mathlib.Omega.{arith}
-use Rattle.strings.specs.Laws.Steps.{passes_none, passes-plain}
+use Rattle.strings.specs.Laws.Steps.{passes_none, passes-plain, passes_whole}
 use Rattle.strings.proofs.text.pass_plain.Goals as goal
 
 pub loop-i-init : goal.loop-i-init
@@ -12,4 +12,4 @@ pub loop-i-preserved : goal.loop-i-preserved
 loop-i-preserved c = passes-plain c.loop-i.invariant (omega arith) (omega arith)
 
 pub returns : goal.returns
-returns c = (c.loop-i.invariant, λ h. absurd (omega arith))
+returns c = (passes_whole c.loop-i.invariant (omega arith), λ h. absurd (omega arith))
