@@ -7,7 +7,6 @@ ghost use Rattle.jobs.specs.LineBytes.{number_in, many_in, required_word, text_i
 use crate::steps::Buffers;
 use crate::text::{put_decimal, put_hex};
 use forms::numbers::wide;
-use forms::refusals::Refusal;
 use validator::answers::Answer;
 use writing::writers::{put_bytes, put_one};
 
@@ -80,18 +79,8 @@ pub fn put_line(index: usize, answer: Answer, res: &[u8], out: &mut [u8]) -> usi
 }
 
 // Writes the only line of a bad job.
-fn put_refused_job(out: &mut [u8]) -> usize
-    requires { 7 ≤ length out.old }
-    ensures { Written bad_line out.old out.new result }
-{
-    let number_at = put_bytes(b"- ", out);
-    let end = number_at + put_field(wide(Refusal::JOB), &mut out[number_at..]);
-    end + put_bytes(b"-\n", &mut out[end..])
-}
-
-// The same, into a buffer of the length of a line.
 pub fn put_bad_line(out: &mut [u8; Buffers::LINE]) -> usize
     ensures { Written bad_line out.old out.new result }
 {
-    put_refused_job(out)
+    put_bytes(b"- 16 -\n", out)
 }

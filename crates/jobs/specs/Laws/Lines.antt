@@ -6,8 +6,7 @@ use Rattle.std.proofs.Math.ListN.{length-append}
 use Rattle.std.proofs.Math.Seq.{take-append_seam}
 use Rattle.cedar.specs.Bytes.{enc_names}
 use Rattle.cedar.specs.TypeForm.{enc}
-use Rattle.cedar.specs.Result.{bad_job}
-use Rattle.cedar.specs.Lines.{decimal, hex, line, bad_line}
+use Rattle.cedar.specs.Lines.{decimal, hex, line}
 use Rattle.cedar.specs.Outcome.{Outcome, refused, said, nothing, measured, typed, attribute, named, over, bytes_of, result_after}
 use Rattle.forms.specs.Parts.{rest}
 use Rattle.validator.specs.declared.answers.Answer.{Answer}
@@ -16,7 +15,7 @@ use Rattle.validator.specs.Answers.{answer_of}
 use Rattle.writing.specs.Written.{Written}
 use Rattle.jobs.specs.LineBytes.{number_in, many_in, required_word, text_in, field, line_in, LineRoom}
 use Rattle.jobs.specs.Laws.Text.{decimal-short, length-hex}
-use Rattle.writing.specs.Laws.Writing.{written_one, written-more, written_same, written-left}
+use Rattle.writing.specs.Laws.Writing.{written_one, written-more, written-left}
 
 -- A number and a space.
 module _ (n : ℕ) (o : List ℕ) (h : length (field n) ≤ length o) where
@@ -144,21 +143,3 @@ many_is (measured n l) = refl
 many_is (typed t) = refl
 many_is (attribute r t) = refl
 many_is (named ns) = refl
-
--- The line of a bad job: a dash and a space, the number, a dash and a newline.
-module _ {o v : List ℕ} {m : ℕ} (t : Written (45 ∷ 32 ∷ []) o v m) (h : 7 ≤ length o) (k : ℕ) (e : k ≡ bad_job) where
-  pub bad-number : field k ≡ 49 ∷ 54 ∷ 32 ∷ []
-  unfolding field
-  bad-number = rw e refl
-
-  module _ {w : List ℕ} {n : ℕ} (u : Written (field k) (rest m v) w n) where
-    pub bad-head : Written (45 ∷ 32 ∷ 49 ∷ 54 ∷ 32 ∷ []) o (take m v ++ (w ++ drop (length v - m) (drop m v))) (m + n)
-    bad-head = written-more t (written_same bad-number u) (omega arith)
-
-    pub bad-told : {x : List ℕ} {r : ℕ} → Written (45 ∷ 10 ∷ []) (rest (m + n) (take m v ++ (w ++ drop (length v - m) (drop m v)))) x r →
-        Written bad_line o
-        (take (m + n) (take m v ++ (w ++ drop (length v - m) (drop m v)))
-        ++ (x ++ drop (length (take m v ++ (w ++ drop (length v - m) (drop m v))) - (m + n))
-        (drop (m + n) (take m v ++ (w ++ drop (length v - m) (drop m v))))))
-        (m + n + r)
-    bad-told f = written-more bad-head f (omega arith)
