@@ -41,21 +41,25 @@ pub fn ask(q: Question<'_>, schema: &[u8], check: Checked, res: &mut [u8]) -> An
         second,
     } = q;
     let limits = Limits::standard();
-    let mut work = [0u8; Buffers::WORK];
     match operation {
         Operation::Subtype => is_subtype_checked(schema, check, mode, first, second),
         Operation::Bound => least_upper_bound_checked(schema, check, mode, first, second, res),
         Operation::Disjoint => are_types_disjoint(limits, first, second),
         Operation::Lookup => {
-            lookup_attribute_type_checked(schema, check, attribute, first, res, &mut work)
+            let work = &mut [0u8; Buffers::WORK];
+            lookup_attribute_type_checked(schema, check, attribute, first, res, work)
         }
         Operation::MayHave => may_have_attr_checked(schema, check, attribute, first),
-        Operation::Names => all_attributes_checked(schema, check, first, res, &mut work),
+        Operation::Names => {
+            let work = &mut [0u8; Buffers::WORK];
+            all_attributes_checked(schema, check, first, res, work)
+        }
         Operation::Consistent => is_consistent_with(limits, first, second),
         Operation::Convert => convert(limits, first, res),
         Operation::Conforms => typecheck_restricted_expr_checked(schema, check, first, second),
         Operation::Fold => {
-            reduce_to_least_upper_bound_checked(schema, check, mode, first, res, &mut work)
+            let work = &mut [0u8; Buffers::WORK];
+            reduce_to_least_upper_bound_checked(schema, check, mode, first, res, work)
         }
         Operation::Literal => euid_literal_checked(schema, check, first, res),
         Operation::Full => typecheck_restricted_expr_exact_checked(schema, check, first, second),
