@@ -1,29 +1,37 @@
 -- What is found of an entity type in a schema's bytes. Assumes nothing: these are definitions.
-use Rattle.std.specs.Prelude.{ℕ, ◌+◌, ◌*◌, ◌-◌, ◌≤◌, List, [], true, ◌≡◌, length}
-use Rattle.std.proofs.Math.Option.{none}
+use Rattle.std.specs.Prelude.{ℕ, ◌*◌, ◌-◌, ◌≤◌, [], true, ◌≡◌, length, Option as Maybe, Some, None}
+use Rattle.std.proofs.Math.Option.{none, some}
 use Rattle.cedar.specs.Types.{maybe, names}
-use Rattle.cedar.specs.Limits.{Limits}
 use Rattle.cedar.specs.Attribute.{entity_of, attr_of, may_have_type}
-use Rattle.forms.specs.Parts.{part}
-use Rattle.forms.specs.TypeBytes.{names_by}
-use Rattle.schemas.specs.SchemaBytes.{dec_s}
-use Rattle.attributes.specs.declared.own_attribute.Place.TheVariants.{At as PlaceAt}
+use Rattle.forms.specs.Search.{Laid}
+use Rattle.forms.specs.TypeBytes.{whole, dec, names_by}
+use Rattle.forms.specs.declared.rows.Rows.{Rows}
+use Rattle.schemas.specs.Schema.{limits_in, said_by}
+use Rattle.schemas.specs.declared.schema.Schema.{Schema}
+use Rattle.attributes.specs.declared.own_attribute.Attribute.{Attribute}
 use Rattle.attributes.specs.declared.entity_attribute.EntityAttribute.{EntityAttribute}
-use Rattle.attributes.specs.declared.entity_attribute.EntityAttribute.TheVariants.{At, Absent, Missing}
-use Rattle.attributes.specs.declared.entity_attribute.EntityEntries.{EntityEntries}
-use Rattle.attributes.specs.declared.entity_attribute.EntityEntries.TheVariants.{From, Missing as NoEntity}
-use Rattle.attributes.specs.Place.{Placed}
+use Rattle.attributes.specs.declared.entity_attribute.EntityAttribute.TheVariants.{Found, Absent, Missing}
 
--- The attribute a of the entity type k: it stands at the place, no longer than a form may be; or it is absent, and the type may have
--- it just where its body is open; or there is no such type.
-abbrev pub AttributeIn : Limits → List ℕ → ℕ → ℕ → EntityAttribute → Type 0
-AttributeIn lim b k a (At s e q) =
-    Placed (lim.levels - 1) b (attr_of (dec_s lim b) a k) (PlaceAt s e q) × (e ≤ s + lim.bytes) × (may_have_type (dec_s lim b) a k ≡ true)
-AttributeIn lim b k a (Absent o) = (attr_of (dec_s lim b) a k ≡ none) × (may_have_type (dec_s lim b) a k ≡ o)
-AttributeIn lim b k a Missing = entity_of (dec_s lim b) k ≡ none
+-- The attribute a of the entity type k: a whole form, no longer than one may be, of its type, with its flag.
+pub record HasAttribute (s : Schema) (k a : ℕ) (x : Attribute) : Type 0 where
+  pub few : length x.form.now ≤ (limits_in s).bytes
+  pub good : whole ((limits_in s).levels - 1) x.form.now ≡ true
+  pub is : attr_of (said_by s) a k ≡ some (x.required, dec ((limits_in s).levels - 1) x.form.now)
+  pub may : may_have_type (said_by s) a k ≡ true
 
--- n entries from s on have the names of the entity type k, no more than a form has room for; or there is no such type.
-abbrev pub EntriesIn : Limits → List ℕ → ℕ → EntityEntries → Type 0
-EntriesIn lim b k (From s n) =
-    (s + 5 * n ≤ length b) × (5 * n ≤ lim.bytes) × (maybe [] (λ e. names e.attrs) (entity_of (dec_s lim b) k) ≡ names_by 5 n (part s (s + 5 * n) b))
-EntriesIn lim b k NoEntity = entity_of (dec_s lim b) k ≡ none
+-- The entity type k has the attribute a; or it is absent, and the type may have it just where its body is open; or there is no such type.
+abbrev pub AttributeIn : Schema → ℕ → ℕ → EntityAttribute → Type 0
+AttributeIn s k a (Found x) = HasAttribute s k a x
+AttributeIn s k a (Absent o) = (attr_of (said_by s) a k ≡ none) × (may_have_type (said_by s) a k ≡ o)
+AttributeIn s k a Missing = entity_of (said_by s) k ≡ none
+
+-- Rows with the names of the entity type k, no more than a form has room for.
+pub record HasRows (s : Schema) (k : ℕ) (x : Rows 5) : Type 0 where
+  pub laid : Laid 5 x.left x.entries.now x.bodies.now
+  pub few : 5 * x.left ≤ (limits_in s).bytes
+  pub is : maybe [] (λ e. names e.attrs) (entity_of (said_by s) k) ≡ names_by 5 x.left x.entries.now
+
+-- The entity type k has the rows, or there is no such type.
+abbrev pub RowsIn : Schema → ℕ → Maybe (Rows 5) → Type 0
+RowsIn s k (Some x) = HasRows s k x
+RowsIn s k None = entity_of (said_by s) k ≡ none

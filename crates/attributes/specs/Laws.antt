@@ -1,6 +1,5 @@
 -- Laws for the proofs here and in the crates above.
 pub mod Place
 pub mod EntityAttribute
-pub mod Ahead
 pub mod MayHave
 pub mod Literal

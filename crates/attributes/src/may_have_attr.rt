@@ -1,32 +1,28 @@
 // Whether a value of a type might have an attribute.
-ghost use Rattle.std.specs.Prelude.{◌≡◌, true, ◌*◌, ◌≤◌, length};
+ghost use Rattle.std.specs.Prelude.{◌≡◌, true};
 ghost use Rattle.cedar.specs.Types.{present};
 ghost use Rattle.cedar.specs.TypeForm.{record_code};
 ghost use Rattle.cedar.specs.Attribute.{own_attr, may_have_type, may_have_names, may_have};
-ghost use Rattle.forms.specs.Limits.{as_limits};
 ghost use Rattle.forms.specs.Parts.{kind};
-ghost use Rattle.forms.specs.TypeBytes.{whole, dec, names_by};
-ghost use Rattle.schemas.specs.SchemaBytes.{dec_s};
-ghost use Rattle.schemas.specs.Entries.{Sectioned};
+ghost use Rattle.forms.specs.TypeBytes.{whole, dec};
+ghost use Rattle.forms.specs.Names.{names_in};
+ghost use Rattle.schemas.specs.Schema.{said_by};
 ghost use Rattle.attributes.specs.MayHave.{record_may_have};
 
 use crate::entity_attribute::{EntityAttribute, entity_attribute};
-use crate::own_attribute::{Place, own_attribute};
+use crate::own_attribute::own_attribute;
 use forms::kinds::{Kind, Openness};
 use forms::numbers::u16_at;
 use forms::offsets::Offset;
 use forms::widths::Width;
-use schemas::sections::Sections;
+use schemas::schema::Schema;
 
 // Whether a record or an action lists the attribute.
 fn lists_attribute(t: &[u8], name: usize, levels: usize) -> bool
     requires { whole levels t.now ≡ true }
     ensures { result ≡ present (own_attr name (dec levels t.now)) }
 {
-    let Place::At(_, _, _) = own_attribute(t, name, levels) else {
-        return false;
-    };
-    true
+    own_attribute(t, name, levels).is_some()
 }
 
 // Whether a record is open or lists the attribute.
@@ -35,61 +31,43 @@ fn record_may_have(t: &[u8], name: usize, levels: usize) -> bool
     requires t_record { kind t.now ≡ record_code }
     ensures { result ≡ record_may_have name (dec levels t.now) }
 {
-    if t[Offset::OPEN] == Openness::OPEN {
-        return true;
-    }
-    lists_attribute(t, name, levels)
+    t[Offset::OPEN] == Openness::OPEN || lists_attribute(t, name, levels)
 }
 
 // Whether an entity type is missing from the schema, is open, or lists the attribute.
-fn entity_type_may_have(schema: &[u8], at: Sections, entity: usize, name: usize) -> bool
-    requires { Sectioned schema.now «at» }
-    ensures { result ≡ may_have_type (dec_s (as_limits «at».limits) schema.now) name entity }
+fn entity_type_may_have(schema: &Schema, entity: usize, name: usize) -> bool
+    ensures { result ≡ may_have_type (said_by schema.now) name entity }
 {
-    match entity_attribute(schema, at, entity, name) {
-        EntityAttribute::At(_, _, _) => true,
+    match entity_attribute(schema, entity, name) {
+        EntityAttribute::Found(_) => true,
         EntityAttribute::Absent(is_open) => is_open,
         EntityAttribute::Missing => true, // the schema says nothing against it
     }
 }
 
-// Whether one of n entity types may have the attribute.
-fn entity_may_have(schema: &[u8], at: Sections, types: &[u8], n: usize, name: usize) -> bool
-    requires sectioned { Sectioned schema.now «at» }
-    requires n_in_bounds { 2 * n ≤ length types.now }
-    ensures { result ≡ may_have_names (dec_s (as_limits «at».limits) schema.now) name (names_by 2 n types.now) }
+// Whether one of the entity types may have the attribute.
+fn entity_may_have(schema: &Schema, types: &[u8], name: usize) -> bool
+    ensures { result ≡ may_have_names (said_by schema.now) name (names_in types.now) }
 {
-    let mut e = types;
-    let mut left = n;
-    while 0 < left {
-        if entity_type_may_have(schema, at, u16_at(e, 0), name) {
+    for entity in types.chunks_exact(Width::NAME) {
+        if entity_type_may_have(schema, u16_at(entity, 0), name) {
             return true;
         }
-        e = &e[Width::NAME..];
-        left -= 1;
     }
     false
 }
 
 // Whether a value of the type might have the attribute.
-pub fn may_have_attr(schema: &[u8], at: Sections, t: &[u8], name: usize) -> bool
-    requires sectioned { Sectioned schema.now «at» }
-    requires t_whole { whole «at».limits.levels t.now ≡ true }
-    ensures { result ≡ may_have (dec_s (as_limits «at».limits) schema.now) name (dec «at».limits.levels t.now) }
+pub fn may_have_attr(schema: &Schema, t: &[u8], name: usize) -> bool
+    requires { whole schema.now.sections.limits.levels t.now ≡ true }
+    ensures { result ≡ may_have (said_by schema.now) name (dec schema.now.sections.limits.levels t.now) }
 {
-    let k = t[0];
-    match k {
-        Kind::NEVER => true,
-        Kind::ANY_ENTITY => true,
-        Kind::RECORD => record_may_have(t, name, at.limits.levels),
-        Kind::ENTITY => entity_may_have(
-            schema,
-            at,
-            &t[Offset::ENTITY_NAMES..],
-            u16_at(t, Offset::ENTITY_COUNT),
-            name,
-        ),
-        Kind::ACTION => lists_attribute(t, name, at.limits.levels),
+    let levels = schema.sections.limits.levels;
+    match Kind::of(t) {
+        Kind::Never | Kind::AnyEntity => true,
+        Kind::Record => record_may_have(t, name, levels),
+        Kind::Entity => entity_may_have(schema, &t[Offset::ENTITY_NAMES..], name),
+        Kind::Action => lists_attribute(t, name, levels),
         _ => false,
     }
 }

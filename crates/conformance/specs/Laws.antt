@@ -1,5 +1,6 @@
 -- Laws of the definitions, for the proofs of this crate.
 pub mod Tables
+pub mod Taken
 pub mod Kinds
 pub mod Names
 pub mod Values

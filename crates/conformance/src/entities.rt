@@ -1,7 +1,7 @@
 // Entity types of uids.
-ghost use Rattle.std.specs.Prelude.{◌≡◌, ◌&&◌, ◌*◌, ◌≤◌, eqb, length};
+ghost use Rattle.std.specs.Prelude.{◌≡◌, ◌&&◌, eqb};
 ghost use Rattle.cedar.specs.Types.{is_action, mem};
-ghost use Rattle.forms.specs.TypeBytes.{names_by};
+ghost use Rattle.forms.specs.Names.{names_in};
 
 use forms::numbers::u16_at;
 use forms::widths::Width;
@@ -11,25 +11,17 @@ use schemas::order::is_action;
 pub fn is_action_of(name: usize, action: usize) -> bool
     ensures { result ≡ (is_action name && eqb name action) }
 {
-    if !is_action(name) {
-        return false;
-    }
-    name == action
+    is_action(name) && name == action
 }
 
-// Whether a name stands among n names.
-pub fn stands(names: &[u8], n: usize, name: usize) -> bool
-    requires { 2 * n ≤ length names.now }
-    ensures { result ≡ mem name (names_by 2 n names.now) }
+// Whether a name stands among names.
+pub fn stands(names: &[u8], name: usize) -> bool
+    ensures { result ≡ mem name (names_in names.now) }
 {
-    let mut b = names;
-    let mut left = n;
-    while 0 < left {
-        if u16_at(b, 0) == name {
+    for pair in names.chunks_exact(Width::NAME) {
+        if u16_at(pair, 0) == name {
             return true;
         }
-        b = &b[Width::NAME..];
-        left -= 1;
     }
     false
 }

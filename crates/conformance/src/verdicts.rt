@@ -4,7 +4,7 @@ ghost use Rattle.cedar.specs.Conformance.{verdict};
 ghost use Rattle.conformance.specs.Verdicts.{verdict_of, inside_of};
 
 // Yes; no; no, after an unknown function inside an argument; or an unknown function that it reaches.
-#[derive(Clone, Copy)]
+#[derive(Clone, Copy, Debug, PartialEq, Eq)]
 pub enum Verdict {
     Holds,
     Fails,
@@ -24,9 +24,7 @@ pub fn inside(said: Verdict) -> Verdict
     ensures { result ≡ inside_of said }
 {
     match said {
-        Verdict::Holds => Verdict::Holds,
-        Verdict::Fails => Verdict::Fails,
-        Verdict::FailsInside => Verdict::FailsInside,
         Verdict::Unknown => Verdict::FailsInside,
+        Verdict::Holds | Verdict::Fails | Verdict::FailsInside => said,
     }
 }

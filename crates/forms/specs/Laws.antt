@@ -15,6 +15,7 @@ pub mod Skips
 pub mod Attributes
 pub mod AttributeRows
 pub mod Views
+pub mod NamesIn
 pub mod Kinds
 pub mod Values
 pub mod ValueTwin

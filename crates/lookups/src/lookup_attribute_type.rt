@@ -1,17 +1,16 @@
 // The attribute of a type, with its required flag.
-ghost use Rattle.std.specs.Prelude.{◌≡◌, ◌-◌, ◌≤◌, ◌&&◌, length};
+ghost use Rattle.std.specs.Prelude.{◌≡◌, ◌-◌, ◌≤◌, length};
 ghost use Rattle.cedar.specs.Attribute.{fold_attr, lookup_names, lookup};
 ghost use Rattle.cedar.specs.Calls.{step_fits};
-ghost use Rattle.forms.specs.Limits.{as_limits};
 ghost use Rattle.forms.specs.Parts.{part};
-ghost use Rattle.forms.specs.TypeBytes.{dec, names_by};
-ghost use Rattle.schemas.specs.SchemaBytes.{dec_s};
-ghost use Rattle.schemas.specs.Entries.{Sectioned};
+ghost use Rattle.forms.specs.TypeBytes.{whole, dec};
+ghost use Rattle.forms.specs.Names.{names_in};
+ghost use Rattle.schemas.specs.Schema.{limits_in, said_by};
 ghost use Rattle.folds.specs.Steps.{Held};
-ghost use Rattle.lookups.specs.Lookup.{Named, below, Asked, LookedUp};
+ghost use Rattle.lookups.specs.Lookup.{below, Shown, Asked, LookedUp};
 
 use attributes::entity_attribute::{EntityAttribute, entity_attribute};
-use attributes::own_attribute::{Place, own_attribute};
+use attributes::own_attribute::{Attribute, own_attribute};
 use folds::steps::{JoinStep, join_step};
 use forms::kinds::Kind;
 use forms::limits::Limits;
@@ -19,139 +18,115 @@ use forms::modes::Mode;
 use forms::numbers::u16_at;
 use forms::offsets::Offset;
 use forms::widths::Width;
-use schemas::sections::Sections;
+use schemas::schema::Schema;
 use writing::writers::copy;
 
-// How a lookup ends: found, required?, with so many bytes; nothing; or a step's bound is too long.
-#[derive(Clone, Copy)]
-pub enum Looked {
-    Found(bool, usize),
-    Nothing,
-    TooLong,
+// An attribute that was looked up: whether it is required, and how many bytes its form takes.
+#[derive(Clone, Copy, Debug, PartialEq, Eq)]
+pub struct Looked {
+    pub required: bool,
+    pub bytes: usize,
 }
 
-// Whether an attribute is required on both sides.
-fn both(first: bool, second: bool) -> bool
-    ensures { result ≡ first && second }
+// A step's bound is too long.
+#[derive(Clone, Copy, Debug, PartialEq, Eq)]
+pub struct TooLong;
+
+// Leaves an attribute's form in the first bytes of `last`.
+fn keep(schema: &Schema, attribute: Attribute, last: &mut [u8]) -> Looked
+    requires shown { Shown (limits_in schema.now) attribute }
+    requires room { (limits_in schema.now).bytes ≤ length last.old }
+    ensures required { result.required ≡ attribute.entry.required }
+    ensures form { part 0 result.bytes last.new ≡ attribute.entry.form.now }
+    ensures held { Held (below (limits_in schema.now)) result.bytes last.new }
 {
-    if first {
-        return second;
+    copy(attribute.form, last);
+    Looked {
+        required: attribute.required,
+        bytes: attribute.form.len(),
     }
-    false
 }
 
-// Folds the attribute in the first bytes of `last` over n entity types, until absent or unbounded.
+// Folds the attribute in the first bytes of `last` over entity types, until absent or unbounded.
 fn fold_attribute(
-    schema: &[u8],
-    at: Sections,
+    schema: &Schema,
     types: &[u8],
-    n: usize,
     name: usize,
-    first: bool,
-    bytes: usize,
+    first: Looked,
     last: &mut [u8],
     work: &mut [u8],
-) -> Looked
-    requires sectioned { Sectioned schema.now «at» }
-    requires named { Named n types.now }
-    requires held { Held (below (as_limits «at».limits)) bytes last.old }
-    ensures { LookedUp (as_limits «at».limits) (fold_attr (step_fits (as_limits «at».limits) (length work.old)) (dec_s (as_limits «at».limits) schema.now) name (first, dec («at».limits.levels - 1) (part 0 bytes last.old)) (names_by 2 n types.now)) last.new result }
+) -> Result<Option<Looked>, TooLong>
+    requires { Held (below (limits_in schema.now)) first.bytes last.old }
+    ensures { LookedUp (limits_in schema.now) (fold_attr (step_fits (limits_in schema.now) (length work.old)) (said_by schema.now) name (first.required, dec ((limits_in schema.now).levels - 1) (part 0 first.bytes last.old)) (names_in types.now)) last.new result }
 {
+    let limits = schema.sections.limits;
     let parts = Limits {
-        levels: at.limits.levels - 1,
-        bytes: at.limits.bytes,
+        levels: limits.levels - 1,
+        bytes: limits.bytes,
     };
-    let mut len = bytes;
-    let mut required = first;
+    let mut found = first;
     let mut second = false;
-    let mut e = types;
-    let mut left = n;
-    while 0 < left {
-        let EntityAttribute::At(start, end, also) = entity_attribute(schema, at, u16_at(e, 0), name)
+    for entity in types.chunks_exact(Width::NAME) {
+        let EntityAttribute::Found(attribute) = entity_attribute(schema, u16_at(entity, 0), name)
         else {
-            return Looked::Nothing;
+            return Ok(None);
         };
-        let t = &schema[start..end];
-        match join_step(Mode::Permissive, last, len, t, parts, second, work) {
-            JoinStep::To(m) => len = m,
-            JoinStep::Not(_) => return Looked::Nothing,
-            JoinStep::TooLong => return Looked::TooLong,
+        match join_step(
+            Mode::Permissive,
+            last,
+            found.bytes,
+            attribute.form,
+            parts,
+            second,
+            work,
+        ) {
+            JoinStep::To(n) => found.bytes = n,
+            JoinStep::Not(_) => return Ok(None),
+            JoinStep::TooLong => return Err(TooLong),
         }
-        required = both(required, also);
+        found.required = found.required && attribute.required;
         second = !second;
-        e = &e[Width::NAME..];
-        left -= 1;
     }
-    Looked::Found(required, len)
+    Ok(Some(found))
 }
 
-// The attribute of n entity types; its form is left in the first bytes of `last`.
+// The attribute of entity types; its form is left in the first bytes of `last`.
 pub fn look_up_types(
-    schema: &[u8],
-    at: Sections,
+    schema: &Schema,
     types: &[u8],
-    n: usize,
     name: usize,
     last: &mut [u8],
     work: &mut [u8],
-) -> Looked
-    requires sectioned { Sectioned schema.now «at» }
-    requires named { Named n types.now }
-    requires last_room { «at».limits.bytes ≤ length last.old }
-    ensures { LookedUp (as_limits «at».limits) (lookup_names (step_fits (as_limits «at».limits) (length work.old)) (dec_s (as_limits «at».limits) schema.now) name (names_by 2 n types.now)) last.new result }
+) -> Result<Option<Looked>, TooLong>
+    requires { (limits_in schema.now).bytes ≤ length last.old }
+    ensures { LookedUp (limits_in schema.now) (lookup_names (step_fits (limits_in schema.now) (length work.old)) (said_by schema.now) name (names_in types.now)) last.new result }
 {
-    if n == 0 {
-        return Looked::Nothing;
-    }
-    let EntityAttribute::At(start, end, required) = entity_attribute(
-        schema,
-        at,
-        u16_at(types, 0),
-        name,
-    ) else {
-        return Looked::Nothing;
+    let Some((first, others)) = types.split_at_checked(Width::NAME) else {
+        return Ok(None);
     };
-    copy(&schema[start..end], last);
-    fold_attribute(
-        schema,
-        at,
-        &types[Width::NAME..],
-        n - 1,
-        name,
-        required,
-        end - start,
-        last,
-        work,
-    )
+    let EntityAttribute::Found(attribute) = entity_attribute(schema, u16_at(first, 0), name) else {
+        return Ok(None);
+    };
+    let found = keep(schema, attribute, last);
+    fold_attribute(schema, others, name, found, last, work)
 }
 
 // The attribute of a type; its form is left in the first bytes of `last`.
 pub fn look_up(
-    schema: &[u8],
-    at: Sections,
+    schema: &Schema,
     t: &[u8],
     name: usize,
     last: &mut [u8],
     work: &mut [u8],
-) -> Looked
-    requires sectioned { Sectioned schema.now «at» }
-    requires asked { Asked (as_limits «at».limits) t.now last.old }
-    ensures { LookedUp (as_limits «at».limits) (lookup (step_fits (as_limits «at».limits) (length work.old)) (dec_s (as_limits «at».limits) schema.now) name (dec «at».limits.levels t.now)) last.new result }
+) -> Result<Option<Looked>, TooLong>
+    requires { Asked (limits_in schema.now) t.now last.old }
+    ensures { LookedUp (limits_in schema.now) (lookup (step_fits (limits_in schema.now) (length work.old)) (said_by schema.now) name (dec (limits_in schema.now).levels t.now)) last.new result }
 {
-    if t[0] == Kind::ENTITY {
-        return look_up_types(
-            schema,
-            at,
-            &t[Offset::ENTITY_NAMES..],
-            u16_at(t, Offset::ENTITY_COUNT),
-            name,
-            last,
-            work,
-        );
+    if let Kind::Entity = Kind::of(t) {
+        return look_up_types(schema, &t[Offset::ENTITY_NAMES..], name, last, work);
     }
-    let Place::At(start, end, required) = own_attribute(t, name, at.limits.levels) else {
-        return Looked::Nothing;
+    let Some(attribute) = own_attribute(t, name, schema.sections.limits.levels) else {
+        return Ok(None);
     };
-    copy(&t[start..end], last);
-    Looked::Found(required, end - start)
+    Ok(Some(keep(schema, attribute, last)))
 }

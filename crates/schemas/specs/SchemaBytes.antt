@@ -1,5 +1,5 @@
 -- The schema form in the borrow checker's terms: the test that one is whole and a total decoder. Assumes nothing: these are definitions.
-use Rattle.std.specs.Prelude.{ℕ, ◌+◌, ◌*◌, ◌≤◌, List, [], ◌∷◌, Bool, true, false, not, ◌&&◌, ◌||◌, cond, eqb, leb, ltb, length, get_or}
+use Rattle.std.specs.Prelude.{ℕ, ◌+◌, ◌*◌, ◌≤◌, List, [], ◌∷◌, Bool, true, false, not, ◌&&◌, ◌||◌, cond, eqb, leb, ltb, length, get_or, Option as Maybe, Some, None}
 use Rattle.std.proofs.Math.Option.{Option, none, some}
 use Rattle.cedar.specs.Types.{Ty, Attrs, nil, Arg, arg_bool, Schema, is_action, maybe, present, as_rec}
 use Rattle.cedar.specs.Limits.{Limits, allowed, block_bytes, max_entities, max_actions, max_functions}
@@ -15,8 +15,6 @@ use Rattle.schemas.specs.declared.kinds.SectionKind.TheVariants.{Entities, Actio
 use Rattle.schemas.specs.declared.order.Low.{Low}
 use Rattle.schemas.specs.declared.sections.Section.{Section}
 use Rattle.schemas.specs.declared.sections.Sections.{Sections}
-use Rattle.schemas.specs.declared.sections.Passed.{Passed}
-use Rattle.schemas.specs.declared.sections.Passed.TheVariants.{To, Broken}
 use Rattle.schemas.specs.declared.whole.Checked.{Checked}
 use Rattle.schemas.specs.declared.whole.Checked.TheVariants as checks
 
@@ -197,14 +195,19 @@ pub record Inside (w : ℕ) (x : Section) (b : List ℕ) : Type 0 where
   pub entries : x.entries + w * x.count ≤ length b
   pub bodies : x.bodies ≤ length b
 
--- The answer of a walk over a section.
-unfoldable pub passed_by : Limits → SectionKind → Section → List ℕ → Passed
-passed_by lim k x b = cond (section_fits lim k x b) (To (section_end (row_of k).width x b)) Broken
+-- The answer of a walk over a section: where the bodies of a whole one end.
+unfoldable pub passed_by : Limits → SectionKind → Section → List ℕ → Maybe ℕ
+passed_by lim k x b = cond (section_fits lim k x b) (Some (section_end (row_of k).width x b)) None
 
 -- The limits that a schema was checked under.
 abbrev pub limits_of : Checked → LimitsStruct
 limits_of (checks.Whole x) = x.limits
 limits_of (checks.Broken l) = l
+
+-- A check that found the sections of a whole schema, or none.
+abbrev pub checked_as : LimitsStruct → Maybe Sections → Checked
+checked_as l (Some x) = checks.Whole x
+checked_as l None = checks.Broken l
 
 -- What the check of a schema finds within limits that are allowed.
 unfoldable pub checked_within : LimitsStruct → List ℕ → Checked

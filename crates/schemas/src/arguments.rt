@@ -13,32 +13,25 @@ fn argument_within(a: &[u8]) -> bool
     requires { 3 ≤ length a.now }
     ensures { result ≡ arg_fits a.now }
 {
-    let k = a[0];
-    if k == ArgumentKind::EXTENSION {
-        return true;
+    match a[0] {
+        ArgumentKind::BOOL | ArgumentKind::LONG | ArgumentKind::STRING => {
+            u16_at(a, SchemaOffset::ARGUMENT_EXTENSION) == Extension::NONE
+        }
+        ArgumentKind::EXTENSION => true,
+        _ => false,
     }
-    if u16_at(a, SchemaOffset::ARGUMENT_EXTENSION) != Extension::NONE {
-        return false;
-    }
-    if k < ArgumentKind::BOOL {
-        return false;
-    }
-    k <= ArgumentKind::STRING
 }
 
 // Whether bytes are arguments, with no byte over.
 pub fn arguments_within(b: &[u8]) -> bool
     ensures { result ≡ args_fit b.now }
 {
-    let mut a = b;
-    while 0 < a.len() {
-        if a.len() < Width::ARGUMENT {
+    let mut left = b;
+    while let Some((argument, others)) = left.split_at_checked(Width::ARGUMENT) {
+        if !argument_within(argument) {
             return false;
         }
-        if !argument_within(a) {
-            return false;
-        }
-        a = &a[Width::ARGUMENT..];
+        left = others;
     }
-    true
+    left.is_empty()
 }

@@ -18,8 +18,5 @@ pub fn body_within(b: &[u8], closed: bool, limits: Limits) -> bool
     if b[0] != Kind::RECORD {
         return false;
     }
-    if closed {
-        return b[Offset::OPEN] == Openness::CLOSED;
-    }
-    true
+    !closed || b[Offset::OPEN] == Openness::CLOSED
 }

@@ -7,5 +7,6 @@ pub mod entries;
 pub mod kinds;
 pub mod offsets;
 pub mod order;
+pub mod schema;
 pub mod sections;
 pub mod whole;

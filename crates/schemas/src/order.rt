@@ -50,13 +50,7 @@ pub fn entity_follows(e: &[u8], low: usize) -> bool
     ensures { result ≡ entity_row.ok low e.now }
 {
     let name = u16_at(e, 0);
-    if is_action(name) {
-        return false;
-    }
-    if EntityKind::ENUMERATED < e[SchemaOffset::ENTITY_KIND] {
-        return false;
-    }
-    low <= name
+    !is_action(name) && e[SchemaOffset::ENTITY_KIND] <= EntityKind::ENUMERATED && low <= name
 }
 
 // Whether an action entry has an odd type above low, or low itself and an id of at least id.
@@ -65,13 +59,7 @@ pub fn action_follows(e: &[u8], low: usize, id: usize) -> bool
     ensures { result ≡ action_row.ok (low, id) e.now }
 {
     let name = u16_at(e, 0);
-    if !is_action(name) {
-        return false;
-    }
-    if name == low {
-        return id <= u16_at(e, SchemaOffset::ACTION_ID);
-    }
-    low < name
+    is_action(name) && (low < name || low == name && id <= u16_at(e, SchemaOffset::ACTION_ID))
 }
 
 // Whether a function entry names an extension only where it returns one, and has a name of at least low.
@@ -79,15 +67,11 @@ pub fn function_follows(e: &[u8], low: usize) -> bool
     requires { 7 ≤ length e.now }
     ensures { result ≡ function_row.ok low e.now }
 {
-    let name = u16_at(e, 0);
-    if e[SchemaOffset::RETURNS] == Returns::EXTENSION {
-        return low <= name;
-    }
-    if e[SchemaOffset::RETURNS] != Returns::NOTHING {
-        return false;
-    }
-    if u16_at(e, SchemaOffset::EXTENSION) != Extension::NONE {
-        return false;
-    }
-    low <= name
+    let returns = e[SchemaOffset::RETURNS];
+    let names_only_its_own = match returns {
+        Returns::EXTENSION => true,
+        Returns::NOTHING => u16_at(e, SchemaOffset::EXTENSION) == Extension::NONE,
+        _ => false,
+    };
+    names_only_its_own && low <= u16_at(e, 0)
 }

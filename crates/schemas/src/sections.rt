@@ -1,6 +1,8 @@
 // The three sections of a schema. Entries of one width stand together, and their bodies in the same order behind all entries.
-ghost use Rattle.std.specs.Prelude.{◌≡◌, ◌≤◌, length};
+ghost use Rattle.std.specs.Prelude.{◌≡◌, ◌+◌, ◌*◌, ◌≤◌, length};
 ghost use Rattle.forms.specs.Limits.{as_limits};
+ghost use Rattle.forms.specs.Parts.{part, rest};
+ghost use Rattle.schemas.specs.Entries.{LaidIn};
 ghost use Rattle.schemas.specs.SchemaBytes.{row_of, Inside, passed_by, entries_end, section_at};
 
 use crate::kinds::SectionKind;
@@ -8,6 +10,7 @@ use crate::order::Low;
 use forms::limits::Limits;
 use forms::numbers::u16_at;
 use forms::offsets::SchemaOffset;
+use forms::rows::Rows;
 use forms::widths::Width;
 
 // How many bytes the three counts take.
@@ -26,6 +29,24 @@ pub struct Section {
     pub bodies: usize,
 }
 
+impl Section {
+    // Its rows, each of so many bytes.
+    #[inline]
+    pub fn rows<'a, const WIDTH: usize>(self, s: &'a [u8]) -> Rows<'a, WIDTH>
+        requires { LaidIn WIDTH self s.now }
+        ensures left { result.left ≡ self.count }
+        ensures entries { result.entries.now ≡ part self.entries (self.entries + WIDTH * self.count) s.now }
+        ensures bodies { result.bodies.now ≡ rest self.bodies s.now }
+    {
+        let end = self.entries + WIDTH * self.count;
+        Rows {
+            left: self.count,
+            entries: &s[self.entries..end],
+            bodies: &s[self.bodies..],
+        }
+    }
+}
+
 // The sections of a schema, found once and handed to every search, with the limits that it was checked under.
 #[derive(Clone, Copy)]
 pub struct Sections {
@@ -33,13 +54,6 @@ pub struct Sections {
     pub entities: Section,
     pub actions: Section,
     pub functions: Section,
-}
-
-// Where the bodies of a whole section end.
-#[derive(Clone, Copy)]
-pub enum Passed {
-    To(usize),
-    Broken,
 }
 
 // Where the entries of all sections end and the bodies begin.
@@ -80,8 +94,8 @@ pub fn section_at(s: &[u8], kind: SectionKind, bodies: usize) -> Section
     }
 }
 
-// Passes the entries of a section, each with its body.
-pub fn section_within(s: &[u8], kind: SectionKind, x: Section, limits: Limits) -> Passed
+// Where the bodies of a section end whose entries and bodies are whole.
+pub fn section_within(s: &[u8], kind: SectionKind, x: Section, limits: Limits) -> Option<usize>
     requires { Inside (row_of kind).width x s.now }
     ensures { result ≡ passed_by (as_limits limits) kind x s.now }
 {
@@ -94,19 +108,19 @@ pub fn section_within(s: &[u8], kind: SectionKind, x: Section, limits: Limits) -
     let mut low = Low::FIRST;
     while 0 < left {
         if !kind.follows(e, low) {
-            return Passed::Broken;
+            return None;
         }
         let len = kind.body_length(e);
         if b.len() < len {
-            return Passed::Broken;
+            return None;
         }
         if !kind.body_within(e, &b[0..len], limits) {
-            return Passed::Broken;
+            return None;
         }
         low = kind.next(e);
         e = &e[width..];
         b = &b[len..];
         left -= 1;
     }
-    Passed::To(s.len() - b.len())
+    Some(s.len() - b.len())
 }

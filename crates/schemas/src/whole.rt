@@ -1,9 +1,9 @@
 // Whether bytes are a whole schema.
 ghost use Rattle.std.specs.Prelude.{◌≡◌};
-ghost use Rattle.schemas.specs.SchemaBytes.{head_fits, limits_of, checked_within, checked};
+ghost use Rattle.schemas.specs.SchemaBytes.{head_fits, limits_of, checked_as, checked_within, checked};
 
 use crate::kinds::SectionKind;
-use crate::sections::{Counts, Passed, Sections, entries_end, section_at, section_within};
+use crate::sections::{Counts, Sections, entries_end, section_at, section_within};
 use forms::limits::Limits;
 use forms::numbers::u16_at;
 use forms::offsets::SchemaOffset;
@@ -31,47 +31,33 @@ impl Checked {
 fn counts_within(s: &[u8]) -> bool
     ensures { result ≡ head_fits s.now }
 {
-    if s.len() < Counts::BYTES {
-        return false;
-    }
-    if Limits::ENTITIES < u16_at(s, SchemaOffset::ENTITIES) {
-        return false;
-    }
-    if Limits::ACTIONS < u16_at(s, SchemaOffset::ACTIONS) {
-        return false;
-    }
-    if Limits::FUNCTIONS < u16_at(s, SchemaOffset::FUNCTIONS) {
-        return false;
-    }
-    entries_end(s) <= s.len()
+    Counts::BYTES <= s.len()
+        && u16_at(s, SchemaOffset::ENTITIES) <= Limits::ENTITIES
+        && u16_at(s, SchemaOffset::ACTIONS) <= Limits::ACTIONS
+        && u16_at(s, SchemaOffset::FUNCTIONS) <= Limits::FUNCTIONS
+        && entries_end(s) <= s.len()
 }
 
 // The sections of a schema that is whole within the limits.
-fn sections_within(s: &[u8], limits: Limits) -> Checked
-    ensures { result ≡ checked_within limits s.now }
+fn sections_within(s: &[u8], limits: Limits) -> Option<Sections>
+    ensures { checked_as limits result ≡ checked_within limits s.now }
 {
     if Limits::BLOCK_BYTES < s.len() {
-        return Checked::Broken(limits);
+        return None;
     }
     if !counts_within(s) {
-        return Checked::Broken(limits);
+        return None;
     }
     let entities = section_at(s, SectionKind::Entities, entries_end(s));
-    let Passed::To(second) = section_within(s, SectionKind::Entities, entities, limits) else {
-        return Checked::Broken(limits);
-    };
+    let second = section_within(s, SectionKind::Entities, entities, limits)?;
     let actions = section_at(s, SectionKind::Actions, second);
-    let Passed::To(third) = section_within(s, SectionKind::Actions, actions, limits) else {
-        return Checked::Broken(limits);
-    };
+    let third = section_within(s, SectionKind::Actions, actions, limits)?;
     let functions = section_at(s, SectionKind::Functions, third);
-    let Passed::To(end) = section_within(s, SectionKind::Functions, functions, limits) else {
-        return Checked::Broken(limits);
-    };
+    let end = section_within(s, SectionKind::Functions, functions, limits)?;
     if end != s.len() {
-        return Checked::Broken(limits);
+        return None;
     }
-    Checked::Whole(Sections {
+    Some(Sections {
         limits,
         entities,
         actions,
@@ -86,5 +72,8 @@ pub fn check_schema(limits: Limits, s: &[u8]) -> Checked
     if !limits.are_allowed() {
         return Checked::Broken(limits);
     }
-    sections_within(s, limits)
+    match sections_within(s, limits) {
+        Some(at) => Checked::Whole(at),
+        None => Checked::Broken(limits),
+    }
 }

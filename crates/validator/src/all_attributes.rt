@@ -13,7 +13,8 @@ use crate::workspaces::clear;
 use forms::limits::Limits;
 use forms::refusals::Refusal;
 use forms::types::whole_type;
-use lookups::all_attributes::{Names, all_names};
+use lookups::all_attributes::all_names;
+use schemas::schema::Schema;
 use schemas::sections::Sections;
 use schemas::whole::{Checked, check_schema};
 use writing::writers::copy;
@@ -37,7 +38,11 @@ fn named(
     if !whole_type(t, limits) {
         return Answer::Refused(Refusal::FIRST);
     }
-    let Names::Of(n) = all_names(schema, at, t, last, work, kept) else {
+    let checked = Schema {
+        bytes: schema,
+        sections: at,
+    };
+    let Ok(n) = all_names(&checked, t, last, work, kept) else {
         return Answer::Refused(Refusal::WORKSPACE);
     };
     if !answer_fits(limits, n, out.len()) {

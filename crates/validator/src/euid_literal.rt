@@ -10,13 +10,14 @@ ghost use Rattle.validator.specs.Uids.{uid_of};
 
 use crate::answers::Answer;
 use crate::rooms::answer_fits;
-use attributes::euid_literal::{find_literal, literal_length, literal_levels, write_literal};
+use attributes::euid_literal::find_literal;
 use forms::kinds::ValueKind;
 use forms::limits::Limits;
 use forms::numbers::u16_at;
 use forms::offsets::ValueOffset;
 use forms::refusals::Refusal;
 use forms::values::whole_value;
+use schemas::schema::Schema;
 use schemas::sections::Sections;
 use schemas::whole::{Checked, check_schema};
 
@@ -40,16 +41,19 @@ fn literal_under(schema: &[u8], at: Sections, v: &[u8], out: &mut [u8]) -> Answe
         return Answer::Refused(Refusal::VALUE);
     }
     let entity = u16_at(v, ValueOffset::UID_TYPE);
-    let found = find_literal(schema, at, entity, u16_at(v, ValueOffset::UID_ID));
-    let n = literal_length(schema, found);
-    if n == 0 {
+    let checked = Schema {
+        bytes: schema,
+        sections: at,
+    };
+    let Some(found) = find_literal(&checked, entity, u16_at(v, ValueOffset::UID_ID)) else {
         return Answer::Nothing;
-    }
+    };
+    let n = found.length();
     if !answer_fits(limits, n, out.len()) {
         return Answer::Refused(Refusal::RESULT);
     }
-    write_literal(schema, found, entity, out);
-    Answer::Typed(n, literal_levels(schema, found, limits))
+    found.write(entity, out);
+    Answer::Typed(n, found.levels(limits))
 }
 
 // The answer under a schema that was checked before, and the limits of its check.

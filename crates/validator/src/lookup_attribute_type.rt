@@ -13,7 +13,8 @@ use forms::limits::Limits;
 use forms::refusals::Refusal;
 use forms::types::whole_type;
 use levels::depths::type_levels;
-use lookups::lookup_attribute_type::{Looked, look_up};
+use lookups::lookup_attribute_type::look_up;
+use schemas::schema::Schema;
 use schemas::sections::Sections;
 use schemas::whole::{Checked, check_schema};
 use writing::writers::copy;
@@ -36,18 +37,26 @@ fn looked_up(
     if !whole_type(t, limits) {
         return Answer::Refused(Refusal::FIRST);
     }
-    match look_up(schema, at, t, attr as usize, last, work) {
-        Looked::Found(required, n) => {
-            if !answer_fits(limits, n, out.len()) {
-                return Answer::Refused(Refusal::RESULT);
-            }
-            let form = &last[0..n];
-            copy(form, out);
-            Answer::Attribute(required, n, type_levels(form, limits.levels - 1))
-        }
-        Looked::Nothing => Answer::Nothing,
-        Looked::TooLong => Answer::Refused(Refusal::WORKSPACE),
+    let checked = Schema {
+        bytes: schema,
+        sections: at,
+    };
+    let Ok(looked) = look_up(&checked, t, attr as usize, last, work) else {
+        return Answer::Refused(Refusal::WORKSPACE);
+    };
+    let Some(found) = looked else {
+        return Answer::Nothing;
+    };
+    if !answer_fits(limits, found.bytes, out.len()) {
+        return Answer::Refused(Refusal::RESULT);
     }
+    let form = &last[0..found.bytes];
+    copy(form, out);
+    Answer::Attribute(
+        found.required,
+        found.bytes,
+        type_levels(form, limits.levels - 1),
+    )
 }
 
 // The answer by the limits of a check. No more bytes are cleared for a form than the smaller of two sizes has that fits.

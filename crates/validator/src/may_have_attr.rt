@@ -10,6 +10,7 @@ use crate::answers::{Answer, yes_or_no};
 use forms::limits::Limits;
 use forms::refusals::Refusal;
 use forms::types::whole_type;
+use schemas::schema::Schema;
 use schemas::sections::Sections;
 use schemas::whole::{Checked, check_schema};
 
@@ -22,7 +23,11 @@ fn may_have_under(schema: &[u8], at: Sections, attr: u16, t: &[u8]) -> Answer
     if !whole_type(t, limits) {
         return Answer::Refused(Refusal::FIRST);
     }
-    yes_or_no(attributes::may_have_attr::may_have_attr(schema, at, t, attr as usize))
+    let checked = Schema {
+        bytes: schema,
+        sections: at,
+    };
+    yes_or_no(attributes::may_have_attr::may_have_attr(&checked, t, attr as usize))
 }
 
 // The answer under a schema that was checked before, and the limits of its check.

@@ -7,7 +7,7 @@ ghost use Rattle.schemas.specs.SchemaBytes.{limits_of, checked};
 ghost use Rattle.schemas.specs.Entries.{Sectioned};
 ghost use Rattle.validator.specs.Handed.{part_of, Handed};
 
-use attributes::own_attribute::{Place, own_attribute};
+use attributes::own_attribute::own_attribute;
 use forms::limits::Limits;
 use forms::refusals::Refusal;
 use forms::types::whole_type;
@@ -43,10 +43,10 @@ fn own_part_under(schema: &[u8], at: Sections, attr: u16, t: &[u8]) -> OwnPart
     if !whole_type(t, limits) {
         return OwnPart::Refused(Refusal::FIRST);
     }
-    let Place::At(start, end, required) = own_attribute(t, attr as usize, limits.levels) else {
+    let Some(part) = own_attribute(t, attr as usize, limits.levels) else {
         return OwnPart::Nothing;
     };
-    OwnPart::At(start, end, required)
+    OwnPart::At(part.start, part.start + part.form.len(), part.required)
 }
 
 // The place under a schema that was checked before, and the limits of its check.

@@ -9,12 +9,13 @@ ghost use Rattle.validator.specs.Answers.{answer_of};
 
 use crate::answers::Answer;
 use conformance::conforms::conforms;
-use conformance::counts::Counts;
+use conformance::counts::{Counts, Under};
 use conformance::verdicts::Verdict;
 use forms::limits::Limits;
 use forms::refusals::Refusal;
 use forms::types::whole_type;
 use forms::values::whole_value;
+use schemas::schema::Schema;
 use schemas::sections::Sections;
 use schemas::whole::{Checked, check_schema};
 use strings::values::is_textual;
@@ -34,7 +35,15 @@ fn conforms_under(counts: Counts, schema: &[u8], at: Sections, t: &[u8], v: &[u8
     if !is_textual(v, limits.levels) {
         return Answer::Refused(Refusal::TEXT);
     }
-    let said = conforms(counts, schema, at, t, v, limits.levels);
+    let checked = Schema {
+        bytes: schema,
+        sections: at,
+    };
+    let under = Under {
+        counts,
+        schema: checked,
+    };
+    let said = conforms(&under, t, v, limits.levels);
     match said {
         Verdict::Holds => Answer::Yes,
         Verdict::Fails => Answer::No,

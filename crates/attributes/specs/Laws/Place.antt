@@ -1,28 +1,29 @@
 -- From a search in an attribute list to the place of the attribute in its form. Assumes nothing.
-use Rattle.std.specs.Prelude.{ℕ, zero, suc, ◌+◌, ◌*◌, ◌-◌, ◌≤◌, ◌<◌, List, Bool, true, false, cond, ◌≡◌, refl, eqb, ltb, length, get_or}
-use Rattle.std.proofs.Common.{arith, ap, sym, subst, ◌∙◌, eq-eqb, ne_eqb, ltb-true}
+use Rattle.std.specs.Prelude.{ℕ, zero, suc, ◌+◌, ◌*◌, ◌-◌, ◌≤◌, ◌<◌, List, Bool, true, false, cond, ◌≡◌, refl, eqb, ltb, length, get_or, Option as Maybe, Some, None}
+use Rattle.std.proofs.Common.{arith, ap, ap₂, sym, subst, ◌∙◌, eq-eqb, ne_eqb, ltb-true}
 use Rattle.std.proofs.Math.Option.{Option, none, some}
 use Rattle.cedar.specs.Types.{Ty, find}
 use Rattle.cedar.specs.Bytes.{Bytes}
 use Rattle.cedar.specs.TypeForm.{enc}
+use Rattle.cedar.specs.Attribute.{own_attr}
 use Rattle.cedar.specs.BodyPlace.{body_from, body_place}
 use Rattle.cedar.proofs.Laws.BodyPlace.{same_place, from-none}
 use Rattle.forms.specs.Parts.{part, rest, rd, kind}
 use Rattle.forms.specs.TypeBytes.{whole, dec, dec_a, Sound}
-use Rattle.forms.specs.Search.{below, used, found_at, Laid}
-use Rattle.forms.specs.declared.search.Found.{Found}
-use Rattle.forms.specs.declared.search.Found.TheVariants.{At as FoundAt, Nothing as FoundNothing}
+use Rattle.forms.specs.Tables.{attrs_at, Tabled}
+use Rattle.forms.specs.Search.{below, used, Laid}
+use Rattle.forms.specs.RowBytes.{IsFirst, Skipped}
+use Rattle.forms.specs.declared.rows.Row.{Row}
 use Rattle.forms.specs.Laws.Parts.{length_rest, length_part, rest_0, rest-rest, part-rest}
 use Rattle.forms.specs.Laws.Bytes.{Bytes-part, enc-dec}
-use Rattle.forms.specs.Laws.Search.{found-where}
-use Rattle.forms.specs.Laws.Attributes.{entry, laid, found-at, found-not}
-use Rattle.cedar.specs.Attribute.{own_attr}
-use Rattle.forms.specs.Laws.Views.{is-record, is-action, see, seen-set, seen-record, seen-entity, seen-action, seen-extension, seen-atom}
-use Rattle.attributes.specs.declared.own_attribute.Place.{Place}
-use Rattle.attributes.specs.declared.own_attribute.Place.TheVariants.{At, Nothing}
-use Rattle.forms.specs.Tables.{attrs_at, Tabled}
+use Rattle.forms.specs.Laws.Skips.{below-most, used-less}
+use Rattle.forms.specs.Laws.Attributes.{entry, laid}
+use Rattle.forms.specs.Laws.RowBytes.{head-length, laid-fit, laid-skipped}
+use Rattle.forms.specs.Laws.AttributeRows.{found-attribute, found-none}
 use Rattle.forms.specs.Laws.Tables.{attrs-count}
-use Rattle.attributes.specs.Place.{Placed, span_of}
+use Rattle.forms.specs.Laws.Views.{is-record, is-action, see, seen-set, seen-record, seen-entity, seen-action, seen-extension, seen-atom}
+use Rattle.attributes.specs.declared.own_attribute.Attribute.{Attribute}
+use Rattle.attributes.specs.Place.{Stands, Placed, span_of}
 
 -- A body is as long as its entry says.
 body-length : {l n low : ℕ} {es bs : List ℕ} → Sound l n low es bs → 0 < n → Bytes bs → length (enc (dec l (part 0 (rd es 3) bs))) ≡ rd es 3
@@ -73,84 +74,81 @@ place_of {l} (suc n) low name at es bs s h k q =
         opened ∙ rw (eq-eqb name (rd es 0) (sym q ∙ ap (λ (y : List ℕ). rd y 0) z)) (same_place (omega arith) (omega (arith, ap (λ (y : List ℕ). rd y 3) z)))
 
 -- Where the bodies start.
-abbrev pub bodies_at : ℕ → ℕ → ℕ
-bodies_at c n = c + 2 + 5 * n
+abbrev bodies_at : ℕ → List ℕ → ℕ
+bodies_at c b = c + 2 + 5 * rd b c
 
-module _ {l c : ℕ} {b : List ℕ} (h : Tabled l c b) (n : ℕ) (en : n ≡ rd b c) where
-  -- The list is whole, its count being read.
-  pub listed-sound : Sound l n 0 (part (c + 2) (bodies_at c n) b) (rest (bodies_at c n) b)
-  listed-sound = rw en h.sound
+-- The rows of a list in the form b.
+module _ {l c : ℕ} {b : List ℕ} (h : Tabled l c b) {n : ℕ} {es bs : List ℕ} (en : n ≡ rd b c) (ees : es ≡ part (c + 2) (bodies_at c b) b)
+    (ebs : bs ≡ rest (bodies_at c b) b) where
+  -- The list is whole.
+  pub listed-sound : Sound l n 0 es bs
+  listed-sound = rw (en, ees, ebs) h.sound
 
-  pub listed-fit : bodies_at c n ≤ length b
-  listed-fit = rw en h.fit
-
-  pub listed-laid : Laid 5 n (part (c + 2) (bodies_at c n) b) (rest (bodies_at c n) b)
+  pub listed-laid : Laid 5 n es bs
   listed-laid = laid listed-sound
 
--- An attribute that was found, with what the caller reads of its entry.
-pub record PlaceFound (l c : ℕ) (b : List ℕ) (n name i off : ℕ) : Type 0 where
-  pub few : i < n
-  pub room : 5 ≤ length (rest (5 * i) (part (c + 2) (bodies_at c n) b))
-  pub inside : bodies_at c n + off + rd (rest (5 * i) (part (c + 2) (bodies_at c n) b)) 3 ≤ length b
-  pub body : whole l (part (bodies_at c n + off) (bodies_at c n + off + rd (rest (5 * i) (part (c + 2) (bodies_at c n) b)) 3) b) ≡ true
-  pub is : find name (attrs_at l c b)
-      ≡ some (
-        eqb (get_or (rest (5 * i) (part (c + 2) (bodies_at c n) b)) 2 0) 1,
-        dec l (part (bodies_at c n + off) (bodies_at c n + off + rd (rest (5 * i) (part (c + 2) (bodies_at c n) b)) 3) b),
-      )
-  pub place : Bytes b → body_from (bodies_at c (rd b c)) name (attrs_at l c b)
-      ≡ some (bodies_at c n + off, bodies_at c n + off + rd (rest (5 * i) (part (c + 2) (bodies_at c n) b)) 3)
+  listed-attrs : dec_a (dec l) n es bs ≡ attrs_at l c b
+  listed-attrs = rw (en, ees, ebs) refl
 
-module _ {l c : ℕ} {b : List ℕ} (h : Tabled l c b) (n : ℕ) (en : n ≡ rd b c) (name : ℕ) (r : Found) (q : r ≡ found_at 5 n name (part (c + 2) (bodies_at c n) b))
-  where
-    pub place_found : (i off : ℕ) → r ≡ FoundAt i off → PlaceFound l c b n name i off
-    place_found i off e =
-        let s = listed-sound h n en in
-        let here = found-at s name r q i off e in
-        let p = here.past_is in
-        let first = entry p.sound (let f = here.few in omega arith) in
-        let es = part (c + 2) (bodies_at c n) b in
-        let len = rd (rest (5 * i) es) 3 in
-        let same : part 0 len (rest off (rest (bodies_at c n) b)) ≡ part (bodies_at c n + off) (bodies_at c n + off + len) b
-        = ap (λ (z : List ℕ). part 0 len z) (rest-rest (bodies_at c n) off b) ∙ part-rest (bodies_at c n + off) len b in
-        record {
-          few = here.few;
-          room = first.room;
-          inside = omega (arith, first.fit, p.inside, listed-fit h n en, length_rest off (rest (bodies_at c n) b), length_rest (bodies_at c n) b);
-          body = subst (λ (z : List ℕ). whole l z ≡ true) same first.body;
-          is =
-              subst
-              (λ (m : ℕ). find name (dec_a (dec l) m (part (c + 2) (bodies_at c m) b) (rest (bodies_at c m) b)) ≡ some (
-                eqb (get_or (rest (5 * i) es) 2 0) 1,
-                dec l (part (bodies_at c n + off) (bodies_at c n + off + len) b),
-              )) en
-              (subst (λ (z : List ℕ). find name (dec_a (dec l) n es (rest (bodies_at c n) b)) ≡ some (eqb (get_or (rest (5 * i) es) 2 0) 1, dec l z))
-              same here.is);
-          place = λ h.
-              let f = found-where 5 n name es i off (sym e ∙ q) in
-              let k = f.0 in
-              let there = place_of n 0 name (bodies_at c n) es (rest (bodies_at c n) b) s (Bytes-part (bodies_at c n) (length b) b h)
-              (subst (λ (j : ℕ). j < n) k f.1) (subst (λ (j : ℕ). rd (rest (5 * j) es) 0 ≡ name) k here.named) in
-              let at_i = subst (λ (j : ℕ). body_from (bodies_at c n) name (dec_a (dec l) n es (rest (bodies_at c n) b)) ≡ place_at (bodies_at c n) j es) (sym k)
-              there in
-              let at_off = subst (λ (j : ℕ). body_from (bodies_at c n) name (dec_a (dec l) n es (rest (bodies_at c n) b)) ≡ some (
-                bodies_at c n + j,
-                bodies_at c n + j + len,
-              )) (sym f.2) at_i in
-              subst
-              (λ (m : ℕ). body_from (bodies_at c m) name (dec_a (dec l) m (part (c + 2) (bodies_at c m) b) (rest (bodies_at c m) b)) ≡ some (
-                bodies_at c n + off,
-                bodies_at c n + off + len,
-              )) en at_off;
-        }
+  module _ {name m : ℕ} {fs cs : List ℕ} (p : Skipped 5 n name es bs m fs cs) where
+    abbrev passed : ℕ
+    passed = below 5 n name es
 
-    pub place-nothing : r ≡ FoundNothing → (find name (attrs_at l c b) ≡ none) × (none ≡ body_from (bodies_at c (rd b c)) name (attrs_at l c b))
-    place-nothing e =
-        let there : find name (attrs_at l c b) ≡ none
-        =
-        subst (λ (m : ℕ). find name (dec_a (dec l) m (part (c + 2) (bodies_at c m) b) (rest (bodies_at c m) b)) ≡ none) en
-        (found-not (listed-sound h n en) name r q e) in
-        (there, sym (from-none (attrs_at l c b) (bodies_at c (rd b c)) name there))
+    -- What is left of the bodies is the end of the form.
+    left-is : cs ≡ rest (bodies_at c b + used 5 passed es) b
+    left-is = p.bodies ∙ ap (rest (used 5 passed es)) ebs ∙ rest-rest (bodies_at c b) (used 5 passed es) b
+
+    left-fits : bodies_at c b + used 5 passed es ≤ length b
+    left-fits =
+        omega (arith, used-less 5 passed n es (below-most 5 n name es), listed-laid.room, ap length ebs, length_rest (bodies_at c b) b, h.fit)
+
+    pub left-shorter : length cs ≤ length b
+    left-shorter = omega (arith, ap length left-is, length_rest (bodies_at c b + used 5 passed es) b)
+
+    left-start : length b - length cs ≡ bodies_at c b + used 5 passed es
+    left-start = omega (arith, ap length left-is, length_rest (bodies_at c b + used 5 passed es) b, left-fits)
+
+    module _ {r : Row} (f : IsFirst 5 m fs cs r) (q : rd fs 0 ≡ name) where
+      pub found-head : length r.head.now ≡ 5
+      found-head = head-length f (laid-skipped listed-laid p)
+
+      long : length r.body.now ≡ rd fs 3
+      long =
+          ap length f.body ∙ length_part 0 (rd fs 3) cs (laid-fit (laid-skipped listed-laid p) f.some) ∙ omega arith
+
+      body-is : r.body.now ≡ part (length b - length cs) (length b - length cs + length r.body.now) b
+      body-is =
+          f.body ∙ ap (part 0 (rd fs 3)) left-is ∙ part-rest (bodies_at c b + used 5 passed es) (rd fs 3) b
+          ∙ ap₂ (λ (i k : ℕ). part i (i + k) b) (sym left-start) (sym long)
+
+      body-inside : length b - length cs + length r.body.now ≤ length b
+      body-inside = omega (arith, long, laid-fit (laid-skipped listed-laid p) f.some, left-shorter)
+
+      pub found-placed : (x : Attribute) → x.start ≡ length b - length cs → x.form.now ≡ r.body.now → x.required ≡ eqb (get_or r.head.now 2 0) 1 →
+          Stands l b (find name (attrs_at l c b)) x
+      found-placed x s e d =
+          let t = found-attribute listed-sound p f q in
+          record {
+            inside = rw (s, e) body-inside;
+            there = rw (s, e) body-is;
+            good = rw e t.1;
+            is = ap (find name) (sym listed-attrs) ∙ t.2 ∙ rw (d, e) refl;
+          }
+
+      pub found-spanned : Bytes b → some (length b - length cs, length b - length cs + length r.body.now) ≡ body_from (bodies_at c b) name (attrs_at l c b)
+      found-spanned g =
+          let k = passed in
+          let few : k < n = omega (arith, p.left, f.some) in
+          let there = place_of n 0 name (bodies_at c b) es bs listed-sound (rw ebs (Bytes-part (bodies_at c b) (length b) b g)) few
+          (ap (λ (z : List ℕ). rd z 0) (sym p.entries) ∙ q) in
+          sym
+          (ap (body_from (bodies_at c b) name) (sym listed-attrs) ∙ there
+          ∙ same_place (omega (arith, left-start)) (omega (arith, left-start, long, ap (λ (z : List ℕ). rd z 3) p.entries)))
+
+    pub found-nothing : (0 < m → rd fs 0 ≡ name → ⊥) → (find name (attrs_at l c b) ≡ none) × (none ≡ body_from (bodies_at c b) name (attrs_at l c b))
+    found-nothing g =
+        let there : find name (attrs_at l c b) ≡ none = ap (find name) (sym listed-attrs) ∙ found-none listed-sound p g in
+        (there, sym (from-none (attrs_at l c b) (bodies_at c b) name there))
 
 -- What `own_attribute` asks of a record and of an action, and where their attributes stand.
 pub record-listed : (l : ℕ) (b : List ℕ) → whole l b ≡ true → kind b ≡ 8 → Tabled (l - 1) 2 b
@@ -159,7 +157,7 @@ record-listed l b w k = let v = is-record l b w k in record { front = omega arit
 pub action-listed : (l : ℕ) (b : List ℕ) → whole l b ≡ true → kind b ≡ 11 → Tabled (l - 1) 3 b
 action-listed l b w k = let v = is-action l b w k in record { front = omega arith; fit = v.fit; sound = v.sound }
 
-module _ (name l : ℕ) (b : List ℕ) (w : whole l b ≡ true) (r : Place) where
+module _ (name l : ℕ) (b : List ℕ) (w : whole l b ≡ true) (r : Maybe Attribute) where
   pub record-placed : kind b ≡ 8 → Placed (l - 1) b (find name (attrs_at (l - 1) 2 b)) r × (span_of r ≡ body_from (4 + 5 * rd b 2) name (attrs_at (l - 1) 2 b))
       → Placed (l - 1) b (own_attr name (dec l b)) r × (span_of r ≡ body_place name (dec l b))
   record-placed k p = (
@@ -186,9 +184,8 @@ other-placed name l b w p q = elim (see l b w) [
 ]
 
 -- A place by its cases.
-pub placed_at : (l : ℕ) (b : List ℕ) (o : Option (Bool × Ty)) (r : Place) (s e : ℕ) (q : Bool) → r ≡ At s e q → Placed l b o r
-    → (s ≤ e) × (e ≤ length b) × (whole l (part s e b) ≡ true) × (o ≡ some (q, dec l (part s e b)))
-placed_at l b o r s e q h p = subst (λ (x : Place). Placed l b o x) h p
+pub placed_at : {l : ℕ} {b : List ℕ} {o : Option (Bool × Ty)} (r : Maybe Attribute) → Placed l b o r → (x : Attribute) → r ≡ Some x → Stands l b o x
+placed_at {l} {b} {o} r p x h = subst (λ (y : Maybe Attribute). Placed l b o y) h p
 
-pub place_none : (l : ℕ) (b : List ℕ) (o : Option (Bool × Ty)) (r : Place) → r ≡ Nothing → Placed l b o r → o ≡ none
-place_none l b o r h p = subst (λ (x : Place). Placed l b o x) h p
+pub place_none : (l : ℕ) (b : List ℕ) (o : Option (Bool × Ty)) (r : Maybe Attribute) → Placed l b o r → r ≡ None → o ≡ none
+place_none l b o r p h = subst (λ (y : Maybe Attribute). Placed l b o y) h p

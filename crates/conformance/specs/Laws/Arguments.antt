@@ -1,5 +1,5 @@
 -- The stand-in for arguments, and the loop of `arguments_fit`. Assumes nothing.
-use Rattle.std.specs.Prelude.{◌≡◌, List, [], ◌∷◌, Bool, true, false, ℕ, ◌+◌, ◌*◌, ◌-◌, ◌≤◌, ◌<◌, eqb, leb, length}
+use Rattle.std.specs.Prelude.{◌≡◌, List, [], ◌∷◌, Bool, true, false, ℕ, ◌+◌, ◌*◌, ◌≤◌, ◌<◌, eqb, leb, length, take, drop}
 use Rattle.std.proofs.Math.Path.{refl}
 use Rattle.std.proofs.Common.{ap, ap₂, sym, ◌∙◌, arith, ne_eqb}
 use Rattle.std.proofs.Math.Bool.{cond}
@@ -11,9 +11,14 @@ use Rattle.cedar.specs.Conformance.{Verdict as Said, holds, fails, fails_inside,
 use Rattle.cedar.specs.Conformance.{function_of, returns_ext, is_arg, arg_extension}
 use Rattle.forms.specs.Parts.{part, rest, rd}
 use Rattle.forms.specs.Rows.{rows_of}
-use Rattle.forms.specs.Laws.Parts.{pos}
-use Rattle.schemas.specs.SchemaBytes.{arg_at, args_fit, args_of}
-use Rattle.schemas.specs.Laws.Arguments.{ArgFirst, args-first, args_none}
+use Rattle.std.proofs.Math.Decide.{dec_lt}
+use Rattle.forms.specs.Search.{Laid}
+use Rattle.forms.specs.RowBytes.{TookFirst}
+use Rattle.forms.specs.declared.rows.Row.{Row}
+use Rattle.forms.specs.Laws.Parts.{pos, rest-is}
+use Rattle.conformance.specs.Laws.Taken.{ahead-laid, taken-again, taken-body, taken-decoded}
+use Rattle.schemas.specs.SchemaBytes.{arg_fits, arg_at, args_fit, args_of}
+use Rattle.schemas.specs.Laws.Arguments.{arg-own, ArgFirst, args-first, args_none}
 use Rattle.conformance.specs.declared.verdicts.Verdict.{Verdict}
 use Rattle.conformance.specs.declared.verdicts.Verdict.TheVariants.{Holds}
 use Rattle.conformance.specs.Verdicts.{verdict_of, inside_of}
@@ -21,7 +26,7 @@ use Rattle.forms.specs.ValueBytes.{member_row, whole_v, whole_v_as, dec_v, dec_v
 use Rattle.conformance.specs.Walks.{arguments_of}
 use Rattle.conformance.specs.Laws.Verdicts.{Then, then-stop, then-on}
 use Rattle.conformance.specs.Laws.Tables.{by-table}
-use Rattle.forms.specs.Laws.Ahead.{Ahead, ahead-again, decoded, decoded-none, table-ahead, table-decoded}
+use Rattle.forms.specs.Laws.Ahead.{Ahead, decoded-none, table-ahead, table-decoded}
 
 -- Arguments that are no call, by the kind of value.
 module _ (rule : Counts) (s : Schema) (d : List ℕ → Value) (b : List ℕ) (j : ℕ) (h : j < 8) where
@@ -106,14 +111,16 @@ pub record ArgumentsAhead (l : ℕ) (rule : Counts) (s : Schema) (all : Said) (l
   pub asked : args_fit k ≡ true
   pub same : all ≡ of_arguments rule s (values_from (rows_of member_row (λ _. dec_v l) left e b)) (args_of k)
 
-pub arguments-start : (l : ℕ) (rule : Counts) (s : Schema) (v k : List ℕ) → whole_v_as (whole_v l) call_kind v ≡ true → args_fit k ≡ true → (n : ℕ) → n ≡ rd v 3 →
-    ArgumentsAhead l rule s (of_arguments rule s (arguments_of l v) (args_of k)) n (part 5 (5 + 2 * n) v) (rest (5 + 2 * n) v) k
-arguments-start l rule s v k h a n q =
-    record {
-      rows = table-ahead member_row (λ _. whole_v l) tt 3 v h n q;
+pub arguments-start : (l : ℕ) (rule : Counts) (s : Schema) (v k : List ℕ) → whole_v_as (whole_v l) call_kind v ≡ true → args_fit k ≡ true →
+    {n : ℕ} {e b : List ℕ} → n ≡ rd v 3 → e ≡ part 5 (5 + 2 * rd v 3) v → b ≡ rest (5 + 2 * rd v 3) v →
+    ArgumentsAhead l rule s (of_arguments rule s (arguments_of l v) (args_of k)) n e b k
+arguments-start l rule s v k h a q x y =
+    rw (q, x, y)
+    (record {
+      rows = table-ahead member_row (λ _. whole_v l) tt 3 v h (rd v 3) refl;
       asked = a;
-      same = ap (λ xs. of_arguments rule s (values_from xs) (args_of k)) (table-decoded member_row (λ _. whole_v l) tt 3 v h n q (λ _. dec_v l));
-    }
+      same = ap (λ xs. of_arguments rule s (values_from xs) (args_of k)) (table-decoded member_row (λ _. whole_v l) tt 3 v h (rd v 3) refl (λ _. dec_v l));
+    })
 
 no_more : (rule : Counts) (s : Schema) → of_arguments rule s end [] ≡ holds
 unfolding of_arguments
@@ -133,40 +140,61 @@ unfolding of_arguments
 both rule s v vs a ks = refl
 
 module _ {l : ℕ} {rule : Counts} {s : Schema} {all : Said} {left : ℕ} {e b k : List ℕ} (i : ArgumentsAhead l rule s all left e b k) where
-  -- No value is left.
-  at-end : left ≤ 0 → {ks : List Arg} → args_of k ≡ ks → all ≡ of_arguments rule s end ks
-  at-end h q = i.same ∙ ap₂ (λ xs ks. of_arguments rule s (values_from xs) ks) (decoded-none member_row (λ _. dec_v l) left e b h) q
+  pub arguments-laid : Laid 2 left e b
+  arguments-laid = ahead-laid i.rows (omega arith)
 
-  pub arguments-end : left ≤ 0 → length k ≤ 0 → Holds ≡ verdict_of all
+  -- No value is left.
+  at-end : left ≡ 0 → {ks : List Arg} → args_of k ≡ ks → all ≡ of_arguments rule s end ks
+  at-end h q = i.same ∙ ap₂ (λ xs ks. of_arguments rule s (values_from xs) ks) (decoded-none member_row (λ _. dec_v l) left e b (omega arith)) q
+
+  pub arguments-end : left ≡ 0 → length k ≡ 0 → Holds ≡ verdict_of all
   arguments-end h z = ap verdict_of (sym (at-end h (args_none k (omega arith)) ∙ no_more rule s))
 
-  module _ (x : Verdict) (y : x ≡ verdict_of (left_over rule)) where
-    pub arguments-few : left ≤ 0 → 0 < length k → x ≡ verdict_of all
-    arguments-few h z = y ∙ ap verdict_of (sym (at-end h (args-first k i.asked z).is ∙ no-values rule s _ _))
+  pub arguments-few : (x : Verdict) → x ≡ verdict_of (left_over rule) → left ≡ 0 → (length k ≡ 0 → ⊥) → x ≡ verdict_of all
+  arguments-few x y h z = y ∙ ap verdict_of (sym (at-end h (args-first k i.asked (pos (length k) z)).is ∙ no-values rule s _ _))
 
-    pub arguments-over : 0 < left → length k ≡ 0 → x ≡ verdict_of all
-    arguments-over p z =
+  -- No argument is asked for that is shorter than one.
+  nothing-asked : length k < 3 → length k ≡ 0
+  nothing-asked h = go (dec_lt 0 (length k))
+    where
+      go : Dec (0 < length k) → length k ≡ 0
+      go (yes q) = let room = (args-first k i.asked q).room in absurd (omega arith)
+      go (no q) = omega arith
+
+  module _ {m : ℕ} {fs cs : List ℕ} {r : Row} (t : TookFirst 2 left e b m fs cs r) where
+    pub argument-whole : whole_v l r.body.now ≡ true
+    argument-whole = taken-body i.rows t
+
+    pub arguments-over : (x : Verdict) → x ≡ verdict_of (left_over rule) → length k < 3 → x ≡ verdict_of all
+    arguments-over x y z =
         y ∙ ap verdict_of
-        (sym (i.same ∙ ap₂ (λ xs ks. of_arguments rule s (values_from xs) ks) (decoded member_row (λ _. dec_v l) left e b p (rd e 0) refl)
-        (args_none k (omega arith)) ∙ no-asked rule s _ _))
+        (sym (i.same ∙ ap₂ (λ xs ks. of_arguments rule s (values_from xs) ks) (taken-decoded member_row (λ _. dec_v l) t)
+        (args_none k (omega (arith, nothing-asked z))) ∙ no-asked rule s _ _))
 
-  module _ (p : 0 < left) (h : length k ≡ 0 → ⊥) (n : ℕ) (q : n ≡ rd e 0) where
-    pub arguments-first : ArgFirst k
-    arguments-first = args-first k i.asked (pos (length k) h)
+    module _ (h : 3 ≤ length k) (first others : List ℕ) (q : first ≡ take 3 k) (u : others ≡ drop 3 k) where
+      asks : ArgFirst k
+      asks = args-first k i.asked (omega arith)
 
-    step : Then all (of_argument rule s (dec_v l (part 0 n b)) (arg_at k))
-        (of_arguments rule s (values_from (rows_of member_row (λ _. dec_v l) (left - 1) (rest 2 e) (rest n b))) (args_of (rest 3 k)))
-    step =
-        record {
-          is =
-              i.same
-              ∙ ap₂ (λ xs ks. of_arguments rule s (values_from xs) ks) (decoded member_row (λ _. dec_v l) left e b p n q) arguments-first.is
-              ∙ both rule s _ _ _ _;
-        }
+      pub argument-asked : arg_fits first ≡ true
+      argument-asked = (arg-own k first q).0 ∙ asks.fits
 
-    module _ (x : Verdict) (y : x ≡ verdict_of (of_argument rule s (dec_v l (part 0 n b)) (arg_at k))) where
-      pub arguments-stop : (x ≡ Holds → ⊥) → x ≡ verdict_of all
-      arguments-stop g = then-stop step x y g
+      behind : rest 3 k ≡ others
+      behind = rest-is 3 k ∙ sym u
 
-      pub arguments-again : x ≡ Holds → ArgumentsAhead l rule s all (left - 1) (rest 2 e) (rest n b) (rest 3 k)
-      arguments-again g = record { rows = ahead-again i.rows p n q; asked = arguments-first.more; same = then-on step x y g }
+      step : Then all (of_argument rule s (dec_v l r.body.now) (arg_at first))
+          (of_arguments rule s (values_from (rows_of member_row (λ _. dec_v l) m fs cs)) (args_of others))
+      step =
+          record {
+            is =
+                i.same
+                ∙ ap₂ (λ xs ks. of_arguments rule s (values_from xs) ks) (taken-decoded member_row (λ _. dec_v l) t) asks.is
+                ∙ both rule s _ _ _ _
+                ∙ rw ((arg-own k first q).1, behind) refl;
+          }
+
+      module _ (x : Verdict) (y : x ≡ verdict_of (of_argument rule s (dec_v l r.body.now) (arg_at first))) where
+        pub arguments-stop : (x ≡ Holds → ⊥) → x ≡ verdict_of all
+        arguments-stop g = then-stop step x y g
+
+        pub arguments-again : x ≡ Holds → ArgumentsAhead l rule s all m fs cs others
+        arguments-again g = record { rows = taken-again i.rows t; asked = rw behind at asks.more; same = then-on step x y g }

@@ -1,12 +1,12 @@
 -- A value as an argument, and a call as a value of an extension. Assumes nothing.
-use Rattle.std.specs.Prelude.{◌≡◌, refl, List, Bool, true, false, not, cond, ℕ, ◌-◌, eqb, leb}
+use Rattle.std.specs.Prelude.{◌≡◌, refl, List, true, false, ℕ, ◌-◌, eqb, leb, Option as Maybe, Some, None}
 use Rattle.std.proofs.Common.{ap, ap₂, sym, ◌∙◌, arith, eq-eqb, ne_eqb}
 use Rattle.std.proofs.Math.Option.{none, some}
-use Rattle.std.proofs.lemmas.Bool.{not-true, not-false}
 use Rattle.cedar.specs.Types.{Arg, arg_bool, arg_long, arg_string, arg_ext, Value, Values, Schema, maybe}
 use Rattle.cedar.specs.ValueForm.{value_kind}
 use Rattle.cedar.specs.Conformance.{verdict, and_then, unknown, fails, Counts, of_argument, of_arguments, is_extension, function_of}
 use Rattle.forms.specs.Parts.{rd, kind}
+use Rattle.schemas.specs.Entries.{returns_of}
 use Rattle.schemas.specs.SchemaBytes.{arg_fits, arg_at}
 use Rattle.schemas.specs.Laws.Arguments.{arg-kind, arg-is-bool, arg-is-long, arg-is-string, arg-is-extension}
 use Rattle.conformance.specs.declared.verdicts.Verdict.{Verdict}
@@ -51,21 +51,22 @@ module _ (rule : Counts) (s : Schema) (name n e : ℕ) (q : name ≡ n) (vs : Va
       let y : is_extension rule s e (n, vs) ≡ unknown = rw (← q, z) refl in
       ap verdict_of (sym y)
 
-  module _ (ret : Bool) (x : ℕ) (ks : List Arg) (z : function_of s name ≡ some (record { name = name; returns = cond ret (some x) none; args = ks })) where
-    known : is_extension rule s e (n, vs) ≡ and_then (verdict (maybe false (eqb e) (cond ret (some x) none))) (of_arguments rule s vs ks)
-    known = rw (← q, z) refl
+  module _ (ret : Maybe ℕ) (ks : List Arg) (z : function_of s name ≡ some (record { name = name; returns = returns_of ret; args = ks })) where
+    known : (r : Maybe ℕ) → ret ≡ r → is_extension rule s e (n, vs) ≡ and_then (verdict (maybe false (eqb e) (returns_of r))) (of_arguments rule s vs ks)
+    known r h = rw (← q, z, h) refl
 
-    pub call_none : not ret ≡ true → Fails ≡ verdict_of (is_extension rule s e (n, vs))
+    pub call_none : ret ≡ None → Fails ≡ verdict_of (is_extension rule s e (n, vs))
     call_none h =
-        let y : is_extension rule s e (n, vs) ≡ fails = known ∙ rw (not-true ret h) refl in
+        let y : is_extension rule s e (n, vs) ≡ fails = known None h in
         ap verdict_of (sym y)
 
-    pub call-other : not ret ≡ false → (x ≡ e → ⊥) → Fails ≡ verdict_of (is_extension rule s e (n, vs))
-    call-other h g =
-        let y : is_extension rule s e (n, vs) ≡ fails = known ∙ rw (not-false ret h, ne_eqb e x (λ z. g (sym z))) refl in
-        ap verdict_of (sym y)
+    module _ (x : ℕ) (h : ret ≡ Some x) where
+      pub call-other : (x ≡ e → ⊥) → Fails ≡ verdict_of (is_extension rule s e (n, vs))
+      call-other g =
+          let y : is_extension rule s e (n, vs) ≡ fails = known (Some x) h ∙ rw (ne_eqb e x (λ z. g (sym z))) refl in
+          ap verdict_of (sym y)
 
-    pub call-arguments : not ret ≡ false → x ≡ e → verdict_of (of_arguments rule s vs ks) ≡ verdict_of (is_extension rule s e (n, vs))
-    call-arguments h g =
-        let y : is_extension rule s e (n, vs) ≡ of_arguments rule s vs ks = known ∙ rw (not-false ret h, eq-eqb e x (sym g)) refl in
-        ap verdict_of (sym y)
+      pub call-arguments : x ≡ e → verdict_of (of_arguments rule s vs ks) ≡ verdict_of (is_extension rule s e (n, vs))
+      call-arguments g =
+          let y : is_extension rule s e (n, vs) ≡ of_arguments rule s vs ks = known (Some x) h ∙ rw (eq-eqb e x (sym g)) refl in
+          ap verdict_of (sym y)

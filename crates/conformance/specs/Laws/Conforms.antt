@@ -14,6 +14,8 @@ use Rattle.forms.specs.TypeBytes.{names_by, whole_as, whole, dec}
 use Rattle.forms.specs.Laws.Types.{whole_by}
 use Rattle.forms.specs.Laws.Views.{Seen, seen-set, seen-record, seen-entity, seen-action, seen-extension, seen-atom, see, not-empty, is_set, is-record}
 use Rattle.forms.specs.Laws.Views.{is-entity, is-action, is-extension, IsAtom, is-atom}
+use Rattle.forms.specs.Names.{names_in}
+use Rattle.forms.specs.Laws.NamesIn.{names-of-entity}
 use Rattle.conformance.specs.declared.verdicts.Verdict.TheVariants.{Holds, Fails}
 use Rattle.conformance.specs.Verdicts.{verdict_of}
 use Rattle.conformance.specs.Kinds.{takes}
@@ -97,10 +99,10 @@ module _ (rule : Counts) (s : Schema) (l : ℕ) (t v : List ℕ) (h : whole l t 
       ap verdict_of (sym (by (kind v) refl (is-entity l t h e).is ∙ of-entity rule s _ _
       ∙ ap (λ (o : Option ℕ). verdict (maybe false (λ k. mem k (names_by 2 (rd t 1) (rest 3 t))) o)) (no-uid (dec_v (l - 1)) v (value-kind l v g) p)))
 
-  pub entity-names : kind t ≡ 10 → kind v ≡ 4 → (n k : ℕ) → n ≡ rd t 1 → k ≡ rd v 1 →
-      verdict_of (verdict (mem k (names_by 2 n (rest 3 t)))) ≡ verdict_of (conforms rule s (dec l t) (dec_v l v))
-  entity-names e p n k q u =
-      ap₂ (λ (i j : ℕ). verdict_of (verdict (mem j (names_by 2 i (rest 3 t))))) q u ∙ ap verdict_of (sym (by 4 p (is-entity l t h e).is ∙ of-entity rule s _ _))
+  pub entity-names : kind t ≡ 10 → kind v ≡ 4 → (k : ℕ) → k ≡ rd v 1 →
+      verdict_of (verdict (mem k (names_in (rest 3 t)))) ≡ verdict_of (conforms rule s (dec l t) (dec_v l v))
+  entity-names e p k u =
+      ap (λ (j : ℕ). verdict_of (verdict (mem j (names_in (rest 3 t))))) u ∙ ap verdict_of (sym (by 4 p (names-of-entity l t h e) ∙ of-entity rule s _ _))
 
   action-not : kind t ≡ 11 → (kind v ≡ 4 → ⊥) → Fails ≡ verdict_of (conforms rule s (dec l t) (dec_v l v))
   action-not e p =

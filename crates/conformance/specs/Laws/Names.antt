@@ -1,33 +1,19 @@
 -- The loop of `stands`: what is left of the names answers for all. Assumes nothing.
-use Rattle.std.specs.Prelude.{◌≡◌, refl, List, true, false, ◌||◌, ℕ, ◌*◌, ◌-◌, ◌≤◌, ◌<◌, eqb, length}
-use Rattle.std.proofs.Common.{ap, sym, ◌∙◌, arith, eq-eqb, ne_eqb}
+use Rattle.std.specs.Prelude.{ℕ, List, ◌++◌, Bool, true, ◌≡◌, refl, length}
+use Rattle.std.specs.declared.slice.ChunksExact.{ChunksExact}
+use Rattle.std.proofs.Common.{sym, ◌∙◌, eq-eqb, ne_eqb}
 use Rattle.cedar.specs.Types.{mem}
-use Rattle.forms.specs.Parts.{rest, rd}
-use Rattle.forms.specs.TypeBytes.{names_by}
-use Rattle.forms.specs.Laws.Parts.{length_rest}
-use Rattle.forms.specs.Laws.Names.{names-first, names-none}
+use Rattle.forms.specs.Parts.{rd}
+use Rattle.forms.specs.Laws.NamesIn.{NamesLeft, name-first}
 
-pub record NamesAhead (name n : ℕ) (ns : List ℕ) (left : ℕ) (b : List ℕ) : Type 0 where
-  pub same : mem name (names_by 2 n ns) ≡ mem name (names_by 2 left b)
-  pub sized : 2 * left ≤ length b
+module _ {name : ℕ} {all : Bool} {left : ChunksExact ℕ} (i : NamesLeft all (mem name) left) (pair b : List ℕ)
+    (cut : left.rest.now ≡ pair ++ b) (size : length pair ≡ left.size) where
+  pub name-here : rd pair 0 ≡ name → true ≡ all
+  name-here h = sym (name-first i pair b cut size ∙ rw (eq-eqb name (rd pair 0) (sym h)) refl)
 
-pub names-start : (name : ℕ) {n : ℕ} {ns : List ℕ} → 2 * n ≤ length ns → NamesAhead name n ns n ns
-names-start name h = record { same = refl; sized = h }
-
-step : (name n : ℕ) (b : List ℕ) → 0 < n → mem name (names_by 2 n b) ≡ (eqb name (rd b 0) || mem name (names_by 2 (n - 1) (rest 2 b)))
-step name n b p = ap (mem name) (names-first 2 n b p)
-
-module _ {name n left : ℕ} {ns b : List ℕ} (i : NamesAhead name n ns left b) where
-  pub names-end : left ≤ 0 → false ≡ mem name (names_by 2 n ns)
-  names-end h = sym (i.same ∙ ap (mem name) (names-none 2 left b h))
-
-  module _ (p : 0 < left) (k : ℕ) (q : k ≡ rd b 0) where
-    pub names-here : k ≡ name → true ≡ mem name (names_by 2 n ns)
-    names-here h = sym (i.same ∙ step name left b p ∙ rw (eq-eqb name (rd b 0) (omega arith)) refl)
-
-    pub names-again : (k ≡ name → ⊥) → NamesAhead name n ns (left - 1) (rest 2 b)
-    names-again h =
-        record {
-          same = i.same ∙ step name left b p ∙ rw (ne_eqb name (rd b 0) (λ e. h (q ∙ sym e))) refl;
-          sized = omega (arith, length_rest 2 b, i.sized);
-        }
+  pub name-other : (rd pair 0 ≡ name → ⊥) → (next : ChunksExact ℕ) → next.size ≡ left.size → next.rest.now ≡ b → NamesLeft all (mem name) next
+  name-other h next s r =
+      record {
+        size = s ∙ i.size;
+        same = name-first i pair b cut size ∙ rw (ne_eqb name (rd pair 0) (λ e. h (sym e)), r) refl;
+      }

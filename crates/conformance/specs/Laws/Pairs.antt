@@ -9,6 +9,7 @@ use Rattle.cedar.specs.Conformance.{has_name}
 use Rattle.forms.specs.Parts.{rest, rd}
 use Rattle.forms.specs.Rows.{rows_of, none_left}
 use Rattle.forms.specs.Search.{below, used, low_at, Laid}
+use Rattle.forms.specs.RowBytes.{Skipped}
 use Rattle.forms.specs.Laws.Parts.{length_rest}
 use Rattle.forms.specs.Laws.Skips.{Below, From, Named, below-most, below-stop, used-less, rows-used, rows_cut, rows-skip, rows-below, rows-from}
 use Rattle.forms.specs.ValueBytes.{pair_row}
@@ -68,6 +69,27 @@ passed {w} {n} {low} {es} {bs} s name k off q u =
           ∙ has-past (rows_of pair_row d k es bs) (rows_of pair_row d (n - k) (rest (4 * k) es) (rest (used 4 k es) bs)) m name
           (rw q (rows-below pair_row w none_left d (λ h. h) (pair-named w d) n name es bs)) g
           ∙ rw u refl;
+    }
+
+-- The same of a search that took the rows with it.
+pub record PairsLeft (w : ℕ → List ℕ → Bool) (n name : ℕ) (es bs : List ℕ) (j : ℕ) (gs ds : List ℕ) : Type 0 where
+  pub low : ℕ
+  pub rows : Ahead pair_row w j low gs ds
+  pub above : 0 < j → name ≤ rd gs 0
+  pub later : (d : ℕ → List ℕ → Value) (m : ℕ) → name ≤ m →
+      has_name m (pairs_from (rows_of pair_row d n es bs)) ≡ has_name m (pairs_from (rows_of pair_row d j gs ds))
+
+pub pairs-left : {w : ℕ → List ℕ → Bool} {n low name : ℕ} {es bs : List ℕ} {j : ℕ} {gs ds : List ℕ} → Ahead pair_row w n low es bs →
+    Skipped 4 n name es bs j gs ds → PairsLeft w n name es bs j gs ds
+pairs-left {w} {n} {low} {name} {es} {bs} {j} {gs} {ds} s p =
+    let k = below 4 n name es in
+    let h = passed s name k (used 4 k es) refl refl in
+    let e : n - k ≡ j = omega (arith, p.left) in
+    record {
+      low = h.low;
+      rows = rw (← e, p.entries, p.bodies) h.rows;
+      above = λ q. rw p.entries (h.above (omega (arith, p.left)));
+      later = λ d m g. rw (← e, p.entries, p.bodies) (h.later d m g);
     }
 
 -- Where the first name is not below the name, only the first pair can have it.

@@ -1,5 +1,5 @@
 -- The loop of `record_conforms`, and a pair's value. Assumes nothing.
-use Rattle.std.specs.Prelude.{◌≡◌, refl, List, [], ◌∷◌, Bool, true, false, cond, ℕ, ◌+◌, ◌*◌, ◌-◌, ◌≤◌, ◌<◌, eqb, length}
+use Rattle.std.specs.Prelude.{◌≡◌, refl, List, [], ◌∷◌, Bool, true, false, cond, ℕ, ◌+◌, ◌*◌, ◌≤◌, ◌<◌, eqb, length}
 use Rattle.std.proofs.Common.{ap, ap₂, sym, ◌∙◌, arith}
 use Rattle.std.proofs.Math.Option.{Option, some}
 use Rattle.cedar.specs.Types.{Ty, Attrs, nil, attr, find, Value, Schema, maybe}
@@ -8,19 +8,21 @@ use Rattle.cedar.specs.ValueForm.{record_kind, pairs_from}
 use Rattle.cedar.specs.Conformance.{Verdict as Said, holds, fails, fails_inside, unknown, verdict, and_then, Counts, each_pair, conforms, conforms_at}
 use Rattle.forms.specs.Parts.{part, rest, rd}
 use Rattle.forms.specs.Rows.{rows_of, none_left}
-use Rattle.forms.specs.Search.{below, used, found_at}
-use Rattle.forms.specs.declared.search.Found.{Found}
-use Rattle.forms.specs.declared.search.Found.TheVariants.{At, Nothing}
+use Rattle.forms.specs.Search.{Laid}
+use Rattle.forms.specs.RowBytes.{IsFirst, TookFirst, Skipped}
+use Rattle.forms.specs.declared.rows.Row.{Row}
 use Rattle.forms.specs.TypeBytes.{attr_row, whole_as, whole, dec, dec_a, Sound}
-use Rattle.forms.specs.Laws.Parts.{length_rest, part-rest}
 use Rattle.forms.specs.Laws.Skips.{From, rows-from}
-use Rattle.forms.specs.Laws.Attributes.{Entry, entry, past, Here, found-at, found-not}
+use Rattle.forms.specs.Laws.Attributes.{laid}
+use Rattle.forms.specs.Laws.RowBytes.{head-rd, head-length}
+use Rattle.forms.specs.Laws.AttributeRows.{ahead as passed-on, found-attribute, found-none}
+use Rattle.conformance.specs.Laws.Taken.{ahead-laid, taken-again, taken-body, taken-decoded}
 use Rattle.conformance.specs.declared.verdicts.Verdict.{Verdict}
 use Rattle.conformance.specs.declared.verdicts.Verdict.TheVariants.{Holds}
 use Rattle.conformance.specs.Verdicts.{verdict_of}
 use Rattle.forms.specs.ValueBytes.{pair_row, whole_v, whole_v_as, dec_v}
 use Rattle.conformance.specs.Walks.{is_open, attributes_of, pairs_of}
-use Rattle.forms.specs.Laws.Ahead.{Ahead, ahead-again, decoded, decoded-none, table-ahead}
+use Rattle.forms.specs.Laws.Ahead.{Ahead, decoded-none, table-ahead}
 use Rattle.conformance.specs.Laws.Pairs.{pair-named, pairs-from}
 use Rattle.conformance.specs.Laws.Required.{attrs-from, records-table}
 use Rattle.conformance.specs.Laws.Verdicts.{Then, then-stop, then-on}
@@ -39,35 +41,6 @@ at-found rule s o (attr k r t xs) n x = go (eqb n k) (at-found rule s o xs n x)
     go true e = refl
     go false e = e
 
--- Where the attribute of a name was found.
-module _ (l n name : ℕ) (f c : List ℕ) (h : Sound l n 0 f c) (r : Found) (q : r ≡ found_at 5 n name f) (i off : ℕ) (e : r ≡ At i off) where
-  here : Here l n name f c i off
-  here = found-at h name r q i off e
-
-  body : Entry l (n - i) here.past_is.low (rest (5 * i) f) (rest off c)
-  body = entry here.past_is.sound (omega (arith, here.few))
-
-  pub pair-room : 5 * i + 5 ≤ length f
-  pair-room = omega (arith, body.room, length_rest (5 * i) f, here.past_is.room)
-
-  module _ (k : ℕ) (z : k ≡ rd (rest (5 * i) f) 3) where
-    pub pair_inside : off + k ≤ length c
-    pair_inside = omega (arith, body.fit, length_rest off c, here.past_is.inside)
-
-    pub pair-whole : whole l (part off (off + k) c) ≡ true
-    pair-whole = rw (← part-rest off k c, z) body.body
-
-    pub pair_found : (rule : Counts) (s : Schema) (o : Bool) (x : Value) →
-        verdict_of (conforms rule s (dec l (part off (off + k) c)) x) ≡ verdict_of (conforms_at rule s o (dec_a (dec l) n f c) name x)
-    pair_found rule s o x =
-        let y : part 0 (rd (rest (5 * i) f) 3) (rest off c) ≡ part off (off + k) c = rw (← z) (part-rest off k c) in
-        ap verdict_of (sym (at-found rule s o (dec_a (dec l) n f c) name x ∙ ap (asks rule s o x) here.is ∙ ap (λ (w : List ℕ). conforms rule s (dec l w) x) y))
-
--- Where it was not.
-pub pair-absent : (rule : Counts) (s : Schema) (o : Bool) (l n name : ℕ) (f c : List ℕ) (x : Value) → Sound l n 0 f c → (r : Found) → r ≡ found_at 5 n name f → r ≡ Nothing →
-    verdict_of (verdict o) ≡ verdict_of (conforms_at rule s o (dec_a (dec l) n f c) name x)
-pair-absent rule s o l n name f c x h r q e = ap verdict_of (sym (at-found rule s o (dec_a (dec l) n f c) name x ∙ ap (asks rule s o x) (found-not h name r q e)))
-
 -- Names from a name on, asked of attributes that say the same from there on.
 each_same : (xs : List (ℕ × Value)) (name : ℕ) (g k : ℕ → Value → Said) → From (λ h. h) name xs → ((m : ℕ) (x : Value) → name ≤ m → g m x ≡ k m x) →
     each_pair g (pairs_from xs) ≡ each_pair k (pairs_from xs)
@@ -83,7 +56,6 @@ grouped unknown v w = refl
 -- What is left of the attributes and the pairs answers for all; then comes what is asked last.
 pub record RecordAhead (l : ℕ) (rule : Counts) (s : Schema) (o : Bool) (all last : Said) (ahead : ℕ) (f c : List ℕ) (left : ℕ) (e b : List ℕ) : Type 0 where
   pub low : ℕ
-  pub few : ahead < 65536
   pub attrs : Sound l ahead 0 f c
   pub rows : Ahead pair_row (λ _. whole_v l) left low e b
   pub same : all ≡ and_then (each_pair (λ n x. conforms_at rule s o (dec_a (dec l) ahead f c) n x) (pairs_from (rows_of pair_row (λ _. dec_v l) left e b))) last
@@ -95,67 +67,99 @@ lowest : {l n low : ℕ} {es bs : List ℕ} → Sound l n low es bs → Sound l 
 lowest {l} {n} {low} {es} {bs} a = sound-of (attrs-from {w = λ _. whole l} (record { sized = a.sized; good = a.good }) 0 (λ h. omega arith))
 
 pub record-start : (l : ℕ) (rule : Counts) (s : Schema) (t v : List ℕ) → whole_as (whole l) rec_kind t ≡ true → whole_v_as (whole_v l) record_kind v ≡ true →
-    (m n : ℕ) → m ≡ rd t 2 → n ≡ rd v 1 → m < 65536 → (last : Said) →
-    RecordAhead l rule s (is_open t) (and_then (each_pair (λ k x. conforms_at rule s (is_open t) (attributes_of l t) k x) (pairs_of l v)) last) last m
-    (part 4 (4 + 5 * m) t) (rest (4 + 5 * m) t) n (part 3 (3 + 4 * n) v) (rest (3 + 4 * n) v)
-record-start l rule s t v g h m n p q few last =
+    {m : ℕ} {f c : List ℕ} → m ≡ rd t 2 → f ≡ part 4 (4 + 5 * rd t 2) t → c ≡ rest (4 + 5 * rd t 2) t →
+    {n : ℕ} {e b : List ℕ} → n ≡ rd v 1 → e ≡ part 3 (3 + 4 * rd v 1) v → b ≡ rest (3 + 4 * rd v 1) v → (last : Said) →
+    RecordAhead l rule s (is_open t) (and_then (each_pair (λ k x. conforms_at rule s (is_open t) (attributes_of l t) k x) (pairs_of l v)) last) last m f c n e b
+record-start l rule s t v g h p pf pc q qe qb last =
     let z = records-table l t g in
-    record {
+    rw (p, pf, pc, q, qe, qb)
+    (record {
       low = 0;
-      few = few;
-      attrs = sound-of (table-ahead attr_row (λ _. whole l) 0 2 t z m p);
-      rows = table-ahead pair_row (λ _. whole_v l) 0 1 v h n q;
-      same = rw (p, q) refl;
-    }
+      attrs = sound-of (table-ahead attr_row (λ _. whole l) 0 2 t z (rd t 2) refl);
+      rows = table-ahead pair_row (λ _. whole_v l) 0 1 v h (rd v 1) refl;
+      same = refl;
+    })
 
 module _ {l : ℕ} {rule : Counts} {s : Schema} {o : Bool} {all last : Said} {ahead : ℕ} {f c : List ℕ} {left : ℕ} {e b : List ℕ}
     (i : RecordAhead l rule s o all last ahead f c left e b) where
-  pub record-end : left ≤ 0 → verdict_of last ≡ verdict_of all
+  pub record-end : left ≡ 0 → verdict_of last ≡ verdict_of all
   record-end h =
       let z = i.same in
       ap verdict_of
       (sym (z ∙ ap (λ xs. and_then (each_pair (λ n x. conforms_at rule s o (dec_a (dec l) ahead f c) n x) (pairs_from xs)) last)
-      (decoded-none pair_row (λ _. dec_v l) left e b h)))
+      (decoded-none pair_row (λ _. dec_v l) left e b (omega arith))))
 
-  -- Attributes below the first pair's name are passed.
-  pub record-skip : 0 < left → (name k off : ℕ) → name ≡ rd e 0 → k ≡ below 5 ahead name f → off ≡ used 5 k f →
-      RecordAhead l rule s o all last (ahead - k) (rest (5 * k) f) (rest off c) left e b
-  record-skip p name k off q u z =
-      let y = past i.attrs name k off u z in
-      let a = pairs-from i.rows name (λ g. omega arith) in
-      record {
-        low = i.low;
-        few = omega (arith, i.few);
-        attrs = lowest y.sound;
-        rows = i.rows;
-        same =
-            i.same
-            ∙ ap (λ (x : Said). and_then x last) (each_same (rows_of pair_row (λ _. dec_v l) left e b) name
-            (λ n x. conforms_at rule s o (dec_a (dec l) ahead f c) n x)
-            (λ n x. conforms_at rule s o (dec_a (dec l) (ahead - k) (rest (5 * k) f) (rest off c)) n x)
-            (rows-from pair_row (λ _. whole_v l) none_left (λ _. dec_v l) (λ h. h) (pair-named (λ _. whole_v l) (λ _. dec_v l)) left name e b a.good)
-            (λ m x g. at-found rule s o (dec_a (dec l) ahead f c) m x ∙ ap (asks rule s o x) (y.later m g) ∙
-            sym (at-found rule s o (dec_a (dec l) (ahead - k) (rest (5 * k) f) (rest off c)) m x)));
-      }
+  pub attributes-laid : Laid 5 ahead f c
+  attributes-laid = laid i.attrs
 
-  module _ (p : 0 < left) (name : ℕ) (q : name ≡ rd e 0) (n : ℕ) (u : n ≡ rd e 2) (x : Verdict)
-      (y : x ≡ verdict_of (conforms_at rule s o (dec_a (dec l) ahead f c) name (dec_v l (part 0 n b)))) where
-    step : Then all (conforms_at rule s o (dec_a (dec l) ahead f c) name (dec_v l (part 0 n b)))
-        (and_then
-        (each_pair (λ m z. conforms_at rule s o (dec_a (dec l) ahead f c) m z) (pairs_from (rows_of pair_row (λ _. dec_v l) (left - 1) (rest 4 e) (rest n b))))
-        last)
-    step =
-        record {
-          is =
-              i.same
-              ∙ ap (λ xs. and_then (each_pair (λ m z. conforms_at rule s o (dec_a (dec l) ahead f c) m z) (pairs_from xs)) last)
-              (decoded pair_row (λ _. dec_v l) left e b p n u)
-              ∙ grouped (conforms_at rule s o (dec_a (dec l) ahead f c) (rd e 0) (dec_v l (part 0 n b))) _ last
-              ∙ rw (← q) refl;
-        }
+  pub pairs-laid : Laid 4 left e b
+  pairs-laid = ahead-laid i.rows (omega arith)
 
-    pub record-stop : (x ≡ Holds → ⊥) → x ≡ verdict_of all
-    record-stop h = then-stop step x y h
+  module _ {m : ℕ} {fs cs : List ℕ} {r : Row} (t : TookFirst 4 left e b m fs cs r) where
+    pub pair-head : length r.head.now ≡ 4
+    pair-head = head-length t.first pairs-laid
 
-    pub record-again : x ≡ Holds → RecordAhead l rule s o all last ahead f c (left - 1) (rest 4 e) (rest n b)
-    record-again h = record { low = rd e 0 + 1; few = i.few; attrs = i.attrs; rows = ahead-again i.rows p n u; same = then-on step x y h }
+    pub pair-whole : whole_v l r.body.now ≡ true
+    pair-whole = taken-body i.rows t
+
+    named : (name : ℕ) → name ≡ rd r.head.now 0 → name ≡ rd e 0
+    named name q = q ∙ head-rd t.first 0 (omega arith)
+
+    module _ (name : ℕ) (q : name ≡ rd r.head.now 0) {j : ℕ} {gs ds : List ℕ} (p : Skipped 5 ahead name f c j gs ds) where
+      -- Attributes below the pair's name are passed.
+      record-find : RecordAhead l rule s o all last j gs ds left e b
+      record-find =
+          let a = pairs-from i.rows name (λ g. omega (arith, named name q)) in
+          let z = passed-on i.attrs p in
+          record {
+            low = i.low;
+            attrs = lowest z.sound;
+            rows = i.rows;
+            same =
+                i.same
+                ∙ ap (λ (x : Said). and_then x last) (each_same (rows_of pair_row (λ _. dec_v l) left e b) name
+                (λ n x. conforms_at rule s o (dec_a (dec l) ahead f c) n x)
+                (λ n x. conforms_at rule s o (dec_a (dec l) j gs ds) n x)
+                (rows-from pair_row (λ _. whole_v l) none_left (λ _. dec_v l) (λ h. h) (pair-named (λ _. whole_v l) (λ _. dec_v l)) left name e b a.good)
+                (λ m x g. at-found rule s o (dec_a (dec l) ahead f c) m x ∙ ap (asks rule s o x) (z.later m g) ∙
+                sym (at-found rule s o (dec_a (dec l) j gs ds) m x)));
+          }
+
+      -- The pair's value is asked by the attribute of its name; where there is none, by whether the record is open.
+      pub pair-found : {x : Row} → IsFirst 5 j gs ds x × (rd gs 0 ≡ name) →
+          verdict_of (conforms rule s (dec l x.body.now) (dec_v l r.body.now)) ≡ verdict_of (conforms_at rule s o (dec_a (dec l) j gs ds) name (dec_v l r.body.now))
+      pair-found g =
+          let z = passed-on i.attrs p in
+          ap verdict_of
+          (sym (at-found rule s o (dec_a (dec l) j gs ds) name (dec_v l r.body.now)
+          ∙ ap (asks rule s o (dec_v l r.body.now)) (sym (z.later name (omega arith)) ∙ (found-attribute i.attrs p g.0 g.1).2)))
+
+      pub attribute-whole : {x : Row} → IsFirst 5 j gs ds x × (rd gs 0 ≡ name) → whole l x.body.now ≡ true
+      attribute-whole g = (found-attribute i.attrs p g.0 g.1).1
+
+      pub pair-absent : (0 < j → rd gs 0 ≡ name → ⊥) →
+          verdict_of (verdict o) ≡ verdict_of (conforms_at rule s o (dec_a (dec l) j gs ds) name (dec_v l r.body.now))
+      pair-absent g =
+          let z = passed-on i.attrs p in
+          ap verdict_of
+          (sym (at-found rule s o (dec_a (dec l) j gs ds) name (dec_v l r.body.now)
+          ∙ ap (asks rule s o (dec_v l r.body.now)) (sym (z.later name (omega arith)) ∙ found-none i.attrs p g)))
+
+      module _ (x : Verdict) (y : x ≡ verdict_of (conforms_at rule s o (dec_a (dec l) j gs ds) name (dec_v l r.body.now))) where
+        step : Then all (conforms_at rule s o (dec_a (dec l) j gs ds) name (dec_v l r.body.now))
+            (and_then (each_pair (λ m z. conforms_at rule s o (dec_a (dec l) j gs ds) m z) (pairs_from (rows_of pair_row (λ _. dec_v l) m fs cs))) last)
+        step =
+            record {
+              is =
+                  record-find.same
+                  ∙ ap (λ xs. and_then (each_pair (λ m z. conforms_at rule s o (dec_a (dec l) j gs ds) m z) (pairs_from xs)) last)
+                  (taken-decoded pair_row (λ _. dec_v l) t)
+                  ∙ grouped (conforms_at rule s o (dec_a (dec l) j gs ds) (rd e 0) (dec_v l r.body.now)) _ last
+                  ∙ rw (← named name q) refl;
+            }
+
+        pub record-stop : (x ≡ Holds → ⊥) → x ≡ verdict_of all
+        record-stop h = then-stop step x y h
+
+        pub record-again : x ≡ Holds → RecordAhead l rule s o all last j gs ds m fs cs
+        record-again h = record { low = rd e 0 + 1; attrs = record-find.attrs; rows = taken-again i.rows t; same = then-on step x y h }

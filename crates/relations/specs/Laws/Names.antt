@@ -11,7 +11,8 @@ use Rattle.forms.specs.Names.{names_in}
 use Rattle.forms.specs.Laws.Parts.{and_l, and_r, length_part, length_rest, rd-take}
 use Rattle.forms.specs.Laws.Sure.{rd-drop}
 use Rattle.forms.specs.Laws.Types.{names-up}
-use Rattle.forms.specs.Laws.Names.{names-first, names-none}
+use Rattle.forms.specs.Laws.Names.{names-first}
+use Rattle.forms.specs.Laws.NamesIn.{names-over}
 use Rattle.forms.specs.Laws.Views.{IsEntity}
 use Rattle.relations.specs.Names.{Ascending, EntityForm, entity_names}
 
@@ -37,9 +38,6 @@ unfolding names_up names_by
 names-ascend zero low b h = tt
 names-ascend (suc n) low b h =
     (leb-true low (rd b 0) (and_l (leb low (rd b 0)) _ h), names-ascend n (suc (rd b 0)) (rest 2 b) (rw (add-one (rd b 0)) at (and_r (leb low (rd b 0)) _ h)))
-
-pub names-over : (b : List ℕ) → length b ≡ 0 → names_in b ≡ []
-names-over b h = names-none 2 (length b / 2) b (omega arith)
 
 -- The first name of a list, and the others, which are above it.
 pub record FirstName (b : List ℕ) : Type 0 where
@@ -141,10 +139,10 @@ shares-nothing (n ∷ ns) = shares-nothing ns
 -- The search for a name in common.
 module _ {ns ks a b : List ℕ} (i : Walk shares ns ks a b) where
   pub share-end : length a ≡ 0 → false ≡ shares (names_in ns) (names_in ks)
-  share-end h = sym (i.same ∙ ap (λ (z : List ℕ). shares z (names_in b)) (names-over a h))
+  share-end h = sym (i.same ∙ ap (λ (z : List ℕ). shares z (names_in b)) (names-over a (omega (arith, h))))
 
   pub share-over : length b ≡ 0 → false ≡ shares (names_in ns) (names_in ks)
-  share-over h = sym (i.same ∙ ap (shares (names_in a)) (names-over b h) ∙ shares-nothing (names_in a))
+  share-over h = sym (i.same ∙ ap (shares (names_in a)) (names-over b (omega (arith, h))) ∙ shares-nothing (names_in a))
 
   module _ (p : length a ≡ 0 → ⊥) (q : length b ≡ 0 → ⊥) where
     pub share-hit : rd a 0 ≡ rd b 0 → true ≡ shares (names_in ns) (names_in ks)
@@ -164,7 +162,7 @@ module _ {ns ks a b : List ℕ} (i : Walk shares ns ks a b) where
 -- Each name of the first list is looked for in the second.
 module _ {ns ks a b : List ℕ} (i : Walk subset ns ks a b) where
   pub subset-end : length a ≡ 0 → true ≡ subset (names_in ns) (names_in ks)
-  subset-end h = sym (i.same ∙ ap (λ (z : List ℕ). subset z (names_in b)) (names-over a h))
+  subset-end h = sym (i.same ∙ ap (λ (z : List ℕ). subset z (names_in b)) (names-over a (omega (arith, h))))
 
   module _ (p : length a ≡ 0 → ⊥) where
     subset-absent : mem (rd a 0) (names_in b) ≡ false → false ≡ subset (names_in ns) (names_in ks)
@@ -173,7 +171,7 @@ module _ {ns ks a b : List ℕ} (i : Walk subset ns ks a b) where
         ap (λ (z : Bool). z && subset (names_in (rest 2 a)) (names_in b)) h)
 
     pub subset-over : length b ≡ 0 → false ≡ subset (names_in ns) (names_in ks)
-    subset-over h = subset-absent (ap (mem (rd a 0)) (names-over b h))
+    subset-over h = subset-absent (ap (mem (rd a 0)) (names-over b (omega (arith, h))))
 
     module _ (q : length b ≡ 0 → ⊥) where
       pub subset-past : rd a 0 < rd b 0 → false ≡ subset (names_in ns) (names_in ks)

@@ -1,7 +1,7 @@
 -- The arguments of a function. Assumes nothing.
-use Rattle.std.specs.Prelude.{◌≡◌, List, [], ◌∷◌, Bool, true, false, not, ◌&&◌, ℕ, zero, suc, ◌+◌, ◌*◌, ◌≤◌, ◌<◌, leb, length, get_or}
+use Rattle.std.specs.Prelude.{◌≡◌, List, [], ◌∷◌, Bool, true, false, not, ◌&&◌, ℕ, zero, suc, ◌+◌, ◌*◌, ◌≤◌, ◌<◌, eqb, leb, length, get_or, take, drop}
 use Rattle.std.proofs.Math.Path.{refl}
-use Rattle.std.proofs.Common.{sym, ◌∙◌, arith, leb-true, le-leb, eq-eqb, ne_eqb}
+use Rattle.std.proofs.Common.{ap, ap₂, sym, ◌∙◌, arith, get_or-take, leb-true, le-leb, eq-eqb, ne_eqb}
 use Rattle.std.proofs.Math.Bool.{and-false}
 use Rattle.std.proofs.Math.Option.{Option, none, some}
 use Rattle.std.proofs.Math.Nat.{mul_comm}
@@ -11,8 +11,15 @@ use Rattle.cedar.specs.Types.{Arg, arg_bool, arg_long, arg_string, arg_ext, mayb
 use Rattle.cedar.specs.SchemaForm.{arg_of, parse_args}
 use Rattle.cedar.specs.Bytes.{◌>>=◌}
 use Rattle.forms.specs.Parts.{rest, rd}
-use Rattle.forms.specs.Laws.Parts.{and_l, and_r, and-not-l, and_yes, rest-is}
+use Rattle.forms.specs.Laws.Parts.{and_l, and_r, and-not-l, and_yes, rest-is, rd-take}
 use Rattle.schemas.specs.SchemaBytes.{arg_fits, arg_at, args_fit, args_of}
+
+-- What the first argument says stands in its own bytes.
+pub arg-own : (k x : List ℕ) → x ≡ take 3 k → (arg_fits x ≡ arg_fits k) × (arg_at x ≡ arg_at k)
+arg-own k x q =
+    let b : get_or x 0 0 ≡ get_or k 0 0 = ap (λ (z : List ℕ). get_or z 0 0) q ∙ get_or-take 3 k 0 0 (omega arith) in
+    let n : rd x 1 ≡ rd k 1 = ap (λ (z : List ℕ). rd z 1) q ∙ rd-take 3 k 1 (omega arith) in
+    (ap₂ (λ (i j : ℕ). present (arg_of i j)) b n, ap₂ (λ (i j : ℕ). maybe arg_bool (λ x. x) (arg_of i j)) b n)
 
 -- The kinds 1 to 3.
 plain : (k : ℕ) → (k ≡ 4 → ⊥) → present (get_or (none ∷ some arg_bool ∷ some arg_long ∷ some arg_string ∷ []) k none) ≡ (leb 1 k && leb k 3)
@@ -22,22 +29,12 @@ plain (suc (suc zero)) h = refl
 plain (suc (suc (suc zero))) h = refl
 plain (suc (suc (suc (suc k)))) h = rw (lt-leb (suc (suc (suc (suc k)))) 3 (omega arith), and-false (leb 1 (suc (suc (suc (suc k)))))) refl
 
-module _ (a : List ℕ) where
-  pub arg-extension : get_or a 0 0 ≡ 4 → true ≡ arg_fits a
-  arg-extension e = rw (eq-eqb (get_or a 0 0) 4 e) refl
+module _ (a : List ℕ) (n : get_or a 0 0 ≡ 4 → ⊥) (m : ℕ) (q : m ≡ rd a 1) where
+  arg-named : (m ≡ 0 → ⊥) → false ≡ arg_fits a
+  arg-named h = rw (ne_eqb (get_or a 0 0) 4 n, ne_eqb (rd a 1) 0 (λ z. h (q ∙ z))) refl
 
-  module _ (n : get_or a 0 0 ≡ 4 → ⊥) (m : ℕ) (q : m ≡ rd a 1) where
-    pub arg-named : (m ≡ 0 → ⊥) → false ≡ arg_fits a
-    arg-named h = rw (ne_eqb (get_or a 0 0) 4 n, ne_eqb (rd a 1) 0 (λ z. h (q ∙ z))) refl
-
-    plain-is : m ≡ 0 → arg_fits a ≡ (leb 1 (get_or a 0 0) && leb (get_or a 0 0) 3)
-    plain-is h = rw (ne_eqb (get_or a 0 0) 4 n, eq-eqb (rd a 1) 0 (sym q ∙ h)) (plain (get_or a 0 0) n)
-
-    pub arg-low : m ≡ 0 → get_or a 0 0 < 1 → false ≡ arg_fits a
-    arg-low h l = sym (plain-is h ∙ rw (lt-leb 1 (get_or a 0 0) l) refl)
-
-    pub arg_plain : m ≡ 0 → 1 ≤ get_or a 0 0 → leb (get_or a 0 0) 3 ≡ arg_fits a
-    arg_plain h l = sym (plain-is h ∙ and_yes (leb 1 (get_or a 0 0)) _ (le-leb 1 (get_or a 0 0) l))
+  plain-is : m ≡ 0 → arg_fits a ≡ (leb 1 (get_or a 0 0) && leb (get_or a 0 0) 3)
+  plain-is h = rw (ne_eqb (get_or a 0 0) 4 n, eq-eqb (rd a 1) 0 (sym q ∙ h)) (plain (get_or a 0 0) n)
 
 -- Steps of an Option, as tests.
 step_fits : (o : Option Arg) (p : Option (List Arg)) → present (o >>= λ x. p >>= λ xs. some (x ∷ xs)) ≡ (present o && present p)
@@ -59,26 +56,26 @@ pub record ArgsLeft (b a : List ℕ) : Type 0 where
   pub same : args_fit b ≡ args_fit a
 
 module _ {b a : List ℕ} (i : ArgsLeft b a) where
-  pub args_end : length a ≤ 0 → true ≡ args_fit b
-  args_end h = sym (i.same ∙ go a h)
+  pub args_end : length a < 3 → eqb (length a) 0 ≡ args_fit b
+  args_end h = go a h ∙ sym i.same
     where
-      go : (c : List ℕ) → length c ≤ 0 → args_fit c ≡ true
+      go : (c : List ℕ) → length c < 3 → eqb (length c) 0 ≡ args_fit c
       go [] h = unfold args_fit in refl
-      go (x ∷ c) h = absurd (omega arith)
+      go (x ∷ c) h =
+          ne_eqb (length (x ∷ c)) 0 (λ z. omega arith)
+          ∙ and-not-l (leb 3 (length (x ∷ c))) _ (lt-leb 3 (length (x ∷ c)) h) ∙ sym (args-step (x ∷ c) (omega arith))
 
-  module _ (p : 0 < length a) where
-    pub args-short : length a < 3 → false ≡ args_fit b
-    args-short h = and-not-l (leb 3 (length a)) _ (lt-leb 3 (length a) h) ∙ sym (i.same ∙ args-step a p)
+  module _ (h : 3 ≤ length a) (x others : List ℕ) (f : x ≡ take 3 a) (o : others ≡ drop 3 a) (y : Bool) (q : y ≡ arg_fits x) where
+    open-args : args_fit b ≡ (y && args_fit others)
+    open-args =
+        i.same ∙ args-step a (omega arith) ∙ and_yes (leb 3 (length a)) _ (le-leb 3 (length a) h)
+        ∙ ap₂ (λ (z : Bool) (r : List ℕ). z && args_fit r) (sym (q ∙ (arg-own a x f).0)) (rest-is 3 a ∙ sym o)
 
-    module _ (h : 3 ≤ length a) (y : Bool) (q : y ≡ arg_fits a) where
-      open-args : args_fit b ≡ (arg_fits a && args_fit (rest 3 a))
-      open-args = i.same ∙ args-step a p ∙ and_yes (leb 3 (length a)) _ (le-leb 3 (length a) h)
+    pub args-not : not y ≡ true → false ≡ args_fit b
+    args-not g = and-not-l y _ (not-true y g) ∙ sym open-args
 
-      pub args-not : not y ≡ true → false ≡ args_fit b
-      args-not g = and-not-l (arg_fits a) _ (sym q ∙ not-true y g) ∙ sym open-args
-
-      pub args-again : not y ≡ false → ArgsLeft b (rest 3 a)
-      args-again g = record { same = open-args ∙ and_yes (arg_fits a) _ (sym q ∙ not-false y g) }
+    pub args-again : not y ≡ false → ArgsLeft b others
+    args-again g = record { same = open-args ∙ and_yes y _ (not-false y g) }
 
 -- Walks over whole arguments: the first, and the others.
 pub record ArgFirst (b : List ℕ) : Type 0 where

@@ -1,5 +1,5 @@
--- The answers of `counts_within`, `sections_within` and `check_schema`. Assumes nothing.
-use Rattle.std.specs.Prelude.{◌≡◌, refl, List, [], ◌∷◌, Bool, true, false, not, ◌&&◌, cond, ℕ, ◌≤◌, ◌<◌, leb, length}
+-- The answers of `sections_within` and `check_schema`. Assumes nothing.
+use Rattle.std.specs.Prelude.{Option, Some, None, ◌≡◌, refl, List, [], ◌∷◌, Bool, true, false, not, ◌&&◌, cond, ℕ, ◌≤◌, ◌<◌, leb, length}
 use Rattle.std.proofs.Math.Path.{ap, sym}
 use Rattle.std.proofs.Common.{subst, ◌∙◌, arith}
 use Rattle.std.proofs.Math.Bool.{and-false}
@@ -20,32 +20,8 @@ use Rattle.schemas.specs.declared.kinds.SectionKind.{SectionKind}
 use Rattle.schemas.specs.declared.kinds.SectionKind.TheVariants.{Entities, Actions, Functions}
 use Rattle.schemas.specs.declared.sections.Section.{Section}
 use Rattle.schemas.specs.declared.sections.Sections.{Sections}
-use Rattle.schemas.specs.declared.sections.Passed.{Passed}
-use Rattle.schemas.specs.declared.sections.Passed.TheVariants as passes
 use Rattle.schemas.specs.declared.whole.Checked.{Checked}
 use Rattle.schemas.specs.declared.whole.Checked.TheVariants.{Whole, Broken}
-
--- The counts.
-module _ (b : List ℕ) where
-  pub head-short : length b < 6 → false ≡ head_fits b
-  head-short h = rw (lt-leb 6 (length b) h) refl
-
-  module _ (m : ℕ) (p : m ≡ rd b 0) where
-    pub head-entities : 256 < m → false ≡ head_fits b
-    head-entities h = rw (lt-leb (rd b 0) 256 (omega arith)) (sym (and-false (leb 6 (length b))))
-
-    module _ (n : ℕ) (q : n ≡ rd b 2) where
-      pub head-actions : 256 < n → false ≡ head_fits b
-      head-actions h = rw (lt-leb (rd b 2) 256 (omega arith), and-false (leb (rd b 0) 256)) (sym (and-false (leb 6 (length b))))
-
-      module _ (k : ℕ) (r : k ≡ rd b 4) where
-        pub head-functions : 64 < k → false ≡ head_fits b
-        head-functions h =
-            rw (lt-leb (rd b 4) 64 (omega arith), and-false (leb (rd b 2) 256), and-false (leb (rd b 0) 256)) (sym (and-false (leb 6 (length b))))
-
-        pub head-open : 6 ≤ length b → m ≤ 256 → n ≤ 256 → k ≤ 64 → (end : ℕ) → end ≡ entries_end b → leb end (length b) ≡ head_fits b
-        head-open h e f g end i =
-            rw (le-leb 6 (length b) h, le-leb (rd b 0) 256 (omega arith), le-leb (rd b 2) 256 (omega arith), le-leb (rd b 4) 64 (omega arith), i) refl
 
 -- The counts of bytes that go on.
 pub record Head (b : List ℕ) : Type 0 where
@@ -108,16 +84,16 @@ module _ {l : LimitsStruct} {b : List ℕ} {k : SectionKind} {ks : List SectionK
       at Actions h = record { entries = omega (arith, a.counts.fit); bodies = h }
       at Functions h = record { entries = omega (arith, a.counts.fit); bodies = h }
 
-  module _ (w : Passed) (q : w ≡ passed_by (as_limits l) k x b) where
+  module _ (w : Option ℕ) (q : w ≡ passed_by (as_limits l) k x b) where
     at-section : w ≡ passed_by (as_limits l) k (section_at k p b) b
     at-section = q ∙ ap (λ (z : Section). passed_by (as_limits l) k z b) x-is
 
-    pub ahead-broken : w ≡ passes.Broken → Broken l ≡ checked_within l b
+    pub ahead-broken : w ≡ None → Broken l ≡ checked_within l b
     ahead-broken e =
         not-whole l b
         (a.same ∙ sym (and-not-l (section_fits (as_limits l) k (section_at k p b) b) _ (passed-broken (as_limits l) k (section_at k p b) b w at-section e)))
 
-    pub past : (n : ℕ) → w ≡ passes.To n → Past l b k ks p n
+    pub past : (n : ℕ) → w ≡ Some n → Past l b k ks p n
     past n e =
         let t = passed_to (as_limits l) k (section_at k p b) b w at-section n e in
         record {

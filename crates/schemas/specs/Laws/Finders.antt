@@ -1,11 +1,12 @@
 -- What the finders of a whole schema find: cedar's entries. Assumes nothing.
-use Rattle.std.specs.Prelude.{◌≡◌, List, [], ◌∷◌, false, ◌&&◌, ℕ, ◌+◌, ◌*◌, ◌≤◌, leb, length, get_or}
+use Rattle.std.specs.Prelude.{◌≡◌, List, [], ◌∷◌, ◌&&◌, ℕ, ◌+◌, ◌*◌, ◌≤◌, leb, length, get_or, Option as Maybe, Some, None, option_map}
 use Rattle.std.proofs.Math.Path.{refl, ap, ap₂, subst}
-use Rattle.std.proofs.Common.{sym, ◌∙◌, arith}
-use Rattle.std.proofs.Math.Bool.{Bool, true, cond}
+use Rattle.std.proofs.Common.{sym, ◌∙◌, arith, get_or-take}
+use Rattle.std.proofs.Math.Bool.{Bool, true, false, cond}
 use Rattle.std.proofs.Math.Option.{Option, none, some}
 use Rattle.std.proofs.Math.Dec.{eqb}
-use borrow.Author.Tests.{leb-true, eqb-true}
+use borrow.Author.Tests.{leb-true, eqb-true, eq-eqb, ne_eqb}
+use Rattle.cedar.specs.Bytes.{Bytes}
 use Rattle.cedar.specs.Types.{Attrs, Arg, maybe}
 use Rattle.cedar.specs.Limits.{Limits, allowed, block_bytes}
 use Rattle.cedar.specs.SchemaForm.{entities_of, actions_of, functions_of}
@@ -15,28 +16,40 @@ use Rattle.cedar.specs.Conformance.{function_in, function_of}
 use Rattle.forms.specs.Limits.{as_limits}
 use Rattle.forms.specs.Parts.{part, rest, rd, kind}
 use Rattle.forms.specs.declared.limits.Limits.{Limits as LimitsStruct}
+use Rattle.forms.specs.Laws.Bytes.{Bytes-part}
 use Rattle.forms.specs.TypeBytes.{whole}
-use Rattle.forms.specs.Laws.Parts.{and_l, and_r}
+use Rattle.forms.specs.declared.rows.Row.{Row}
+use Rattle.forms.specs.Laws.Parts.{and_l, and_r, length_rest, rd-take}
 use Rattle.forms.specs.Laws.Views.{IsRecord, is-record}
 use Rattle.schemas.specs.SchemaBytes.{entity_row, action_row, function_row, body_test, body_fits, body_of, record_of, args_fit, args_of}
 use Rattle.schemas.specs.SchemaBytes.{section_fits, section_of, section_end, entity_section, action_section, function_section, sections_of, head_fits, whole_s}
 use Rattle.schemas.specs.SchemaBytes.{dec_s, checked}
-use Rattle.schemas.specs.Entries.{entry_at, signature_of, function_at, LaidIn, Sectioned, open_at, body_attrs}
+use Rattle.schemas.specs.Entries.{entry_at, row_bytes, signature_of, function_at, signature_bytes, returns_of, LaidIn, Sectioned, open_at, body_attrs}
 use Rattle.schemas.specs.Laws.Walks.{section-ends}
 use Rattle.schemas.specs.Laws.Bodies.{is_body}
 use Rattle.schemas.specs.Laws.Checks.{Head, head, checked-whole}
-use Rattle.schemas.specs.Laws.Entries.{lookup, FoundIn, found_in}
+use Rattle.schemas.specs.Laws.Entries.{entry-bytes, lookup, FoundIn, found_in}
 use Rattle.schemas.specs.declared.kinds.SectionKind.TheVariants.{Entities, Actions, Functions}
 use Rattle.schemas.specs.declared.sections.Section.{Section}
 use Rattle.schemas.specs.declared.sections.Sections.{Sections}
 use Rattle.schemas.specs.declared.whole.Checked.{Checked}
 use Rattle.schemas.specs.declared.whole.Checked.TheVariants as checks
 use Rattle.schemas.specs.declared.entries.Key.TheVariants.{Name, Uid}
-use Rattle.schemas.specs.declared.entries.FoundEntry.{FoundEntry}
-use Rattle.schemas.specs.declared.entries.FoundEntry.TheVariants.{At, Nothing}
 use Rattle.schemas.specs.declared.entries.Signature.{Signature}
-use Rattle.schemas.specs.declared.entries.FoundFunction.{FoundFunction}
-use Rattle.schemas.specs.declared.entries.FoundFunction.TheVariants as functions
+
+-- What an entry says stands in its own bytes.
+entity-own : (es : List ℕ) → entity_row.head (part 0 5 es) ≡ entity_row.head es
+entity-own es = rw (rd-take 5 es 0 (omega arith), get_or-take 5 es 2 0 (omega arith)) refl
+
+action-own : (es : List ℕ) → action_row.head (part 0 6 es) ≡ action_row.head es
+action-own es = rw (rd-take 6 es 0 (omega arith), rd-take 6 es 2 (omega arith)) refl
+
+function-own : (es : List ℕ) → function_row.head (part 0 7 es) ≡ function_row.head es
+function-own es = rw (rd-take 7 es 0 (omega arith), get_or-take 7 es 2 0 (omega arith), rd-take 7 es 3 (omega arith)) refl
+
+returns-says : (z : Bool) (e : ℕ) → ◌≡◌ {A = Option ℕ} (cond z (some e) none) (returns_of (cond z (Some e) None))
+returns-says true e = refl
+returns-says false e = refl
 
 -- Checking a schema keeps it.
 pub kept : (l : LimitsStruct) (b : List ℕ) (y : Checked) → y ≡ checked l b → (x : Sections) → y ≡ checks.Whole x → Sectioned b x × (x.limits ≡ l)
@@ -79,45 +92,35 @@ parts lim b h =
     record { counts = c; first = f₀; second = f₁; third = f₂; end₀ = e₀; end₁ = e₁; end₂ = e₂ }
 
 -- A body that was found: a whole record form within the limits.
-pub record BodyAt (lim : Limits) (b : List ℕ) (a e : ℕ) : Type 0 where
-  pub order : a ≤ e
-  pub inside : e ≤ length b
-  pub few : length (part a e b) ≤ lim.bytes
-  pub good : whole lim.levels (part a e b) ≡ true
-  pub kind-is : kind (part a e b) ≡ 8
-  pub view : IsRecord lim.levels (part a e b)
+pub record BodyAt (lim : Limits) (c : List ℕ) : Type 0 where
+  pub few : length c ≤ lim.bytes
+  pub good : whole lim.levels c ≡ true
+  pub kind-is : kind c ≡ 8
+  pub view : IsRecord lim.levels c
 
-pub record EntityAt (lim : Limits) (b : List ℕ) (name a e : ℕ) : Type 0 where
-  pub body : BodyAt lim b a e
+-- An entity type of the name has the body.
+pub record EntityAt (lim : Limits) (b : List ℕ) (name : ℕ) (c : List ℕ) : Type 0 where
+  pub body : BodyAt lim c
   pub enumerated : Bool
-  pub is : entity_of (dec_s lim b)
-      name ≡ some (record { name = name; enumerated = enumerated; is_open = open_at (part a e b); attrs = body_attrs lim (part a e b) })
+  pub is : entity_of (dec_s lim b) name ≡ some (record { name = name; enumerated = enumerated; is_open = open_at c; attrs = body_attrs lim c })
 
-pub record ActionAt (lim : Limits) (b : List ℕ) (k i a e : ℕ) : Type 0 where
-  pub body : BodyAt lim b a e
-  pub is : action_of (dec_s lim b) k i ≡ some (record { type = k; id = i; attrs = body_attrs lim (part a e b) })
+-- An action of the type and id has the body.
+pub record ActionAt (lim : Limits) (b : List ℕ) (k i : ℕ) (c : List ℕ) : Type 0 where
+  pub body : BodyAt lim c
+  pub bytes : Bytes b → Bytes c
+  pub is : action_of (dec_s lim b) k i ≡ some (record { type = k; id = i; attrs = body_attrs lim c })
 
+-- A function of the name has the signature.
 pub record FunctionAt (lim : Limits) (b : List ℕ) (name : ℕ) (f : Signature) : Type 0 where
-  pub order : f.start ≤ f.end
-  pub inside : f.end ≤ length b
-  pub args : args_fit (part f.start f.end b) ≡ true
-  pub is : function_of (dec_s lim b)
-      name ≡ some (record { name = name; returns = cond f.returns (some f.extension) none; args = args_of (part f.start f.end b) })
+  pub args : args_fit f.arguments.now ≡ true
+  pub is : function_of (dec_s lim b) name ≡ some (record { name = name; returns = returns_of f.returns; args = args_of f.arguments.now })
 
-body_at : (lim : Limits) (b : List ℕ) (a e : ℕ) (closed : Bool) → a ≤ e → e ≤ length b → body_fits lim closed (part a e b) ≡ true → BodyAt lim b a e
-body_at lim b a e closed o i h =
-    let v = is_body lim closed (part a e b) h in
-    record {
-      order =
-          o;
-      inside = i;
-      few = v.few;
-      good = v.good;
-      kind-is = v.kind-is;
-      view = is-record lim.levels (part a e b) v.good v.kind-is;
-    }
+body_at : (lim : Limits) (c : List ℕ) (closed : Bool) → body_fits lim closed c ≡ true → BodyAt lim c
+body_at lim c closed h =
+    let v = is_body lim closed c h in
+    record { few = v.few; good = v.good; kind-is = v.kind-is; view = is-record lim.levels c v.good v.kind-is }
 
-body-says : {lim : Limits} {b : List ℕ} {a e : ℕ} → BodyAt lim b a e → body_of lim (part a e b) ≡ (open_at (part a e b), body_attrs lim (part a e b))
+body-says : {lim : Limits} {c : List ℕ} → BodyAt lim c → body_of lim c ≡ (open_at c, body_attrs lim c)
 unfolding body_of
 body-says v = ap record_of v.view.is
 
@@ -183,129 +186,140 @@ module _ {b : List ℕ} {x : Sections} (k : Sectioned b x) where
       subst (λ (y : Section). LaidIn 7 y b) (sym functions-is) (record { entries = omega (arith, kept-parts.counts.fit); room = kept-parts.end₂ })
 
   -- An entity type.
-  module _ (name : ℕ) (y : FoundEntry) (q : y ≡ entry_at 5 (Name name) x.entities b) where
-    abbrev EntityFound : FoundEntry → Type 0
-    EntityFound = FoundIn entity_row (body_test lim Entities) (λ h. body_of lim) (Name name) (λ h. eqb name h.0) b (entity_rows lim b)
+  module _ (name : ℕ) (o : Maybe Row) (q : option_map row_bytes o ≡ entry_at 5 (Name name) x.entities b) where
+    abbrev EntityFound : Maybe (List ℕ × List ℕ) → Type 0
+    EntityFound = FoundIn entity_row (body_test lim Entities) (λ h. body_of lim) (Name name) (λ h. eqb name h.0) (entity_rows lim b)
 
-    entity-found : EntityFound y
+    entity-found : EntityFound (option_map row_bytes o)
     entity-found =
         subst EntityFound (sym (q ∙ ap (λ (z : Section). entry_at 5 (Name name) z b) entities-is))
-        (found_in entity_row (body_test lim Entities) (λ h. body_of lim) (Name name) (λ h. eqb name h.0) b (λ es. refl) (rd b 0) 0 6
-        (entity_section b).bodies (omega (arith, kept-parts.counts.fit)) kept-parts.counts.fit kept-parts.first)
+        (found_in entity_row (body_test lim Entities) (λ h. body_of lim) (Name name) (λ h. eqb name h.0) (λ es. refl) entity-own (rd b 0) 0
+        (rest 6 b) (rest (entity_section b).bodies b) (omega (arith, kept-parts.counts.fit, length_rest 6 b)) kept-parts.first)
 
-    pub entity-at : (i a e : ℕ) → y ≡ At i a e → EntityAt lim b name a e
+    pub entity-at : (r : Row) → o ≡ Some r → EntityAt lim b name r.body.now
     unfolding dec_s
-    entity-at i a e h =
-        let f = subst EntityFound h entity-found in
-        let v = body_at lim b a e (eqb (get_or (rest i b) 2 0) 1) f.order f.inside f.body in
+    entity-at r h =
+        let f = subst (λ (z : Maybe Row). EntityFound (option_map row_bytes z)) h entity-found in
+        let e = eqb (get_or r.head.now 2 0) 1 in
+        let v = body_at lim r.body.now e f.body in
         record {
           body = v;
-          enumerated = eqb (get_or (rest i b) 2 0) 1;
+          enumerated = e;
           is =
               rows-some (λ h. eqb name h.0) (λ z. record { name = z.0.0; enumerated = z.0.1; is_open = z.1.0; attrs = z.1.1 })
               (λ xs. entity_in (entities_of xs) name) refl (λ z zs. refl) (entity_rows lim b) _ f.is
-              ∙ ap₂ (λ (n : ℕ) (o : Bool × Attrs). some (record { name = n; enumerated = eqb (get_or (rest i b) 2 0) 1; is_open = o.0; attrs = o.1 }))
-              (sym (eqb-true name (rd (rest i b) 0) f.has)) (body-says v);
+              ∙ ap₂ (λ (n : ℕ) (y : Bool × Attrs). some (record { name = n; enumerated = e; is_open = y.0; attrs = y.1 }))
+              (sym (eqb-true name (rd r.head.now 0) f.has)) (body-says v);
         }
 
-    pub entity-not : y ≡ Nothing → entity_of (dec_s lim b) name ≡ none
+    pub entity-not : o ≡ None → entity_of (dec_s lim b) name ≡ none
     unfolding dec_s
     entity-not h =
         rows_none (λ h. eqb name h.0) (λ z. record { name = z.0.0; enumerated = z.0.1; is_open = z.1.0; attrs = z.1.1 })
-        (λ xs. entity_in (entities_of xs) name) refl (λ z zs. refl) (entity_rows lim b) (subst EntityFound h entity-found)
+        (λ xs. entity_in (entities_of xs) name) refl (λ z zs. refl) (entity_rows lim b)
+        (subst (λ (z : Maybe Row). EntityFound (option_map row_bytes z)) h entity-found)
 
   -- An action.
-  module _ (t d : ℕ) (y : FoundEntry) (q : y ≡ entry_at 6 (Uid t d) x.actions b) where
-    abbrev ActionFound : FoundEntry → Type 0
-    ActionFound = FoundIn action_row (body_test lim Actions) (λ h. body_of lim) (Uid t d) (λ h. eqb t h.0 && eqb d h.1) b (action_rows lim b)
+  module _ (t d : ℕ) (o : Maybe Row) (q : option_map row_bytes o ≡ entry_at 6 (Uid t d) x.actions b) where
+    abbrev ActionFound : Maybe (List ℕ × List ℕ) → Type 0
+    ActionFound = FoundIn action_row (body_test lim Actions) (λ h. body_of lim) (Uid t d) (λ h. eqb t h.0 && eqb d h.1) (action_rows lim b)
 
-    action-found : ActionFound y
+    action-found : ActionFound (option_map row_bytes o)
     action-found =
         subst ActionFound (sym (q ∙ ap (λ (z : Section). entry_at 6 (Uid t d) z b) actions-is))
-        (found_in action_row (body_test lim Actions) (λ h. body_of lim) (Uid t d) (λ h. eqb t h.0 && eqb d h.1) b (λ es. refl) (rd b 2) (0, 0)
-        (6 + 5 * rd b 0) (action_section b).bodies (omega (arith, kept-parts.counts.fit)) kept-parts.end₀ kept-parts.second)
+        (found_in action_row (body_test lim Actions) (λ h. body_of lim) (Uid t d) (λ h. eqb t h.0 && eqb d h.1) (λ es. refl) action-own (rd b 2) (0, 0)
+        (rest (6 + 5 * rd b 0) b) (rest (action_section b).bodies b) (omega (arith, kept-parts.counts.fit, length_rest (6 + 5 * rd b 0) b))
+        kept-parts.second)
 
-    pub action-at : (i a e : ℕ) → y ≡ At i a e → ActionAt lim b t d a e
+    pub action-at : (r : Row) → o ≡ Some r → ActionAt lim b t d r.body.now
     unfolding dec_s
-    action-at i a e h =
-        let f = subst ActionFound h action-found in
-        let v = body_at lim b a e true f.order f.inside f.body in
-        let n = eqb-true t (rd (rest i b) 0) (and_l (eqb t (rd (rest i b) 0)) (eqb d (rd (rest i b) 2)) f.has) in
-        let j = eqb-true d (rd (rest i b) 2) (and_r (eqb t (rd (rest i b) 0)) (eqb d (rd (rest i b) 2)) f.has) in
+    action-at r h =
+        let f = subst (λ (z : Maybe Row). ActionFound (option_map row_bytes z)) h action-found in
+        let v = body_at lim r.body.now true f.body in
+        let h₀ = rd r.head.now 0 in
+        let h₁ = rd r.head.now 2 in
+        let n = eqb-true t h₀ (and_l (eqb t h₀) (eqb d h₁) f.has) in
+        let j = eqb-true d h₁ (and_r (eqb t h₀) (eqb d h₁) f.has) in
         record {
           body = v;
+          bytes = λ g.
+              entry-bytes 6 (Uid t d) x.actions.count (rest x.actions.entries b) (rest x.actions.bodies b) (Bytes-part x.actions.bodies (length b) b g)
+              (row_bytes r) (ap (option_map row_bytes) (sym h) ∙ q);
           is =
               rows-some (λ h. eqb t h.0 && eqb d h.1) (λ z. record { type = z.0.0; id = z.0.1; attrs = z.1.1 }) (λ xs. action_in (actions_of xs) t d)
               refl (λ z zs. refl) (action_rows lim b) _ f.is
-              ∙ ap (λ (o : Bool × Attrs). some (record { type = rd (rest i b) 0; id = rd (rest i b) 2; attrs = o.1 })) (body-says v)
-              ∙ ap₂ (λ (l m : ℕ). some (record { type = l; id = m; attrs = body_attrs lim (part a e b) })) (sym n) (sym j);
+              ∙ ap (λ (y : Bool × Attrs). some (record { type = h₀; id = h₁; attrs = y.1 })) (body-says v)
+              ∙ ap₂ (λ (l m : ℕ). some (record { type = l; id = m; attrs = body_attrs lim r.body.now })) (sym n) (sym j);
         }
 
-    pub action-not : y ≡ Nothing → action_of (dec_s lim b) t d ≡ none
+    pub action-not : o ≡ None → action_of (dec_s lim b) t d ≡ none
     unfolding dec_s
     action-not h =
         rows_none (λ h. eqb t h.0 && eqb d h.1) (λ z. record { type = z.0.0; id = z.0.1; attrs = z.1.1 }) (λ xs. action_in (actions_of xs) t d)
-        refl (λ z zs. refl) (action_rows lim b) (subst ActionFound h action-found)
+        refl (λ z zs. refl) (action_rows lim b) (subst (λ (z : Maybe Row). ActionFound (option_map row_bytes z)) h action-found)
 
   -- A function.
   module _ (name : ℕ) where
-    abbrev EntryFound : FoundEntry → Type 0
-    EntryFound = FoundIn function_row (body_test lim Functions) (λ h. args_of) (Name name) (λ h. eqb name h.0) b (function_rows b)
+    abbrev EntryFound : Maybe (List ℕ × List ℕ) → Type 0
+    EntryFound = FoundIn function_row (body_test lim Functions) (λ h. args_of) (Name name) (λ h. eqb name h.0) (function_rows b)
 
     entry_found : EntryFound (entry_at 7 (Name name) x.functions b)
     entry_found =
         subst EntryFound (sym (ap (λ (z : Section). entry_at 7 (Name name) z b) functions-is))
-        (found_in function_row (body_test lim Functions) (λ h. args_of) (Name name) (λ h. eqb name h.0) b (λ es. refl) (rd b 4)
-        0 (6 + 5 * rd b 0 + 6 * rd b 2) (function_section b).bodies (omega (arith, kept-parts.counts.fit)) kept-parts.end₁ kept-parts.third)
+        (found_in function_row (body_test lim Functions) (λ h. args_of) (Name name) (λ h. eqb name h.0) (λ es. refl) function-own (rd b 4)
+        0 (rest (6 + 5 * rd b 0 + 6 * rd b 2) b) (rest (function_section b).bodies b)
+        (omega (arith, kept-parts.counts.fit, length_rest (6 + 5 * rd b 0 + 6 * rd b 2) b)) kept-parts.third)
 
     -- The entry is there.
-    pub function-room : (y : FoundEntry) → y ≡ entry_at 7 (Name name) x.functions b → (i a e : ℕ) → y ≡ At i a e → i + 7 ≤ length b
-    function-room y q i a e h = (subst EntryFound (sym q ∙ h) entry_found).room
+    pub function-room : (o : Maybe Row) → option_map row_bytes o ≡ entry_at 7 (Name name) x.functions b → (r : Row) → o ≡ Some r → length r.head.now ≡ 7
+    function-room o q r h = (subst EntryFound (sym q ∙ ap (option_map row_bytes) h) entry_found).sized
 
-    entry-says : (i a e : ℕ) → EntryFound (At i a e) →
-        FunctionAt lim b name (record { returns = eqb (get_or (rest i b) 2 0) 1; extension = rd (rest i b) 3; start = a; end = e })
-    unfolding dec_s
-    entry-says i a e f =
-        record {
-          order = f.order;
-          inside = f.inside;
-          args = f.body;
-          is =
-              rows-some (λ h. eqb name h.0) (λ z. record { name = z.0.0; returns = z.0.1; args = z.1 }) (λ xs. function_in (functions_of xs) name)
-              refl (λ z zs. refl) (function_rows b) _ f.is
-              ∙
-              ap (λ (n : ℕ). some (record { name = n; returns = cond (eqb (get_or (rest i b) 2 0) 1) (some (rd (rest i b) 3)) none; args = args_of (part a e b) }))
-              (sym (eqb-true name (rd (rest i b) 0) f.has));
-        }
-
-    none-says : EntryFound Nothing → function_of (dec_s lim b) name ≡ none
+    none-says : EntryFound None → function_of (dec_s lim b) name ≡ none
     unfolding dec_s
     none-says v =
         rows_none (λ h. eqb name h.0) (λ z. record { name = z.0.0; returns = z.0.1; args = z.1 }) (λ xs. function_in (functions_of xs) name)
         refl (λ z zs. refl) (function_rows b) v
 
-    module _ (y : FoundFunction) (q : y ≡ function_at name x.functions b) where
-      pub function-at : (f : Signature) → y ≡ functions.At f → FunctionAt lim b name f
-      function-at f h = go (entry_at 7 (Name name) x.functions b) (sym q ∙ h) entry_found
+    module _ (o : Maybe Signature) (q : option_map signature_bytes o ≡ function_at name x.functions b) where
+      pub function-at : (f : Signature) → o ≡ Some f → FunctionAt lim b name f
+      unfolding dec_s
+      function-at f h = go (entry_at 7 (Name name) x.functions b) (ap (option_map signature_bytes) (sym h) ∙ q) entry_found
         where
-          go : (g : FoundEntry) → signature_of b g ≡ functions.At f → EntryFound g → FunctionAt lim b name f
-          go (At i a e) p v =
-              let z : ◌≡◌ {A = Signature} (record { returns = eqb (get_or (rest i b) 2 0) 1; extension = rd (rest i b) 3; start = a; end = e }) f = cc in
-              subst (λ (u : Signature). FunctionAt lim b name u) z (entry-says i a e v)
-          go Nothing p v = absurd (let z : ◌≡◌ {A = ℕ} 0 1 = cc in omega arith)
+          go : (g : Maybe (List ℕ × List ℕ)) → Some (signature_bytes f) ≡ option_map signature_of g → EntryFound g → FunctionAt lim b name f
+          go (Some y) p v =
+              let same : signature_bytes f ≡ signature_of y = cc in
+              let returns : f.returns ≡ cond (eqb (get_or y.0 2 0) 1) (Some (rd y.0 3)) None = ap (λ (z : Maybe ℕ × List ℕ). z.0) same in
+              let args : f.arguments.now ≡ y.1 = ap (λ (z : Maybe ℕ × List ℕ). z.1) same in
+              record {
+                args = rw args v.body;
+                is =
+                    rows-some (λ h. eqb name h.0) (λ z. record { name = z.0.0; returns = z.0.1; args = z.1 }) (λ xs. function_in (functions_of xs) name)
+                    refl (λ z zs. refl) (function_rows b) _ v.is
+                    ∙ rw (sym (eqb-true name (rd y.0 0) v.has), returns, args)
+                    (ap (λ (e : Option ℕ). some (record { name = name; returns = e; args = args_of y.1 })) (returns-says (eqb (get_or y.0 2 0) 1) (rd y.0 3)));
+              }
+          go None p v = absurd (let z : ◌≡◌ {A = ℕ} 0 1 = cc in omega arith)
 
-      pub function-not : y ≡ functions.Nothing → function_of (dec_s lim b) name ≡ none
-      function-not h = go (entry_at 7 (Name name) x.functions b) (sym q ∙ h) entry_found
+      pub function-not : o ≡ None → function_of (dec_s lim b) name ≡ none
+      function-not h = go (entry_at 7 (Name name) x.functions b) (ap (option_map signature_bytes) (sym h) ∙ q) entry_found
         where
-          go : (g : FoundEntry) → signature_of b g ≡ functions.Nothing → EntryFound g → function_of (dec_s lim b) name ≡ none
-          go (At i a e) p v = absurd (let z : ◌≡◌ {A = ℕ} 0 1 = cc in omega arith)
-          go Nothing p v = none-says v
+          go : (g : Maybe (List ℕ × List ℕ)) → None ≡ option_map signature_of g → EntryFound g → function_of (dec_s lim b) name ≡ none
+          go (Some y) p v = absurd (let z : ◌≡◌ {A = ℕ} 0 1 = cc in omega arith)
+          go None p v = none-says v
 
 -- The answers of `find_function`.
-pub signature-not : (b : List ℕ) (y g : FoundEntry) → y ≡ g → y ≡ Nothing → functions.Nothing ≡ signature_of b g
-signature-not b y g q h = ap (signature_of b) (sym h ∙ q)
+module _ (h : List ℕ) (r : Maybe ℕ) where
+  pub returns-some : get_or h 2 0 ≡ 1 → (n : ℕ) → n ≡ rd h 3 → r ≡ Some n → r ≡ cond (eqb (get_or h 2 0) 1) (Some (rd h 3)) None
+  returns-some e n q p = p ∙ rw (eq-eqb (get_or h 2 0) 1 e, q) refl
 
-pub signature_at : (b : List ℕ) (y g : FoundEntry) → y ≡ g → (i a e : ℕ) → y ≡ At i a e → (m : ℕ) → m ≡ rd (rest i b) 3 →
-    functions.At (record { returns = eqb (get_or (rest i b) 2 0) 1; extension = m; start = a; end = e }) ≡ signature_of b g
-signature_at b y g q i a e h m p =
-    ap (λ (n : ℕ). functions.At (record { returns = eqb (get_or (rest i b) 2 0) 1; extension = n; start = a; end = e })) p ∙ ap (signature_of b) (sym h ∙ q)
+  pub returns-none : (get_or h 2 0 ≡ 1 → ⊥) → r ≡ None → r ≡ cond (eqb (get_or h 2 0) 1) (Some (rd h 3)) None
+  returns-none e p = p ∙ rw (ne_eqb (get_or h 2 0) 1 e) refl
+
+pub signature-not : (o : Maybe Row) {g : Maybe (List ℕ × List ℕ)} → option_map row_bytes o ≡ g → o ≡ None →
+    None ≡ option_map signature_of g
+signature-not o q h = ap (option_map signature_of) (ap (option_map row_bytes) (sym h) ∙ q)
+
+pub signature_at : (o : Maybe Row) {g : Maybe (List ℕ × List ℕ)} → option_map row_bytes o ≡ g → (r : Row) → o ≡ Some r → (returns : Maybe ℕ) →
+    returns ≡ cond (eqb (get_or r.head.now 2 0) 1) (Some (rd r.head.now 3)) None →
+    Some (returns, r.body.now) ≡ option_map signature_of g
+signature_at o q r h returns p = ap (λ (z : Maybe ℕ). Some (z, r.body.now)) p ∙ ap (option_map signature_of) (ap (option_map row_bytes) (sym h) ∙ q)

@@ -1,7 +1,7 @@
 -- The walk over a section, of any kind. Assumes nothing.
 use Rattle.std.proofs.Math.Path.{◌≡◌, refl}
 use Rattle.std.proofs.Common.{ap, ap₂, sym, subst, ◌∙◌, arith, le-leb}
-use Rattle.std.specs.Prelude.{List, Bool, not, ◌&&◌, ℕ, zero, suc, ◌+◌, ◌*◌, ◌-◌, ◌≤◌, ◌<◌, leb}
+use Rattle.std.specs.Prelude.{Option, Some, None, List, Bool, not, ◌&&◌, ℕ, zero, suc, ◌+◌, ◌*◌, ◌-◌, ◌≤◌, ◌<◌, leb}
 use Rattle.std.proofs.Math.Bool.{true, false, cond}
 use Rattle.std.proofs.Math.ListN.{length}
 use Rattle.std.proofs.lemmas.Bool.{lt-leb, not-true, not-false}
@@ -18,8 +18,6 @@ use Rattle.schemas.specs.declared.kinds.SectionKind.{SectionKind}
 use Rattle.schemas.specs.declared.kinds.SectionKind.TheVariants.{Entities, Actions, Functions}
 use Rattle.schemas.specs.declared.order.Low.{Low}
 use Rattle.schemas.specs.declared.sections.Section.{Section}
-use Rattle.schemas.specs.declared.sections.Passed.{Passed}
-use Rattle.schemas.specs.declared.sections.Passed.TheVariants.{To, Broken}
 
 used-none : (w n : ℕ) (es : List ℕ) → n ≤ 0 → used w n es ≡ 0
 unfolding used
@@ -61,11 +59,11 @@ walk_start {lim} {k} {x} {b} i =
     }
 
 module _ {lim : Limits} {k : SectionKind} {x : Section} {b : List ℕ} {left : ℕ} {low : Low} {e f : List ℕ} (i : WalkLeft lim k x b left low e f) where
-  broken : left-rows lim k left low e f ≡ false → Broken ≡ passed_by lim k x b
+  broken : left-rows lim k left low e f ≡ false → None ≡ passed_by lim k x b
   unfolding passed_by
   broken h = rw (i.same ∙ h) refl
 
-  pub walk_end : left ≤ 0 → To (length b - length f) ≡ passed_by lim k x b
+  pub walk_end : left ≤ 0 → Some (length b - length f) ≡ passed_by lim k x b
   unfolding passed_by
   walk_end h =
       let z : length b - length f ≡ section_end (row_of k).width x b = omega (arith, i.split, used-none (row_of k).width left e h) in
@@ -94,15 +92,15 @@ module _ {lim : Limits} {k : SectionKind} {x : Section} {b : List ℕ} {left : �
     step : left-rows lim k left low e f ≡ (fits && (room && (whole long && others ((row_of k).next e) long)))
     step = rows_step (row_of k) (body_test lim k) any left (low_in k low) e f p
 
-    pub walk-unfit : (y : Bool) → y ≡ fits → not y ≡ true → Broken ≡ passed_by lim k x b
+    pub walk-unfit : (y : Bool) → y ≡ fits → not y ≡ true → None ≡ passed_by lim k x b
     walk-unfit y q h = broken (step ∙ sym (and-not-l fits _ (sym q ∙ not-true y h)))
 
     module _ (n : ℕ) (q : n ≡ long) where
-      pub walk-short : length f < n → Broken ≡ passed_by lim k x b
+      pub walk-short : length f < n → None ≡ passed_by lim k x b
       walk-short h = broken (step ∙ sym (and-not-r fits _ (sym (and-not-l room _ (lt-leb long (length f) (omega arith))))))
 
       module _ (y : Bool) (z : y ≡ whole n) where
-        pub walk-body : not y ≡ true → Broken ≡ passed_by lim k x b
+        pub walk-body : not y ≡ true → None ≡ passed_by lim k x b
         walk-body h =
             let no : whole long ≡ false = ap whole (sym q) ∙ sym z ∙ not-true y h in
             broken (step ∙ sym (and-not-r fits _ (sym (and-not-r room _ (sym (and-not-l (whole long) _ no))))))
@@ -125,19 +123,19 @@ module _ {lim : Limits} {k : SectionKind} {x : Section} {b : List ℕ} {left : �
             })
 
 -- What an answer says.
-module _ (lim : Limits) (k : SectionKind) (x : Section) (b : List ℕ) (y : Passed) (q : y ≡ passed_by lim k x b) where
-  pub passed-broken : y ≡ Broken → section_fits lim k x b ≡ false
+module _ (lim : Limits) (k : SectionKind) (x : Section) (b : List ℕ) (y : Option ℕ) (q : y ≡ passed_by lim k x b) where
+  pub passed-broken : y ≡ None → section_fits lim k x b ≡ false
   unfolding passed_by
   passed-broken h = go (section_fits lim k x b) (sym h ∙ q)
     where
-      go : (z : Bool) → Broken ≡ cond z (To (section_end (row_of k).width x b)) Broken → z ≡ false
+      go : (z : Bool) → None ≡ cond z (Some (section_end (row_of k).width x b)) None → z ≡ false
       go true e = absurd (let z : ◌≡◌ {A = ℕ} 0 1 = cc in omega arith)
       go false e = refl
 
-  pub passed_to : (n : ℕ) → y ≡ To n → (section_fits lim k x b ≡ true) × (n ≡ section_end (row_of k).width x b)
+  pub passed_to : (n : ℕ) → y ≡ Some n → (section_fits lim k x b ≡ true) × (n ≡ section_end (row_of k).width x b)
   unfolding passed_by
   passed_to n h = go (section_fits lim k x b) (sym h ∙ q)
     where
-      go : (z : Bool) → To n ≡ cond z (To (section_end (row_of k).width x b)) Broken → (z ≡ true) × (n ≡ section_end (row_of k).width x b)
+      go : (z : Bool) → Some n ≡ cond z (Some (section_end (row_of k).width x b)) None → (z ≡ true) × (n ≡ section_end (row_of k).width x b)
       go true e = (refl, (cc))
       go false e = absurd (let z : ◌≡◌ {A = ℕ} 0 1 = cc in omega arith)

@@ -1,5 +1,5 @@
 -- The outcome of the entry that hands back a part, by its cases. Assumes nothing.
-use Rattle.std.specs.Prelude.{ℕ, ◌+◌, ◌≤◌, ◌<◌, List, [], Bool, true, false, ◌≡◌, refl, length, get_or}
+use Rattle.std.specs.Prelude.{ℕ, ◌+◌, ◌≤◌, ◌<◌, List, [], Bool, true, false, ◌≡◌, refl, length, get_or, Option as Maybe, Some}
 use Rattle.std.proofs.Common.{arith, ap, sym, subst, ◌∙◌}
 use Rattle.std.proofs.Math.Option.{Option, none, some}
 use Rattle.std.specs.Borrow.{Bor}
@@ -17,8 +17,7 @@ use Rattle.cedar.proofs.Laws.Whole.{whole_type-reads}
 use Rattle.cedar.proofs.Laws.BodyPlace.{Stands, body-in-stands}
 use Rattle.forms.specs.Parts.{part}
 use Rattle.forms.specs.Laws.Bytes.{Bytes-index}
-use Rattle.attributes.specs.declared.own_attribute.Place.{Place}
-use Rattle.attributes.specs.declared.own_attribute.Place.TheVariants as places
+use Rattle.attributes.specs.declared.own_attribute.Attribute.{Attribute}
 use Rattle.attributes.specs.Place.{span_of as place_span}
 use Rattle.validator.specs.Handed.{part_of, span_of, told_of, IsPart, Handed}
 use Rattle.validator.specs.declared.own_attribute_type.OwnPart.{OwnPart}
@@ -44,9 +43,11 @@ module _ (lim : Limits) (fair : allowed lim ≡ true) (schema : List ℕ) (a : �
       part-nothing o = rw (fair, f, e, o) refl
 
       -- The attribute found from s to z, with its flag.
-      pub part_at : (q : Bool) (y : Ty) → own_attr a u ≡ some (q, y) → (r : Place) (s z : ℕ) → r ≡ places.At s z q → place_span r ≡ body_place a u →
-          At s z q ≡ part_here
-      part_at q y o r s z at p = let here : body_place a u ≡ some (s, z) = sym p ∙ ap place_span at in rw (fair, f, e, o, here) refl
+      pub part_at : (y : Ty) (r : Maybe Attribute) (x : Attribute) → own_attr a u ≡ some (x.required, y) → r ≡ Some x → place_span r ≡ body_place a u →
+          At x.start (x.start + length x.form.now) x.required ≡ part_here
+      part_at y r x o at p =
+          let here : body_place a u ≡ some (x.start, x.start + length x.form.now) = sym p ∙ ap place_span at in
+          rw (fair, f, e, o, here) refl
 
 -- What the call comes to on bytes: a refusal; none; an attribute, whose type's form stands at its place.
 pub data Comes (b : List ℕ) (o : Outcome) (place : Option (ℕ × ℕ)) : Type 0 where

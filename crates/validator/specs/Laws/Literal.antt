@@ -4,7 +4,7 @@ use Rattle.std.proofs.Common.{arith, ap, sym, subst, ◌∙◌, leb-true}
 use Rattle.std.proofs.Math.Option.{Option, none, some}
 use Rattle.std.proofs.lemmas.Bool.{not-false}
 use Rattle.cedar.specs.Types.{Ty, maybe}
-use Rattle.cedar.specs.Bytes.{Bytes}
+use Rattle.cedar.specs.Literal.{literal}
 use Rattle.cedar.specs.Levels.{depth}
 use Rattle.cedar.specs.TypeForm.{enc}
 use Rattle.cedar.specs.Limits.{Limits, most_bytes, allowed}
@@ -19,7 +19,7 @@ use Rattle.writing.specs.declared.form_lengths.FormLength.TheVariants.{Of}
 use Rattle.writing.specs.FormLengths.{form_length_of}
 use Rattle.attributes.specs.declared.euid_literal.Literal.{Literal}
 use Rattle.attributes.specs.declared.euid_literal.Literal.TheVariants as literals
-use Rattle.attributes.specs.Literal.{literal_type, literal_form, literal_length, literal_levels, Laid, Standing, LiteralAt}
+use Rattle.attributes.specs.Literal.{literal_type, literal_form, literal_length, literal_levels, Laid, Standing, BytesIn}
 use Rattle.attributes.specs.Laws.Literal.{literal-form, literal-levels, literal-sized}
 use Rattle.validator.specs.declared.answers.Answer.TheVariants.{Refused, Nothing, Typed}
 use Rattle.validator.specs.Answers.{Answered}
@@ -41,62 +41,47 @@ module _ (lim : Limits) (fair : allowed lim ≡ true) (schema v o : List ℕ) wh
     pub literal-no-uid : uid_of lim v ≡ none → Answered outcome o o (Refused 5)
     literal-no-uid e = refuses 5 (rw (fair, f, e) refl)
 
-    module _ (k i : ℕ) (e : uid_of lim v ≡ some (k, i)) (x : Literal) (at : LiteralAt lim schema k i x) where
-      goes_on : outcome ≡ literal_outcome lim (length o) (literal_type lim schema k x)
-      goes_on = rw (fair, f, e) (ap (literal_outcome lim (length o)) at.is)
+    module _ (k i : ℕ) (e : uid_of lim v ≡ some (k, i)) where
+      goes_on : (t : Option Ty) → literal (dec_s lim schema) k i ≡ t → outcome ≡ literal_outcome lim (length o) t
+      goes_on t is = rw (fair, f, e) (ap (literal_outcome lim (length o)) is)
 
-      module _ (bytes : Bytes schema) (n : ℕ) (l : n ≡ literal_length x) where
-        -- No form is empty.
-        pub literal-nothing : n ≡ 0 → Answered outcome o o Nothing
-        literal-nothing z = go x (sym l ∙ z) goes_on
+      pub literal-nothing : literal (dec_s lim schema) k i ≡ none → Answered outcome o o Nothing
+      literal-nothing is = subst (λ (c : Outcome). Answered c o o Nothing) (sym (goes_on none is)) record { answer = refl; result = refl }
+
+      module _ (x : Literal) (is : literal (dec_s lim schema) k i ≡ some (literal_type lim k x)) (stands : Standing lim x) (laid : Laid x)
+          (bytes : BytesIn x) (n : ℕ) (l : n ≡ literal_length x) where
+        abbrev found : Ty
+        found = literal_type lim k x
+
+        form-is : literal_form k x ≡ enc found
+        form-is = sym (literal-form lim k x bytes stands)
+
+        sized : n ≡ length (enc found)
+        sized = l ∙ sym (literal-sized k x laid) ∙ ap length form-is
+
+        short : n ≤ suc most_bytes
+        short = go x l laid
           where
-            go : (y : Literal) → literal_length y ≡ 0 → outcome ≡ literal_outcome lim (length o) (literal_type lim schema k y) → Answered outcome o o Nothing
-            go (literals.Action s e) h g = absurd (omega arith)
-            go literals.Entity h g = absurd (omega arith)
-            go literals.Nothing h g = subst (λ (c : Outcome). Answered c o o Nothing) (sym g) record { answer = refl; result = refl }
+            go : (y : Literal) → n ≡ literal_length y → Laid y → n ≤ suc most_bytes
+            go (literals.Action c) h v = omega (arith, h, v.1)
+            go literals.Entity h v = omega (arith, h)
 
-        module _ (p : n ≡ 0 → ⊥) where
-          found : (t : Ty) × ((literal_type lim schema k x ≡ some t) × (literal_form schema k x ≡ enc t))
-          found = go x (λ z. p (l ∙ z)) at.stands
-            where
-              go : (y : Literal) → (literal_length y ≡ 0 → ⊥) → Standing lim schema y →
-                  (t : Ty) × ((literal_type lim schema k y ≡ some t) × (literal_form schema k y ≡ enc t))
-              go (literals.Action s e) h v = (_, (refl, sym (literal-form lim schema bytes k (literals.Action s e) v)))
-              go literals.Entity h v = (_, (refl, sym (literal-form lim schema bytes k literals.Entity v)))
-              go literals.Nothing h v = absurd (h refl)
+        told : Of n ≡ form_length_of enc (ok found)
+        told = ap Of (omega (arith, sized, short))
 
-          abbrev form : List ℕ
-          form = enc found.0
+        goes_to : outcome ≡ write_type lim (length o) (ok found)
+        goes_to = goes_on (some found) is
 
-          sized : n ≡ length form
-          sized = l ∙ sym (literal-sized schema k x at.laid) ∙ ap length found.1.1
+        module _ (y : Bool) (fits : y ≡ leb n (min (length o) lim.bytes)) where
+          pub literal-over : not y ≡ true → Answered outcome o o (Refused 10)
+          literal-over h = writes-over lim (allowed-bytes lim fair).1 (ok found) o outcome goes_to (Of n) told n refl y fits h
 
-          short : n ≤ suc most_bytes
-          short = go x l at.laid
-            where
-              go : (y : Literal) → n ≡ literal_length y → Laid schema y → n ≤ suc most_bytes
-              go (literals.Action s e) h v = omega (arith, h, v.3)
-              go literals.Entity h v = omega (arith, h)
-              go literals.Nothing h v = omega (arith, h)
+          module _ (h : not y ≡ false) where
+            pub literal-room : literal_length x ≤ length o
+            literal-room = omega (arith, l, leb-true n (min (length o) lim.bytes) (sym fits ∙ not-false y h))
 
-          told : Of n ≡ form_length_of enc (ok found.0)
-          told = ap Of (omega (arith, sized, short))
-
-          goes_to : outcome ≡ write_type lim (length o) (ok found.0)
-          goes_to = goes_on ∙ ap (literal_outcome lim (length o)) found.1.0
-
-          module _ (y : Bool) (fits : y ≡ leb n (min (length o) lim.bytes)) where
-            pub literal-over : not y ≡ true → Answered outcome o o (Refused 10)
-            literal-over h = writes-over lim (allowed-bytes lim fair).1 (ok found.0) o outcome goes_to (Of n) told n refl y fits h
-
-            module _ (h : not y ≡ false) where
-              pub literal-room : literal_length x ≤ length o
-              literal-room = omega (arith, l, leb-true n (min (length o) lim.bytes) (sym fits ∙ not-false y h))
-
-              pub literal-writes : (xs : List ℕ) → xs ≡ over (literal_form schema k x) o → (d : ℕ) → d ≡ literal_levels lim schema x →
-                  Answered outcome o xs (Typed n d)
-              literal-writes xs w d p =
-                  let q : depth found.0 ≡ literal_levels lim schema x = sym (ap (maybe 0 depth) found.1.0) ∙ literal-levels lim schema k x in
-                  writes lim (allowed-bytes lim fair).1 (ok found.0) o outcome goes_to (Of n) told n refl y fits h xs n
-                  record { bytes = w ∙ ap (λ (z : List ℕ). over z o) found.1.1; many = sized }
-                  d (λ t e. p ∙ sym q ∙ ap depth (ok-inj e))
+            pub literal-writes : (xs : List ℕ) → xs ≡ over (literal_form k x) o → (d : ℕ) → d ≡ literal_levels lim x → Answered outcome o xs (Typed n d)
+            literal-writes xs w d p =
+                writes lim (allowed-bytes lim fair).1 (ok found) o outcome goes_to (Of n) told n refl y fits h xs n
+                record { bytes = w ∙ ap (λ (z : List ℕ). over z o) form-is; many = sized }
+                d (λ t e. p ∙ sym (literal-levels lim k x) ∙ ap depth (ok-inj e))

@@ -1,5 +1,5 @@
 -- The outcome of `lookup_attribute_type`, question by question. Assumes nothing.
-use Rattle.std.specs.Prelude.{ℕ, ◌-◌, ◌≤◌, min, List, Bool, true, false, not, ◌≡◌, refl, leb, length}
+use Rattle.std.specs.Prelude.{ℕ, ◌-◌, ◌≤◌, min, List, Bool, true, false, not, ◌≡◌, refl, leb, length, Option as Maybe, Some, None, Result as Outcome', Ok, Err}
 use Rattle.std.proofs.Common.{arith, ap, ap₂, sym, subst, ◌∙◌, leb-true}
 use Rattle.std.proofs.Math.Option.{Option, none, some}
 use Rattle.std.proofs.lemmas.Bool.{not-true, not-false}
@@ -16,7 +16,7 @@ use Rattle.forms.specs.Parts.{part}
 use Rattle.forms.specs.TypeBytes.{whole, dec}
 use Rattle.forms.specs.Laws.Parts.{length_part}
 use Rattle.lookups.specs.declared.lookup_attribute_type.Looked.{Looked}
-use Rattle.lookups.specs.declared.lookup_attribute_type.Looked.TheVariants as looks
+use Rattle.lookups.specs.declared.lookup_attribute_type.TooLong.{TooLong}
 use Rattle.lookups.specs.Lookup.{LookedUp}
 use Rattle.validator.specs.declared.answers.Answer.TheVariants.{Refused, Nothing, Attribute}
 use Rattle.validator.specs.Answers.{Answered}
@@ -33,54 +33,54 @@ module _ (lim : Limits) (fair : allowed lim ≡ true) (schema : List ℕ) (a : �
     pub lookup-no-type : whole_type lim t ≡ none → Answered outcome o o (Refused 3)
     lookup-no-type e = refuses 3 (rw (fair, f, e) refl)
 
-    module _ (u : Ty) (g : whole_type lim t ≡ some u) (last : List ℕ) (r : Looked) (h : LookedUp lim (lookup (step_fits lim work) s a u) last r) where
+    module _ (u : Ty) (g : whole_type lim t ≡ some u) (last : List ℕ) (r : Outcome' (Maybe Looked) TooLong) (h : LookedUp lim (lookup (step_fits lim work) s a u) last r) where
       goes_on : outcome ≡ write_attribute lim (length o) (lookup (step_fits lim work) s a u)
       goes_on = rw (fair, f, g) refl
 
-      ends : (x : Looked) → r ≡ x → LookedUp lim (lookup (step_fits lim work) s a u) last x
-      ends x e = subst (λ (y : Looked). LookedUp lim (lookup (step_fits lim work) s a u) last y) e h
+      ends : (x : Outcome' (Maybe Looked) TooLong) → r ≡ x → LookedUp lim (lookup (step_fits lim work) s a u) last x
+      ends x e = subst (λ (y : Outcome' (Maybe Looked) TooLong). LookedUp lim (lookup (step_fits lim work) s a u) last y) e h
 
       comes-to : (y : Result (Option (Bool × Ty))) → lookup (step_fits lim work) s a u ≡ y → outcome ≡ write_attribute lim (length o) y
       comes-to y e = goes_on ∙ ap (write_attribute lim (length o)) e
 
-      pub lookup-nothing : r ≡ looks.Nothing → Answered outcome o o Nothing
+      pub lookup-nothing : r ≡ Ok None → Answered outcome o o Nothing
       lookup-nothing e =
-          subst (λ (c : Outcome). Answered c o o Nothing) (sym (comes-to (ok none) (ends looks.Nothing e))) record { answer = refl; result = refl }
+          subst (λ (c : Outcome). Answered c o o Nothing) (sym (comes-to (ok none) (ends (Ok None) e))) record { answer = refl; result = refl }
 
-      pub lookup-too-long : r ≡ looks.TooLong → Answered outcome o o (Refused 9)
-      lookup-too-long e = refuses 9 (comes-to (err 9) (ends looks.TooLong e))
+      pub lookup-too-long : (x : TooLong) → r ≡ Err x → Answered outcome o o (Refused 9)
+      lookup-too-long x e = refuses 9 (comes-to (err 9) (ends (Err x) e))
 
-      module _ (q : Bool) (n : ℕ) (e : r ≡ looks.Found q n) (full : lim.bytes ≤ length last) where
-        pub small : n ≤ lim.bytes
-        small = (ends (looks.Found q n) e).1.fits
+      module _ (x : Looked) (e : r ≡ Ok (Some x)) (full : lim.bytes ≤ length last) where
+        pub small : x.bytes ≤ lim.bytes
+        small = (ends (Ok (Some x)) e).1.fits
 
-        pub lookup-whole : whole (lim.levels - 1) (part 0 n last) ≡ true
-        lookup-whole = (ends (looks.Found q n) e).1.good
+        pub lookup-whole : whole (lim.levels - 1) (part 0 x.bytes last) ≡ true
+        lookup-whole = (ends (Ok (Some x)) e).1.good
 
-        exact : enc (dec (lim.levels - 1) (part 0 n last)) ≡ part 0 n last
-        exact = (ends (looks.Found q n) e).1.exact
+        exact : enc (dec (lim.levels - 1) (part 0 x.bytes last)) ≡ part 0 x.bytes last
+        exact = (ends (Ok (Some x)) e).1.exact
 
-        sized : length (part 0 n last) ≡ n
-        sized = length_part 0 n last (omega (arith, small)) ∙ omega arith
+        sized : length (part 0 x.bytes last) ≡ x.bytes
+        sized = length_part 0 x.bytes last (omega (arith, small)) ∙ omega arith
 
-        fits-as : (y : Bool) → y ≡ leb n (min (length o) lim.bytes) →
-            leb (length (enc (dec (lim.levels - 1) (part 0 n last)))) (min (length o) lim.bytes) ≡ y
+        fits-as : (y : Bool) → y ≡ leb x.bytes (min (length o) lim.bytes) →
+            leb (length (enc (dec (lim.levels - 1) (part 0 x.bytes last)))) (min (length o) lim.bytes) ≡ y
         fits-as y f = ap (λ (k : ℕ). leb k (min (length o) lim.bytes)) (ap length exact ∙ sized) ∙ sym f
 
-        module _ (y : Bool) (fits : y ≡ leb n (min (length o) lim.bytes)) where
+        module _ (y : Bool) (fits : y ≡ leb x.bytes (min (length o) lim.bytes)) where
           pub lookup-over : not y ≡ true → Answered outcome o o (Refused 10)
-          lookup-over k = refuses 10 (comes-to (ok (some (q, dec (lim.levels - 1) (part 0 n last)))) (ends (looks.Found q n) e).0 ∙ rw
+          lookup-over k = refuses 10 (comes-to (ok (some (x.required, dec (lim.levels - 1) (part 0 x.bytes last)))) (ends (Ok (Some x)) e).0 ∙ rw
               (fits-as y fits, not-true y k) refl)
 
           module _ (k : not y ≡ false) where
-            pub lookup-room : length (part 0 n last) ≤ length o
-            lookup-room = omega (arith, sized, leb-true n (min (length o) lim.bytes) (sym fits ∙ not-false y k))
+            pub lookup-room : length (part 0 x.bytes last) ≤ length o
+            lookup-room = omega (arith, sized, leb-true x.bytes (min (length o) lim.bytes) (sym fits ∙ not-false y k))
 
-            pub lookup-writes : (xs : List ℕ) → xs ≡ over (part 0 n last) o → (d : ℕ) → d ≡ depth (dec (lim.levels - 1) (part 0 n last)) →
-                Answered outcome o xs (Attribute q n d)
+            pub lookup-writes : (xs : List ℕ) → xs ≡ over (part 0 x.bytes last) o → (d : ℕ) → d ≡ depth (dec (lim.levels - 1) (part 0 x.bytes last)) →
+                Answered outcome o xs (Attribute x.required x.bytes d)
             lookup-writes xs w d p =
-                let c : outcome ≡ attribute q (dec (lim.levels - 1) (part 0 n last)) = comes-to (ok (some (q, dec (lim.levels - 1) (part 0 n last))))
-                (ends (looks.Found q n) e).0 ∙
+                let c : outcome ≡ attribute x.required (dec (lim.levels - 1) (part 0 x.bytes last)) = comes-to (ok (some (x.required, dec (lim.levels - 1) (part 0 x.bytes last))))
+                (ends (Ok (Some x)) e).0 ∙
                 rw (fits-as y fits, not-false y k) refl in
-                subst (λ (z : Outcome). Answered z o xs (Attribute q n d)) (sym c)
-                record { answer = ap₂ (Attribute q) (sym (ap length exact ∙ sized)) p; result = w ∙ ap (λ (z : List ℕ). over z o) (sym exact) }
+                subst (λ (z : Outcome). Answered z o xs (Attribute x.required x.bytes d)) (sym c)
+                record { answer = ap₂ (Attribute x.required) (sym (ap length exact ∙ sized)) p; result = w ∙ ap (λ (z : List ℕ). over z o) (sym exact) }

@@ -1,5 +1,5 @@
 -- The outcome of `all_attributes`, question by question. Assumes nothing.
-use Rattle.std.specs.Prelude.{ℕ, ◌≤◌, min, List, Bool, true, false, not, ◌≡◌, refl, leb, length}
+use Rattle.std.specs.Prelude.{ℕ, ◌≤◌, min, List, Bool, true, false, not, ◌≡◌, refl, leb, length, Result as Outcome', Ok, Err}
 use Rattle.std.proofs.Common.{arith, ap, sym, subst, ◌∙◌, leb-true}
 use Rattle.std.proofs.Math.Option.{none, some}
 use Rattle.std.proofs.lemmas.Bool.{not-true, not-false}
@@ -13,8 +13,7 @@ use Rattle.cedar.specs.Attribute.{all_names}
 use Rattle.cedar.specs.Calls.{step_fits, write_names, names_call}
 use Rattle.forms.specs.Parts.{part}
 use Rattle.writing.specs.Written.{Written}
-use Rattle.lookups.specs.declared.all_attributes.Names.{Names}
-use Rattle.lookups.specs.declared.all_attributes.Names.TheVariants.{Of, TooLong}
+use Rattle.lookups.specs.declared.lookup_attribute_type.TooLong.{TooLong}
 use Rattle.lookups.specs.Names.{NamedBy}
 use Rattle.writing.specs.Laws.Writing.{over-front}
 use Rattle.validator.specs.declared.answers.Answer.TheVariants.{Refused, Named}
@@ -32,24 +31,24 @@ module _ (lim : Limits) (fair : allowed lim ≡ true) (schema t o : List ℕ) (w
     pub names-no-type : whole_type lim t ≡ none → Answered outcome o o (Refused 3)
     names-no-type e = refuses 3 (rw (fair, f, e) refl)
 
-    module _ (u : Ty) (g : whole_type lim t ≡ some u) (before kept : List ℕ) (r : Names) (h : NamedBy (all_names (step_fits lim work) s u) before kept r)
+    module _ (u : Ty) (g : whole_type lim t ≡ some u) (before kept : List ℕ) (r : Outcome' ℕ TooLong) (h : NamedBy (all_names (step_fits lim work) s u) before kept r)
       where
-        ends : (x : Names) → r ≡ x → NamedBy (all_names (step_fits lim work) s u) before kept x
-        ends x e = subst (λ (y : Names). NamedBy (all_names (step_fits lim work) s u) before kept y) e h
+        ends : (x : Outcome' ℕ TooLong) → r ≡ x → NamedBy (all_names (step_fits lim work) s u) before kept x
+        ends x e = subst (λ (y : Outcome' ℕ TooLong). NamedBy (all_names (step_fits lim work) s u) before kept y) e h
 
         comes-to : (y : Result (List ℕ)) → all_names (step_fits lim work) s u ≡ y → outcome ≡ write_names lim (length o) y
         comes-to y e = rw (fair, f, g) (ap (write_names lim (length o)) e)
 
-        pub names-too-long : r ≡ TooLong → Answered outcome o o (Refused 9)
-        names-too-long e = refuses 9 (comes-to (err 9) (ends TooLong e))
+        pub names-too-long : (x : TooLong) → r ≡ Err x → Answered outcome o o (Refused 9)
+        names-too-long x e = refuses 9 (comes-to (err 9) (ends (Err x) e))
 
-        module _ (n : ℕ) (e : r ≡ Of n) where
+        module _ (n : ℕ) (e : r ≡ Ok n) where
           all : List ℕ
-          all = (ends (Of n) e).0
+          all = (ends (Ok n) e).0
 
           told : (all_names (step_fits lim work) s u ≡ ok all) × Written (enc_names all) before kept n
           unfolding all
-          told = (ends (Of n) e).1
+          told = (ends (Ok n) e).1
 
           names-form : part 0 n kept ≡ enc_names all
           names-form = over-front (enc_names all) before kept n told.1.bytes told.1.many

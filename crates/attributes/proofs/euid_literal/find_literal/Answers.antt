@@ -1,49 +1,29 @@
-use Rattle.forms.specs.Limits.{as_limits}
 use Rattle.schemas.specs.Laws.Finders.{entity-at, entity-not, action-at, action-not}
 use Rattle.attributes.specs.Laws.Literal.{literal-action, literal-no-action, literal-entity, literal-no-entity}
-use borrow.Author.Rules.{rules}
 use Rattle.attributes.proofs.euid_literal.find_literal.Goals as goal
 
-pub returns-in_default : goal.returns-in_default
-returns-in_default c =
-    let find-action = c.find_action in
-    let if1 = c.if-is_action in
-    let is-action = c.is_action in
-    let args = c.args in
-    let by-action-not = action-not c.requires args.entity args.id find-action.result find-action.ensures c.in_default.is in
-    literal-no-action (as_limits args.at.limits) c.requires.fair args.schema.now args.entity args.id is-action.result
-    is-action.ensures if1.true by-action-not
+pub returns-in_err-action : goal.returns-in_err-action
+returns-in_err-action c =
+    let s = c.args.schema.now in
+    let lacks = action-not s.sectioned c.args.entity c.args.id c.find_action.result c.find_action.ensures c.in_err-action.was in
+    rw c.from_residual.ensures
+    (literal-no-action s c.args.entity c.args.id c.is_action.result c.is_action.ensures c.if-is_action.true lacks)
 
 pub returns-then-is_action : goal.returns-then-is_action
 returns-then-is_action c =
-    let find-action = c.find_action in
-    let if1 = c.if-is_action in
-    let is-action = c.is_action in
-    let args = c.args in
-    let by-action-at = action-at c.requires args.entity args.id find-action.result find-action.ensures c.in-At.field-0
-    c.in-At.start c.in-At.end c.in-At.is in
-    literal-action (as_limits args.at.limits) c.requires.fair args.schema.now args.entity args.id is-action.result is-action.ensures
-    c.in-At.start
-    c.in-At.end if1.true by-action-at
+    let s = c.args.schema.now in
+    let has = action-at s.sectioned c.args.entity c.args.id c.find_action.result c.find_action.ensures c.in_ok-action.action c.in_ok-action.was in
+    literal-action s c.args.entity c.args.id c.is_action.result c.is_action.ensures c.in_ok-action.action.body c.if-is_action.true has
 
-pub returns-in_default-find_entity : goal.returns-in_default-find_entity
-returns-in_default-find_entity c =
-    let find-entity = c.find_entity in
-    let if1 = c.if-is_action in
-    let is-action = c.is_action in
-    let args = c.args in
-    let by-entity-not = entity-not c.requires args.entity find-entity.result find-entity.ensures c.in_default-find_entity.is in
-    literal-no-entity (as_limits args.at.limits) c.requires.fair args.schema.now args.entity args.id is-action.result
-    is-action.ensures if1.false by-entity-not
+pub returns-in_err-find_entity : goal.returns-in_err-find_entity
+returns-in_err-find_entity c =
+    let s = c.args.schema.now in
+    let lacks = entity-not s.sectioned c.args.entity c.find_entity.result c.find_entity.ensures c.in_err-find_entity.was in
+    rw c.from_residual-in_err-find_entity.ensures
+    (literal-no-entity s c.args.entity c.args.id c.is_action.result c.is_action.ensures c.if-is_action.false lacks)
 
 pub returns : goal.returns
 returns c =
-    let find-entity = c.find_entity in
-    let if1 = c.if-is_action in
-    let is-action = c.is_action in
-    let args = c.args in
-    let by-entity-at = entity-at c.requires args.entity find-entity.result find-entity.ensures c.in-At-find_entity.field-0
-    c.in-At-find_entity.field-1 c.in-At-find_entity.field-2 c.in-At-find_entity.is in
-    literal-entity (as_limits args.at.limits) c.requires.fair args.schema.now args.entity args.id is-action.result is-action.ensures
-    c.in-At-find_entity.field-1
-    c.in-At-find_entity.field-2 if1.false by-entity-at
+    let s = c.args.schema.now in
+    let has = entity-at s.sectioned c.args.entity c.find_entity.result c.find_entity.ensures _ c.in_ok-find_entity.was in
+    literal-entity s c.args.entity c.args.id c.is_action.result c.is_action.ensures c.if-is_action.false has

@@ -1,22 +1,23 @@
-use Rattle.conformance.specs.Laws.Names.{names-start, names-here, names-again, names-end}
+use Rattle.std.proofs.Common.{refl, sym, ◌∙◌}
+use Rattle.cedar.specs.Types.{mem}
+use Rattle.forms.specs.Laws.NamesIn.{names-start, names-end}
+use Rattle.conformance.specs.Laws.Names.{name-here, name-other}
 use Rattle.conformance.proofs.entities.stands.Goals as goal
 
-pub loop-left-init : goal.loop-left-init
-loop-left-init c = names-start c.args.name c.requires
+pub loop-pair-init : goal.loop-pair-init
+loop-pair-init c =
+    let items = c.chunks_exact-pair-items.ensures in
+    names-start (mem c.args.name) c.into_iter-pair-iterator.ensures.into_iter_gives items.rest items.size
 
 pub returns-then-u16_at-name : goal.returns-then-u16_at-name
 returns-then-u16_at-name c =
-    let u16-at = c.u16_at in
-    let loop-test = c.loop-left-test in
-    let loop = c.loop-left in
-    names-here loop.invariant loop-test.true u16-at.result u16-at.ensures.0 c.if-u16_at-name.true
+    let s = c.in-Some.ensures.steps in
+    name-here c.loop-pair.invariant _ _ s.1.0 s.1.1 (sym c.u16_at.ensures.0 ∙ c.if-u16_at-name.true)
 
-pub loop-left-preserved : goal.loop-left-preserved
-loop-left-preserved c =
-    let u16-at = c.u16_at in
-    let loop-test = c.loop-left-test in
-    let loop = c.loop-left in
-    names-again loop.invariant loop-test.true u16-at.result u16-at.ensures.0 c.if-u16_at-name.false
+pub loop-pair-preserved : goal.loop-pair-preserved
+loop-pair-preserved c =
+    let s = c.in-Some.ensures.steps in
+    name-other c.loop-pair.invariant _ _ s.1.0 s.1.1 (λ e. c.if-u16_at-name.false (c.u16_at.ensures.0 ∙ e)) c.next.new.self s.0 refl
 
 pub returns : goal.returns
-returns c = names-end c.loop-left.invariant c.loop-left-test.false
+returns c = sym (names-end c.loop-pair.invariant c.in-None.ensures.steps.1.0)

@@ -1,8 +1,7 @@
-use Rattle.conformance.specs.Laws.Names.{NamesAhead}
+use Rattle.cedar.specs.Types.{mem}
+use Rattle.forms.specs.Names.{names_in}
+use Rattle.forms.specs.Laws.NamesIn.{NamesLeft}
 use Rattle.conformance.proofs.entities.stands.Given as goal
 
-abbrev pub invariant-loop-left : goal.invariant-loop-left
-invariant-loop-left l = NamesAhead l.name l.n l.names l.left l.b
-
-abbrev pub decreases-loop-left : goal.decreases-loop-left
-decreases-loop-left l = l.left
+abbrev pub invariant-loop-pair : goal.invariant-loop-pair
+invariant-loop-pair l = NamesLeft (mem l.name (names_in l.names)) (mem l.name) l.pair-iterator

@@ -1,105 +1,69 @@
-use native.Mathlib.Omega.{arith}
-use Prim.Native.Nat.{ℕ}
-use mathlib.Core.List.{List}
-use mathlib.Core.Path.{subst}
-use lib.ListN.{length}
-use Rattle.forms.specs.Limits.{as_limits}
-use Rattle.cedar.specs.Result.{Result}
+use Rattle.std.proofs.Common.{◌≡◌, List, ℕ, length, arith, sym, subst, ◌∙◌}
 use Rattle.cedar.specs.Calls.{step_fits}
-use Rattle.forms.specs.Laws.Views.{not-empty, is-entity, is-record, is-action}
-use Rattle.schemas.specs.SchemaBytes.{dec_s}
+use Rattle.cedar.specs.Result.{Result}
+use Rattle.forms.specs.Parts.{kind}
+use Rattle.forms.specs.Kinds.{kind_number}
+use Rattle.forms.specs.declared.kinds.Kind.{Kind}
+use Rattle.forms.specs.declared.kinds.Kind.TheVariants.{Entity, Record, Action}
+use Rattle.forms.specs.Laws.Kinds.{whole-kind, kind-same}
+use Rattle.forms.specs.Laws.Views.{is-entity, is-record, is-action}
+use Rattle.schemas.specs.Schema.{limits_in, said_by}
 use Rattle.lookups.specs.Names.{NamedBy}
-use Rattle.lookups.specs.Laws.Lookup.{entity-named}
 use Rattle.lookups.specs.Laws.Names.{entity-all, record-all, action-all, record-entered, action-entered, other-all}
 use Rattle.lookups.proofs.all_attributes.all_names.Goals as goal
 
-pub bounds-t-0 : goal.bounds-t-0
-bounds-t-0 c = not-empty c.args.at.limits.levels c.args.t.now c.requires.asked.good
+pub of-requires : goal.of-requires
+of-requires c = whole-kind _ c.args.t.now c.requires.asked.good
 
 pub slice_bounds-entity_names-count : goal.slice_bounds-entity_names-count
-slice_bounds-entity_names-count c = omega (arith, (is-entity c.args.at.limits.levels c.args.t.now c.requires.asked.good c.in-10.is).sized)
+slice_bounds-entity_names-count c = omega (arith, (is-entity _ c.args.t.now c.requires.asked.good (sym c.in-Entity.ensures)).some)
 
 pub slice_bounds-entity_names-start : goal.slice_bounds-entity_names-start
 slice_bounds-entity_names-start c = slice_bounds-entity_names-count c
 
-pub u16_at-requires : goal.u16_at-requires
-u16_at-requires c = omega (arith, (is-entity c.args.at.limits.levels c.args.t.now c.requires.asked.good c.in-10.is).some)
+pub returns-in-Entity : goal.returns-in-Entity
+returns-in-Entity c =
+    let s = c.args.schema.now in
+    let all = entity-all (step_fits (limits_in s) (length c.args.work.now)) (said_by s) _ c.args.t.now c.requires.asked.good c.args.kept.now (sym c.in-Entity.ensures) in
+    subst (λ (o : Result (List ℕ)). NamedBy o c.args.kept.now c.entity_names.new.kept c.entity_names.result) all c.entity_names.ensures
 
-pub entity_names-requires : goal.entity_names-requires
-entity_names-requires c =
-    let u16-at = c.u16_at in
-    let args = c.args in
-    let by-entity-named = entity-named (step_fits (as_limits args.at.limits) (length args.work.now)) (dec_s (as_limits args.at.limits)
-    args.schema.now) 0 args.at.limits.levels args.t.now c.requires.asked.good
-    c.in-10.is u16-at.result u16-at.ensures.0 in
-    record { sectioned = c.requires.sectioned; named = by-entity-named; last_room = c.requires.asked.room; kept_room = c.requires.kept_room }
-
-pub entries_at-requires : goal.entries_at-requires
-entries_at-requires c = (omega arith, (is-record c.args.at.limits.levels c.args.t.now c.requires.asked.good c.in-8.is).fit)
-
-pub u16_at-requires-in-8 : goal.u16_at-requires-in-8
-u16_at-requires-in-8 c = omega (arith, (is-record c.args.at.limits.levels c.args.t.now c.requires.asked.good c.in-8.is).some)
+pub at-requires : goal.at-requires
+at-requires c = (omega arith, (is-record _ c.args.t.now c.requires.asked.good (sym c.in-Record.ensures)).fit)
 
 pub write_names-requires : goal.write_names-requires
 write_names-requires c =
-    let u16-at2 = c.u16_at-in-8 in
-    let entries_at = c.entries_at in
-    let args = c.args in
-    record-entered (step_fits (as_limits args.at.limits) (length args.work.now)) (dec_s (as_limits args.at.limits) args.schema.now)
-    args.at.limits.levels args.t.now c.requires.asked.good args.kept.now
-    (omega (arith, c.requires.asked.few, c.requires.kept_room.0)) c.requires.kept_room.1 u16-at2.result _ c.in-8.is u16-at2.ensures.0 entries_at.ensures
+    let s = c.args.schema.now in
+    let rows = c.at.ensures in
+    record-entered (step_fits (limits_in s) (length c.args.work.now)) (said_by s) _ c.args.t.now c.requires.asked.good c.args.kept.now c.at.result
+    (omega (arith, c.requires.asked.few, c.requires.kept_room.0)) c.requires.kept_room.1 (sym c.in-Record.ensures) rows.left rows.entries rows.bodies
 
-pub entries_at-requires-in-11 : goal.entries_at-requires-in-11
-entries_at-requires-in-11 c = (omega arith, (is-action c.args.at.limits.levels c.args.t.now c.requires.asked.good c.in-11.is).fit)
+pub returns-in-Record : goal.returns-in-Record
+returns-in-Record c =
+    let s = c.args.schema.now in
+    let rows = c.at.ensures in
+    record-all (step_fits (limits_in s) (length c.args.work.now)) (said_by s) _ c.args.t.now c.requires.asked.good c.args.kept.now c.at.result
+    (sym c.in-Record.ensures) rows.left rows.entries c.write_names.new.kept c.write_names.result c.write_names.ensures
 
-pub u16_at-requires-in-11 : goal.u16_at-requires-in-11
-u16_at-requires-in-11 c = omega (arith, (is-action c.args.at.limits.levels c.args.t.now c.requires.asked.good c.in-11.is).some)
+pub at-requires-in-Action : goal.at-requires-in-Action
+at-requires-in-Action c = (omega arith, (is-action _ c.args.t.now c.requires.asked.good (sym c.in-Action.ensures)).fit)
 
-pub write_names-requires-in-11 : goal.write_names-requires-in-11
-write_names-requires-in-11 c =
-    let u16-at3 = c.u16_at-in-11 in
-    let entries-at2 = c.entries_at-in-11 in
-    let args = c.args in
-    action-entered (step_fits (as_limits args.at.limits) (length args.work.now)) (dec_s (as_limits args.at.limits) args.schema.now)
-    args.at.limits.levels args.t.now c.requires.asked.good args.kept.now
-    (omega (arith, c.requires.asked.few, c.requires.kept_room.0)) c.requires.kept_room.1 u16-at3.result _ c.in-11.is u16-at3.ensures.0 entries-at2.ensures
+pub write_names-requires-in-Action : goal.write_names-requires-in-Action
+write_names-requires-in-Action c =
+    let s = c.args.schema.now in
+    let rows = c.at-in-Action.ensures in
+    action-entered (step_fits (limits_in s) (length c.args.work.now)) (said_by s) _ c.args.t.now c.requires.asked.good c.args.kept.now c.at-in-Action.result
+    (omega (arith, c.requires.asked.few, c.requires.kept_room.0)) c.requires.kept_room.1 (sym c.in-Action.ensures) rows.left rows.entries rows.bodies
 
-pub returns-in-10 : goal.returns-in-10
-returns-in-10 c =
-    let entity-names = c.entity_names in
-    let u16-at = c.u16_at in
-    let args = c.args in
-    let by-entity-all = entity-all (step_fits (as_limits args.at.limits) (length args.work.now)) (dec_s (as_limits args.at.limits)
-    args.schema.now) args.at.limits.levels args.t.now c.requires.asked.good
-    args.kept.now c.in-10.is u16-at.result u16-at.ensures.0 in
-    subst (λ (r : Result (List ℕ)). NamedBy r args.kept.now entity-names.new.kept entity-names.result)
-    by-entity-all entity-names.ensures
-
-pub returns-in-8 : goal.returns-in-8
-returns-in-8 c =
-    let write-names = c.write_names in
-    let u16-at2 = c.u16_at-in-8 in
-    let entries_at = c.entries_at in
-    let args = c.args in
-    record-all (step_fits (as_limits args.at.limits) (length args.work.now)) (dec_s (as_limits args.at.limits) args.schema.now)
-    args.at.limits.levels args.t.now c.requires.asked.good args.kept.now
-    u16-at2.result _ write-names.new.kept write-names.result write-names.ensures c.in-8.is u16-at2.ensures.0
-    entries_at.ensures
-
-pub returns-in-11 : goal.returns-in-11
-returns-in-11 c =
-    let write-names2 = c.write_names-in-11 in
-    let u16-at3 = c.u16_at-in-11 in
-    let entries-at2 = c.entries_at-in-11 in
-    let args = c.args in
-    action-all (step_fits (as_limits args.at.limits) (length args.work.now)) (dec_s (as_limits args.at.limits) args.schema.now)
-    args.at.limits.levels args.t.now c.requires.asked.good args.kept.now
-    u16-at3.result _ write-names2.new.kept write-names2.result write-names2.ensures c.in-11.is u16-at3.ensures.0
-    entries-at2.ensures
+pub returns-in-Action : goal.returns-in-Action
+returns-in-Action c =
+    let s = c.args.schema.now in
+    let rows = c.at-in-Action.ensures in
+    action-all (step_fits (limits_in s) (length c.args.work.now)) (said_by s) _ c.args.t.now c.requires.asked.good c.args.kept.now c.at-in-Action.result
+    (sym c.in-Action.ensures) rows.left rows.entries c.write_names-in-Action.new.kept c.write_names-in-Action.result c.write_names-in-Action.ensures
 
 pub returns-in_default : goal.returns-in_default
 returns-in_default c =
-    let args = c.args in
-    other-all (step_fits (as_limits args.at.limits) (length args.work.now)) (dec_s (as_limits args.at.limits) args.schema.now)
-    args.at.limits.levels args.t.now c.requires.asked.good args.kept.now
-    c.in_default.in_default-own.rest
+    let s = c.args.schema.now in
+    let other = λ (k : Kind) (no : c.of.result ≡ k → ⊥) (e : kind c.args.t.now ≡ kind_number k). no (kind-same c.of.result k (c.of.ensures ∙ e)) in
+    other-all (step_fits (limits_in s) (length c.args.work.now)) (said_by s) _ c.args.t.now c.requires.asked.good c.args.kept.now
+    (other Entity c.in_default.not-Entity) (other Record c.in_default.not-Record) (other Action c.in_default.not-Action)

@@ -1,106 +1,49 @@
-use native.Mathlib.Omega.{arith}
-use Prim.Native.Nat.{ℕ}
-use mathlib.Core.Path.{refl, subst, ◌∙◌}
-use lib.ListN.{length}
-use Rattle.forms.specs.Limits.{as_limits}
+use Rattle.std.proofs.Common.{◌≡◌, arith, length}
 use Rattle.cedar.specs.Attribute.{lookup_names}
 use Rattle.cedar.specs.Calls.{step_fits}
-use Rattle.forms.specs.TypeBytes.{names_by}
+use Rattle.cedar.specs.Result.{err}
+use Rattle.forms.specs.Names.{names_in}
+use Rattle.schemas.specs.Schema.{limits_in, said_by}
 use Rattle.forms.specs.Laws.Parts.{length_rest}
-use Rattle.schemas.specs.SchemaBytes.{dec_s}
-use Rattle.lookups.specs.Lookup.{LookedUp}
-use Rattle.lookups.specs.Laws.Names.{kept_small, keeping_start, keeping-length, keeping-end, keeping-too-long, keeping-next}
+use Rattle.lookups.specs.Laws.Lookup.{looked-none, looked-some}
+use Rattle.lookups.specs.Laws.Names.{named-err, keeping_start, keeping-end, keeping-too-long, keeping-drops, keeping-room, keeping-keeps}
 use Rattle.lookups.proofs.all_attributes.kept_names.Goals as goal
 
-pub loop-left-init : goal.loop-left-init
-loop-left-init c =
-    let args = c.args in
-    let by-keeping-start = keeping_start (λ (a : ℕ). lookup_names (step_fits (as_limits args.at.limits) (length args.work.now)) (dec_s (as_limits
-    args.at.limits) args.schema.now)
-    a (names_by 2 args.n args.types.now)) args.m args.es.now args.kept.now c.requires.entered in
-    (by-keeping-start, refl, refl)
+pub loop-row-init : goal.loop-row-init
+loop-row-init c = keeping_start _ c.args.attributes c.args.kept.now c.requires.entered
 
-pub u16_at-name-requires : goal.u16_at-name-requires
-u16_at-name-requires c = omega (arith, c.loop-left.invariant.0.sized)
+pub returns-in_err-look_up_types : goal.returns-in_err-look_up_types
+returns-in_err-look_up_types c =
+    let s = c.args.schema.now in
+    let lim = limits_in s in
+    let told = lookup_names (step_fits lim (length c.loop-row.work)) (said_by s) c.u16_at-name.result (names_in c.args.types.now) in
+    let long : told ≡ err 9 = c.in_err-look_up_types.ensures in
+    named-err _ c.args.kept.now c.loop-row.kept c.from_residual.result c.from_residual.ensures.0
+    (keeping-too-long c.loop-row.invariant c.next.new.self c.in-Some.ensures c.u16_at-name.result c.u16_at-name.ensures.0
+    (rw c.loop-row.auto.work at long))
 
-pub look_up_types-found-requires : goal.look_up_types-found-requires
-look_up_types-found-requires c =
-    let loop = c.loop-left in
-    record { sectioned = c.requires.sectioned; named = c.requires.named; last_room = omega (arith, loop.invariant.2, c.requires.last_room) }
+pub loop-row-preserved-in_default-2 : goal.loop-row-preserved-in_default-2
+loop-row-preserved-in_default-2 c =
+    let s = c.args.schema.now in
+    let lim = limits_in s in
+    let told = lookup_names (step_fits lim (length c.loop-row.work)) (said_by s) c.u16_at-name.result (names_in c.args.types.now) in
+    let lacks = looked-none lim told c.look_up_types.new.last c.in_ok-look_up_types.field-0 c.in_ok-look_up_types.ensures c.in_default-2.is in
+    keeping-drops c.loop-row.invariant c.next.new.self c.in-Some.ensures c.u16_at-name.result c.u16_at-name.ensures.0
+    (rw c.loop-row.auto.work at lacks)
 
-pub returns-then-too_long : goal.returns-then-too_long
-returns-then-too_long c =
-    let too_long = c.too_long in
-    let look-up-types = c.look_up_types-found in
-    let u16-at = c.u16_at-name in
-    let loop-test = c.loop-left-test in
-    let loop = c.loop-left in
-    let args = c.args in
-    keeping-too-long loop.invariant.0 (as_limits args.at.limits) loop-test.true u16-at.result u16-at.ensures.0
-    look-up-types.new.last look-up-types.result
-    (subst (λ (w : ℕ).
-    LookedUp (as_limits args.at.limits) (lookup_names (step_fits (as_limits args.at.limits) w) (dec_s (as_limits args.at.limits)
-    args.schema.now) u16-at.result (names_by 2 args.n args.types.now))
-    look-up-types.new.last look-up-types.result) loop.invariant.1 look-up-types.ensures) too_long.result too_long.ensures
-    c.if-too_long.true
+pub put_name-requires : goal.put_name-requires
+put_name-requires c =
+    let room = keeping-room c.loop-row.invariant c.next.new.self c.in-Some.ensures c.u16_at-name.result c.u16_at-name.ensures.0 in
+    (omega (arith, length_rest c.loop-row.bytes c.loop-row.kept), c.u16_at-name.ensures.1)
 
-pub slice_bounds-keep_name-count : goal.slice_bounds-keep_name-count
-slice_bounds-keep_name-count c =
-    let loop = c.loop-left in
-    omega (arith, loop.invariant.0.room, keeping-length loop.invariant.0)
-
-pub slice_bounds-keep_name-start : goal.slice_bounds-keep_name-start
-slice_bounds-keep_name-start c = slice_bounds-keep_name-count c
-
-pub slice_bounds-keep_name-end : goal.slice_bounds-keep_name-end
-slice_bounds-keep_name-end c =
-    let loop = c.loop-left in
-    omega (arith, loop.invariant.0.room, keeping-length loop.invariant.0)
-
-pub keep_name-pos-requires : goal.keep_name-pos-requires
-keep_name-pos-requires c =
-    let u16-at = c.u16_at-name in
-    let loop = c.loop-left in
-    record { name_bound = u16-at.ensures.1; in_bounds = omega (arith, loop.invariant.0.room, keeping-length loop.invariant.0, length_rest loop.pos loop.kept) }
-
-pub overflow_add-pos : goal.overflow_add-pos
-overflow_add-pos c =
-    let keep-name = c.keep_name-pos in
-    let look-up-types = c.look_up_types-found in
-    let u16-at = c.u16_at-name in
-    let loop-test = c.loop-left-test in
-    let loop = c.loop-left in
-    omega (arith, loop.invariant.0.room, loop-test.true, c.requires.entered.size, keep-name.ensures.many, kept_small look-up-types.result u16-at.result)
-
-pub slice_bounds-e-count : goal.slice_bounds-e-count
-slice_bounds-e-count c =
-    let loop = c.loop-left in
-    omega (arith, loop.invariant.0.sized)
-
-pub slice_bounds-e-start : goal.slice_bounds-e-start
-slice_bounds-e-start c =
-    let loop = c.loop-left in
-    omega (arith, loop.invariant.0.sized)
-
-pub loop-left-preserved : goal.loop-left-preserved
-loop-left-preserved c =
-    let keep-name = c.keep_name-pos in
-    let if1 = c.if-too_long in
-    let too_long = c.too_long in
-    let look-up-types = c.look_up_types-found in
-    let u16-at = c.u16_at-name in
-    let loop-test = c.loop-left-test in
-    let loop = c.loop-left in
-    let args = c.args in
-    let by-keeping-next = keeping-next loop.invariant.0 (as_limits args.at.limits) loop-test.true u16-at.result u16-at.ensures.0
-    look-up-types.new.last
-    look-up-types.result
-    (subst (λ (w : ℕ).
-    LookedUp (as_limits args.at.limits) (lookup_names (step_fits (as_limits args.at.limits) w) (dec_s (as_limits args.at.limits)
-    args.schema.now) u16-at.result (names_by 2 args.n args.types.now))
-    look-up-types.new.last look-up-types.result) loop.invariant.1 look-up-types.ensures) too_long.result
-    too_long.ensures if1.false keep-name.new.out keep-name.result keep-name.ensures in
-    (by-keeping-next, look-up-types.auto.work ∙ loop.invariant.1, look-up-types.auto.last ∙ loop.invariant.2)
+pub loop-row-preserved : goal.loop-row-preserved
+loop-row-preserved c =
+    let s = c.args.schema.now in
+    let lim = limits_in s in
+    let told = lookup_names (step_fits lim (length c.loop-row.work)) (said_by s) c.u16_at-name.result (names_in c.args.types.now) in
+    let has = looked-some lim told c.look_up_types.new.last c.in_ok-look_up_types.field-0 c.in_ok-look_up_types.ensures c.in-Some-2.field-0 c.in-Some-2.is in
+    keeping-keeps c.loop-row.invariant c.next.new.self c.in-Some.ensures c.u16_at-name.result c.u16_at-name.ensures.0 _
+    (rw c.loop-row.auto.work at has) c.put_name.new.out c.put_name.ensures
 
 pub returns : goal.returns
-returns c = keeping-end c.loop-left.invariant.0 c.loop-left-test.false
+returns c = keeping-end c.loop-row.invariant c.in_default.ensures.none

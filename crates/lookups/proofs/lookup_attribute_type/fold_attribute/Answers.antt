@@ -1,142 +1,42 @@
-use Rattle.cedar.proofs.Laws.Limits.{allowed-levels}
-use Rattle.attributes.specs.Laws.EntityAttribute.{attribute-at}
-use Rattle.lookups.proofs.NotFound.{attribute-none}
-use Rattle.lookups.specs.Lookup.{below}
-use Rattle.lookups.specs.Laws.Lookup.{folding-start, folding-end, folding-lacks, folding-unbounded, folding-too-long, folding-next}
-use Rattle.folds.specs.Steps.{Stepped}
-use Rattle.cedar.specs.Types.{permissive}
-use Rattle.forms.specs.TypeBytes.{dec}
-use Rattle.forms.specs.Parts.{part}
-use Rattle.cedar.specs.Bound.{bound}
-use Rattle.forms.specs.Limits.{as_limits}
-use mathlib.Core.Path.{refl, subst, ◌∙◌}
-use Prim.Native.Nat.{ℕ, ◌-◌}
-use native.Mathlib.Omega.{arith}
+use Rattle.std.proofs.Common.{Bool, ◌&&◌, refl, ap, sym, ◌∙◌}
+use Rattle.forms.specs.Laws.NamesIn.{names-start}
+use Rattle.lookups.specs.Laws.Lookup.{attribute-none, folding-end, folding-lacks, folding-unbounded, folding-too-long, folding-next}
 use Rattle.lookups.proofs.lookup_attribute_type.fold_attribute.Goals as goal
+use Rattle.lookups.proofs.lookup_attribute_type.fold_attribute.Goals.{then-found, else-found}
 
-pub overflow_sub-parts : goal.overflow_sub-parts
-overflow_sub-parts c = omega (arith, (allowed-levels (as_limits c.args.at.limits) c.requires.sectioned.fair).0)
-
-pub loop-left-init : goal.loop-left-init
-loop-left-init c = (folding-start _ _ _ _ _ _ _ _ _ c.requires.held c.requires.named, refl, refl)
-
-pub u16_at-requires : goal.u16_at-requires
-u16_at-requires c = omega (arith, c.loop-left.invariant.0.ahead.sized)
-
-pub entity_attribute-requires : goal.entity_attribute-requires
-entity_attribute-requires c = c.requires.sectioned
+pub loop-entity-init : goal.loop-entity-init
+loop-entity-init c =
+    let items = c.chunks_exact-entity-items.ensures in
+    record { held = c.requires; ahead = names-start _ c.into_iter-entity-iterator.ensures.into_iter_gives items.rest items.size }
 
 pub returns-in_default : goal.returns-in_default
 returns-in_default c =
-    let entity-attribute = c.entity_attribute in
-    let u16-at = c.u16_at in
-    let loop-test = c.loop-left-test in
-    let loop = c.loop-left in
-    let args = c.args in
-    let attribute-none-schema = attribute-none (as_limits args.at.limits) args.schema.now u16-at.result args.name entity-attribute.result
-    entity-attribute.ensures
-    c.in_default.not-At in
-    folding-lacks loop.invariant.0 loop-test.true u16-at.result u16-at.ensures.0 attribute-none-schema
-
-pub slice_bounds-t-count : goal.slice_bounds-t-count
-slice_bounds-t-count c =
-    let entity-attribute = c.entity_attribute in
-    let u16-at = c.u16_at in
-    let args = c.args in
-    let here = attribute-at (as_limits args.at.limits) args.schema.now u16-at.result args.name entity-attribute.result
-    entity-attribute.ensures c.in-At.start
-    c.in-At.end c.in-At.also c.in-At.is in
-    omega (arith, here.0.0, here.0.1)
-
-pub slice_bounds-t-start : goal.slice_bounds-t-start
-slice_bounds-t-start c = slice_bounds-t-count c
-
-pub slice_bounds-t-end : goal.slice_bounds-t-end
-slice_bounds-t-end c =
-    let entity-attribute = c.entity_attribute in
-    let u16-at = c.u16_at in
-    let args = c.args in
-    let here = attribute-at (as_limits args.at.limits) args.schema.now u16-at.result args.name entity-attribute.result
-    entity-attribute.ensures c.in-At.start
-    c.in-At.end c.in-At.also c.in-At.is in
-    omega (arith, here.0.0, here.0.1)
-
-pub join_step-requires : goal.join_step-requires
-join_step-requires c =
-    let entity-attribute = c.entity_attribute in
-    let u16-at = c.u16_at in
-    let loop = c.loop-left in
-    let args = c.args in
-    let here = attribute-at (as_limits args.at.limits) args.schema.now u16-at.result args.name entity-attribute.result
-    entity-attribute.ensures c.in-At.start
-    c.in-At.end c.in-At.also c.in-At.is in
-    record { held = loop.invariant.0.held; t_whole = here.0.2 }
+    let s = c.in-Some.ensures.steps in
+    folding-lacks c.loop-entity.invariant _ _ s.1.0 s.1.1 c.u16_at.result c.u16_at.ensures.0
+    (attribute-none c.args.schema.now c.u16_at.result c.args.name c.entity_attribute.result c.entity_attribute.ensures c.in_default.not-Found)
 
 pub returns-in-Not : goal.returns-in-Not
 returns-in-Not c =
-    let join_step = c.join_step in
-    let entity-attribute = c.entity_attribute in
-    let u16-at = c.u16_at in
-    let loop-test = c.loop-left-test in
-    let loop = c.loop-left in
-    let args = c.args in
-    let here = attribute-at (as_limits args.at.limits) args.schema.now u16-at.result args.name entity-attribute.result
-    entity-attribute.ensures c.in-At.start
-    c.in-At.end c.in-At.also c.in-At.is in
-    let part-given = part c.in-At.start c.in-At.end args.schema.now in
-    folding-unbounded loop.invariant.0 loop-test.true u16-at.result u16-at.ensures.0 c.in-At.also part-given here.0.3
-    join_step.new.last join_step.result
-    (subst (λ (w : ℕ). Stepped (below (as_limits args.at.limits)) (bound permissive (dec (args.at.limits.levels - 1) (part 0 loop.len
-    loop.last)) (dec (args.at.limits.levels - 1) part-given)) w join_step.new.last
-    join_step.result) loop.invariant.1 join_step.ensures) c.in-Not.field-0 c.in-Not.is
+    let s = c.in-Some.ensures.steps in
+    folding-unbounded c.loop-entity.invariant _ _ s.1.0 s.1.1 c.u16_at.result c.u16_at.ensures.0 c.in-Found.attribute.required
+    c.in-Found.attribute.form.now c.in-Found.ensures.is c.join_step.new.last c.join_step.result (rw c.loop-entity.auto.work at c.join_step.ensures) _ c.in-Not.is
 
 pub returns-in-TooLong : goal.returns-in-TooLong
 returns-in-TooLong c =
-    let join_step = c.join_step in
-    let entity-attribute = c.entity_attribute in
-    let u16-at = c.u16_at in
-    let loop-test = c.loop-left-test in
-    let loop = c.loop-left in
-    let args = c.args in
-    let here = attribute-at (as_limits args.at.limits) args.schema.now u16-at.result args.name entity-attribute.result
-    entity-attribute.ensures c.in-At.start
-    c.in-At.end c.in-At.also c.in-At.is in
-    let part-given = part c.in-At.start c.in-At.end args.schema.now in
-    folding-too-long loop.invariant.0 loop-test.true u16-at.result u16-at.ensures.0 c.in-At.also part-given here.0.3
-    join_step.new.last join_step.result
-    (subst (λ (w : ℕ). Stepped (below (as_limits args.at.limits)) (bound permissive (dec (args.at.limits.levels - 1) (part 0 loop.len
-    loop.last)) (dec (args.at.limits.levels - 1) part-given)) w join_step.new.last
-    join_step.result) loop.invariant.1 join_step.ensures) c.in-TooLong.is
+    let s = c.in-Some.ensures.steps in
+    folding-too-long c.loop-entity.invariant _ _ s.1.0 s.1.1 c.u16_at.result c.u16_at.ensures.0 c.in-Found.attribute.required
+    c.in-Found.attribute.form.now c.in-Found.ensures.is c.join_step.new.last c.join_step.result (rw c.loop-entity.auto.work at c.join_step.ensures) c.in-TooLong.is
 
-pub slice_bounds-e-count : goal.slice_bounds-e-count
-slice_bounds-e-count c =
-    let loop = c.loop-left in
-    omega (arith, loop.invariant.0.ahead.sized)
-
-pub slice_bounds-e-start : goal.slice_bounds-e-start
-slice_bounds-e-start c =
-    let loop = c.loop-left in
-    omega (arith, loop.invariant.0.ahead.sized)
-
-pub loop-left-preserved : goal.loop-left-preserved
-loop-left-preserved c =
-    let both = c.both-required in
-    let join_step = c.join_step in
-    let entity-attribute = c.entity_attribute in
-    let u16-at = c.u16_at in
-    let loop-test = c.loop-left-test in
-    let loop = c.loop-left in
-    let args = c.args in
-    let here = attribute-at (as_limits args.at.limits) args.schema.now u16-at.result args.name entity-attribute.result
-    entity-attribute.ensures c.in-At.start
-    c.in-At.end c.in-At.also c.in-At.is in
-    let part-given = part c.in-At.start c.in-At.end args.schema.now in
-    let by-folding-next = folding-next loop.invariant.0 loop-test.true u16-at.result u16-at.ensures.0 c.in-At.also
-    part-given here.0.3 join_step.new.last join_step.result
-    (subst (λ (w : ℕ). Stepped (below (as_limits args.at.limits)) (bound permissive (dec (args.at.limits.levels - 1) (part 0 loop.len
-    loop.last)) (dec (args.at.limits.levels - 1) part-given)) w join_step.new.last
-    join_step.result) loop.invariant.1 join_step.ensures) c.in-To.m c.in-To.is both.result both.ensures in
-    (by-folding-next, join_step.auto.work ∙ loop.invariant.1, join_step.auto.last ∙ loop.invariant.2)
+pub loop-entity-preserved : goal.loop-entity-preserved
+loop-entity-preserved c =
+    let s = c.in-Some.ensures.steps in
+    folding-next c.loop-entity.invariant _ _ s.1.0 s.1.1 c.u16_at.result c.u16_at.ensures.0 c.in-Found.attribute.required
+    c.in-Found.attribute.form.now c.in-Found.ensures.is c.join_step.new.last c.join_step.result (rw c.loop-entity.auto.work at c.join_step.ensures) c.in-To.n c.in-To.is
+    c.next.new.self s.0 refl _ refl
+    (elim c.if-found.branch [
+      | then-found w ↦ w.found-is ∙ sym (ap (λ (b : Bool). b && c.in-Found.attribute.required) w.if-found.true)
+      | else-found w ↦ w.found-is ∙ w.if-found.false ∙ sym (ap (λ (b : Bool). b && c.in-Found.attribute.required) w.if-found.false)
+    ])
 
 pub returns : goal.returns
-returns c = folding-end c.loop-left.invariant.0 c.loop-left-test.false
+returns c = folding-end c.loop-entity.invariant c.in-None.ensures.steps.1.0

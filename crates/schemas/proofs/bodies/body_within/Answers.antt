@@ -1,3 +1,4 @@
+use Rattle.std.proofs.Common.{not, ap, ◌∙◌}
 use Rattle.forms.specs.Limits.{as_limits}
 use native.Mathlib.Omega.{arith}
 use Rattle.schemas.specs.Laws.Bodies.{body-unfit, body-some, body-other, body-two, body_closed, body_open}
@@ -29,14 +30,13 @@ bounds-b-1 c =
     c.if-b-ne-RECORD.false in
     omega (arith, by-body-two)
 
-pub returns-then-closed : goal.returns-then-closed
-returns-then-closed c =
-    body_closed (as_limits c.args.limits) c.args.b.now c.whole_type.result c.whole_type.ensures
-    c.if-not-whole_type.false-raw
-    c.if-b-ne-RECORD.false c.args.closed c.if-closed.true
+pub returns-then-not-closed : goal.returns-then-not-closed
+returns-then-not-closed c =
+    ap not c.if-not-closed.true
+    ∙ body_open (as_limits c.args.limits) c.args.b.now c.whole_type.result c.whole_type.ensures c.if-not-whole_type.false-raw
+    c.if-b-ne-RECORD.false c.args.closed c.if-not-closed.true
 
-pub returns : goal.returns
-returns c =
-    body_open (as_limits c.args.limits) c.args.b.now c.whole_type.result c.whole_type.ensures
-    c.if-not-whole_type.false-raw
-    c.if-b-ne-RECORD.false c.args.closed c.if-closed.false
+pub returns-else-not-closed : goal.returns-else-not-closed
+returns-else-not-closed c =
+    body_closed (as_limits c.args.limits) c.args.b.now c.whole_type.result c.whole_type.ensures c.if-not-whole_type.false-raw
+    c.if-b-ne-RECORD.false c.args.closed c.if-not-closed.false

@@ -18,7 +18,6 @@ returns-then-not-whole_type c =
 pub all_names-requires : goal.all_names-requires
 all_names-requires c =
     let args = c.args in record {
-      sectioned = c.requires.sectioned;
       asked = record {
         good = type-whole (as_limits args.at.limits) args.t.now c.whole_type.result c.whole_type.ensures
             c.if-not-whole_type.false-raw;
@@ -37,7 +36,7 @@ returns-in_default c =
     c.if-not-whole_type.false-raw in
     names-too-long (as_limits args.at.limits) c.requires.sectioned.fair args.schema.now args.t.now args.out.now (length
     args.work.now) _ by-checked-there _ by-type-there _
-    c.all_names.new.kept c.all_names.result c.all_names.ensures c.in_default.is
+    c.all_names.new.kept c.all_names.result c.all_names.ensures _ c.in_default.is
 
 pub returns-then-not-answer_fits : goal.returns-then-not-answer_fits
 returns-then-not-answer_fits c =
@@ -47,7 +46,7 @@ returns-then-not-answer_fits c =
     c.if-not-whole_type.false-raw in
     names-over (as_limits args.at.limits) c.requires.sectioned.fair args.schema.now args.t.now args.out.now (length
     args.work.now) _ by-checked-there _ by-type-there _
-    c.all_names.new.kept c.all_names.result c.all_names.ensures c.in-Of.n c.in-Of.is
+    c.all_names.new.kept c.all_names.result c.all_names.ensures c.in-Ok.n c.in-Ok.is
     c.answer_fits.result c.answer_fits.ensures c.if-not-answer_fits.true-raw
 
 pub slice_bounds-copy-end : goal.slice_bounds-copy-end
@@ -60,7 +59,7 @@ slice_bounds-copy-end c =
       arith,
       names-small (as_limits args.at.limits) c.requires.sectioned.fair args.schema.now args.t.now args.out.now (length
           args.work.now) _ by-checked-there _ by-type-there _
-          c.all_names.new.kept c.all_names.result c.all_names.ensures c.in-Of.n c.in-Of.is
+          c.all_names.new.kept c.all_names.result c.all_names.ensures c.in-Ok.n c.in-Ok.is
           c.answer_fits.result c.answer_fits.ensures c.if-not-answer_fits.false-raw,
       c.all_names.auto.kept,
     )
@@ -73,7 +72,7 @@ copy-requires c =
     c.if-not-whole_type.false-raw in
     names-fit (as_limits args.at.limits) c.requires.sectioned.fair args.schema.now args.t.now args.out.now (length
     args.work.now) _ by-checked-there _ by-type-there _
-    c.all_names.new.kept c.all_names.result c.all_names.ensures c.in-Of.n c.in-Of.is
+    c.all_names.new.kept c.all_names.result c.all_names.ensures c.in-Ok.n c.in-Ok.is
     c.answer_fits.result c.answer_fits.ensures c.if-not-answer_fits.false-raw
 
 pub returns : goal.returns
@@ -84,5 +83,5 @@ returns c =
     c.if-not-whole_type.false-raw in
     names-write (as_limits args.at.limits) c.requires.sectioned.fair args.schema.now args.t.now args.out.now (length
     args.work.now) _ by-checked-there _ by-type-there _
-    c.all_names.new.kept c.all_names.result c.all_names.ensures c.in-Of.n c.in-Of.is
+    c.all_names.new.kept c.all_names.result c.all_names.ensures c.in-Ok.n c.in-Ok.is
     c.answer_fits.result c.answer_fits.ensures c.if-not-answer_fits.false-raw c.copy.new.out c.copy.ensures

@@ -30,67 +30,55 @@ u16_at-requires c =
           c.if-not-whole_uid.false-raw).0,
     )
 
-pub find_literal-found-requires : goal.find_literal-found-requires
-find_literal-found-requires c = c.requires
-
-pub literal_length-n-requires : goal.literal_length-n-requires
-literal_length-n-requires c = c.find_literal-found.ensures.laid
-
-pub returns-then-n-eq0 : goal.returns-then-n-eq0
-returns-then-n-eq0 c =
+pub returns-in_default : goal.returns-in_default
+returns-in_default c =
     let args = c.args in
-    let by-uid-read = uid-read (as_limits args.at.limits) args.v.now c.whole_uid.result c.whole_uid.ensures
-    c.if-not-whole_uid.false-raw c.u16_at-entity.result
-    c.u16_at.result c.u16_at-entity.ensures.0 c.u16_at.ensures.0 in
-    let by-checked-there = sectioned-there args.schema.now args.at c.requires in
-    let by-Bytes-index = Bytes-index args.schema.now (λ i. omega (arith, c.type_inv.schema i)) in
-    literal-nothing (as_limits args.at.limits) c.requires.fair args.schema.now args.v.now args.out.now by-checked-there
-    c.u16_at-entity.result c.u16_at.result
-    by-uid-read c.find_literal-found.result c.find_literal-found.ensures by-Bytes-index c.literal_length-n.result
-    c.literal_length-n.ensures c.if-n-eq0.true
+    let uid = uid-read (as_limits args.at.limits) args.v.now c.whole_uid.result c.whole_uid.ensures c.if-not-whole_uid.false-raw
+    c.u16_at-entity.result c.u16_at.result c.u16_at-entity.ensures.0 c.u16_at.ensures.0 in
+    let there = sectioned-there args.schema.now args.at c.requires in
+    literal-nothing (as_limits args.at.limits) c.requires.fair args.schema.now args.v.now args.out.now there c.u16_at-entity.result c.u16_at.result uid
+    c.in_default.ensures
+
+pub length-n-requires : goal.length-n-requires
+length-n-requires c = c.in-Some.ensures.laid
 
 pub returns-then-not-answer_fits : goal.returns-then-not-answer_fits
 returns-then-not-answer_fits c =
     let args = c.args in
-    let by-uid-read = uid-read (as_limits args.at.limits) args.v.now c.whole_uid.result c.whole_uid.ensures
-    c.if-not-whole_uid.false-raw c.u16_at-entity.result
-    c.u16_at.result c.u16_at-entity.ensures.0 c.u16_at.ensures.0 in
-    let by-checked-there = sectioned-there args.schema.now args.at c.requires in
-    let by-Bytes-index = Bytes-index args.schema.now (λ i. omega (arith, c.type_inv.schema i)) in
-    literal-over (as_limits args.at.limits) c.requires.fair args.schema.now args.v.now args.out.now by-checked-there
-    c.u16_at-entity.result c.u16_at.result
-    by-uid-read c.find_literal-found.result c.find_literal-found.ensures by-Bytes-index c.literal_length-n.result
-    c.literal_length-n.ensures c.if-n-eq0.false c.answer_fits.result c.answer_fits.ensures c.if-not-answer_fits.true-raw
+    let uid = uid-read (as_limits args.at.limits) args.v.now c.whole_uid.result c.whole_uid.ensures c.if-not-whole_uid.false-raw
+    c.u16_at-entity.result c.u16_at.result c.u16_at-entity.ensures.0 c.u16_at.ensures.0 in
+    let there = sectioned-there args.schema.now args.at c.requires in
+    let x = c.in-Some.ensures in
+    let bytes = x.bytes (Bytes-index args.schema.now (λ i. omega (arith, c.type_inv.schema i))) in
+    literal-over (as_limits args.at.limits) c.requires.fair args.schema.now args.v.now args.out.now there c.u16_at-entity.result c.u16_at.result uid
+    c.in-Some.found x.is x.stands x.laid bytes c.length-n.result c.length-n.ensures c.answer_fits.result c.answer_fits.ensures
+    c.if-not-answer_fits.true-raw
 
-pub write_literal-requires : goal.write_literal-requires
-write_literal-requires c =
+pub write-requires : goal.write-requires
+write-requires c =
     let args = c.args in
-    let by-uid-read = uid-read (as_limits args.at.limits) args.v.now c.whole_uid.result c.whole_uid.ensures
-    c.if-not-whole_uid.false-raw c.u16_at-entity.result
-    c.u16_at.result c.u16_at-entity.ensures.0 c.u16_at.ensures.0 in
-    let by-checked-there = sectioned-there args.schema.now args.at c.requires in
-    let by-Bytes-index = Bytes-index args.schema.now (λ i. omega (arith, c.type_inv.schema i)) in
-    let by-literal-room = literal-room (as_limits args.at.limits) c.requires.fair args.schema.now args.v.now
-    args.out.now by-checked-there c.u16_at-entity.result c.u16_at.result
-    by-uid-read c.find_literal-found.result c.find_literal-found.ensures by-Bytes-index c.literal_length-n.result
-    c.literal_length-n.ensures c.if-n-eq0.false c.answer_fits.result c.answer_fits.ensures
+    let uid = uid-read (as_limits args.at.limits) args.v.now c.whole_uid.result c.whole_uid.ensures c.if-not-whole_uid.false-raw
+    c.u16_at-entity.result c.u16_at.result c.u16_at-entity.ensures.0 c.u16_at.ensures.0 in
+    let there = sectioned-there args.schema.now args.at c.requires in
+    let x = c.in-Some.ensures in
+    let bytes = x.bytes (Bytes-index args.schema.now (λ i. omega (arith, c.type_inv.schema i))) in
+    let room =
+    literal-room (as_limits args.at.limits) c.requires.fair args.schema.now args.v.now args.out.now there c.u16_at-entity.result c.u16_at.result uid
+    c.in-Some.found x.is x.stands x.laid bytes c.length-n.result c.length-n.ensures c.answer_fits.result c.answer_fits.ensures
     c.if-not-answer_fits.false-raw in
-    record { laid = c.find_literal-found.ensures.laid; entity_bound = c.u16_at-entity.ensures.1; found_in_bounds = by-literal-room }
+    record { laid = x.laid; entity_bound = c.u16_at-entity.ensures.1; in_bounds = room }
 
-pub literal_levels-requires : goal.literal_levels-requires
-literal_levels-requires c = c.find_literal-found.ensures.stands
+pub levels-requires : goal.levels-requires
+levels-requires c = c.in-Some.ensures.stands
 
 pub returns : goal.returns
 returns c =
     let args = c.args in
-    let by-uid-read = uid-read (as_limits args.at.limits) args.v.now c.whole_uid.result c.whole_uid.ensures
-    c.if-not-whole_uid.false-raw c.u16_at-entity.result
-    c.u16_at.result c.u16_at-entity.ensures.0 c.u16_at.ensures.0 in
-    let by-checked-there = sectioned-there args.schema.now args.at c.requires in
-    let by-Bytes-index = Bytes-index args.schema.now (λ i. omega (arith, c.type_inv.schema i)) in
-    literal-writes (as_limits args.at.limits) c.requires.fair args.schema.now args.v.now args.out.now by-checked-there
-    c.u16_at-entity.result c.u16_at.result
-    by-uid-read c.find_literal-found.result c.find_literal-found.ensures by-Bytes-index c.literal_length-n.result
-    c.literal_length-n.ensures c.if-n-eq0.false c.answer_fits.result c.answer_fits.ensures
-    c.if-not-answer_fits.false-raw c.write_literal.new.out c.write_literal.ensures c.literal_levels.result
-    c.literal_levels.ensures
+    let uid = uid-read (as_limits args.at.limits) args.v.now c.whole_uid.result c.whole_uid.ensures c.if-not-whole_uid.false-raw
+    c.u16_at-entity.result c.u16_at.result c.u16_at-entity.ensures.0 c.u16_at.ensures.0 in
+    let there = sectioned-there args.schema.now args.at c.requires in
+    let x = c.in-Some.ensures in
+    let bytes = x.bytes (Bytes-index args.schema.now (λ i. omega (arith, c.type_inv.schema i))) in
+    literal-writes (as_limits args.at.limits) c.requires.fair args.schema.now args.v.now args.out.now there c.u16_at-entity.result c.u16_at.result uid
+    c.in-Some.found x.is x.stands x.laid bytes c.length-n.result c.length-n.ensures c.answer_fits.result c.answer_fits.ensures
+    c.if-not-answer_fits.false-raw c.write.new.out c.write.ensures c.levels.result c.levels.ensures

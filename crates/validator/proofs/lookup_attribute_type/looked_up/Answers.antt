@@ -1,3 +1,5 @@
+use Rattle.std.proofs.Common.{ap, ◌∙◌}
+use Rattle.std.specs.Prelude.{Ok}
 use Rattle.forms.specs.Limits.{as_limits}
 use Rattle.cedar.proofs.Laws.Limits.{allowed-levels}
 use Rattle.validator.specs.Laws.Lookup.{lookup-whole, small, lookup-no-type, lookup-nothing, lookup-too-long, lookup-over, lookup-room, lookup-writes}
@@ -18,15 +20,11 @@ returns-then-not-whole_type c =
 
 pub look_up-requires : goal.look_up-requires
 look_up-requires c =
-    let args = c.args in record {
-      sectioned = c.requires.sectioned;
-      asked = record {
-        good = type-whole (as_limits args.at.limits) args.t.now c.whole_type.result c.whole_type.ensures
-            c.if-not-whole_type.false-raw;
-        few = type-few (as_limits args.at.limits) args.t.now c.whole_type.result c.whole_type.ensures
-            c.if-not-whole_type.false-raw;
-        room = c.requires.last_room;
-      };
+    let args = c.args in
+    record {
+      good = type-whole (as_limits args.at.limits) args.t.now c.whole_type.result c.whole_type.ensures c.if-not-whole_type.false-raw;
+      few = type-few (as_limits args.at.limits) args.t.now c.whole_type.result c.whole_type.ensures c.if-not-whole_type.false-raw;
+      room = c.requires.last_room;
     }
 
 pub returns-then-not-answer_fits : goal.returns-then-not-answer_fits
@@ -37,8 +35,7 @@ returns-then-not-answer_fits c =
     c.if-not-whole_type.false-raw in
     lookup-over (as_limits args.at.limits) c.requires.sectioned.fair args.schema.now args.attr args.t.now args.out.now (length
     args.work.now) _ by-checked-there _ by-type-there
-    c.look_up.new.last c.look_up.result c.look_up.ensures c.in-Found.required
-    c.in-Found.n c.in-Found.is (omega (arith, c.look_up.auto.last, c.requires.last_room))
+    c.look_up.new.last c.look_up.result c.look_up.ensures c.in-Some.found (c.in-Ok.is ∙ ap Ok c.in-Some.is) (omega (arith, c.look_up.auto.last, c.requires.last_room))
     c.answer_fits.result
     c.answer_fits.ensures c.if-not-answer_fits.true-raw
 
@@ -52,8 +49,7 @@ slice_bounds-form-end c =
       arith,
       small (as_limits args.at.limits) c.requires.sectioned.fair args.schema.now args.attr args.t.now args.out.now (length
           args.work.now) _ by-checked-there _ by-type-there
-          c.look_up.new.last c.look_up.result c.look_up.ensures c.in-Found.required
-          c.in-Found.n c.in-Found.is (omega (arith, c.look_up.auto.last, c.requires.last_room)),
+          c.look_up.new.last c.look_up.result c.look_up.ensures c.in-Some.found (c.in-Ok.is ∙ ap Ok c.in-Some.is) (omega (arith, c.look_up.auto.last, c.requires.last_room)),
       c.look_up.auto.last,
     )
 
@@ -65,8 +61,7 @@ copy-requires c =
     c.if-not-whole_type.false-raw in
     lookup-room (as_limits args.at.limits) c.requires.sectioned.fair args.schema.now args.attr args.t.now args.out.now (length
     args.work.now) _ by-checked-there _ by-type-there
-    c.look_up.new.last c.look_up.result c.look_up.ensures c.in-Found.required
-    c.in-Found.n c.in-Found.is (omega (arith, c.look_up.auto.last, c.requires.last_room))
+    c.look_up.new.last c.look_up.result c.look_up.ensures c.in-Some.found (c.in-Ok.is ∙ ap Ok c.in-Some.is) (omega (arith, c.look_up.auto.last, c.requires.last_room))
     c.answer_fits.result
     c.answer_fits.ensures c.if-not-answer_fits.false-raw
 
@@ -81,39 +76,37 @@ type_levels-requires c =
     c.if-not-whole_type.false-raw in
     lookup-whole (as_limits args.at.limits) c.requires.sectioned.fair args.schema.now args.attr args.t.now args.out.now (length
     args.work.now) _ by-checked-there _ by-type-there
-    c.look_up.new.last c.look_up.result c.look_up.ensures c.in-Found.required
-    c.in-Found.n c.in-Found.is (omega (arith, c.look_up.auto.last, c.requires.last_room))
+    c.look_up.new.last c.look_up.result c.look_up.ensures c.in-Some.found (c.in-Ok.is ∙ ap Ok c.in-Some.is) (omega (arith, c.look_up.auto.last, c.requires.last_room))
 
-pub returns-else-not-answer_fits : goal.returns-else-not-answer_fits
-returns-else-not-answer_fits c =
+pub returns : goal.returns
+returns c =
     let args = c.args in
     let by-checked-there = sectioned-there args.schema.now args.at c.requires.sectioned in
     let by-type-there = type-there (as_limits args.at.limits) args.t.now c.whole_type.result c.whole_type.ensures
     c.if-not-whole_type.false-raw in
     lookup-writes (as_limits args.at.limits) c.requires.sectioned.fair args.schema.now args.attr args.t.now args.out.now (length
     args.work.now) _ by-checked-there _ by-type-there
-    c.look_up.new.last c.look_up.result c.look_up.ensures c.in-Found.required
-    c.in-Found.n c.in-Found.is (omega (arith, c.look_up.auto.last, c.requires.last_room))
+    c.look_up.new.last c.look_up.result c.look_up.ensures c.in-Some.found (c.in-Ok.is ∙ ap Ok c.in-Some.is) (omega (arith, c.look_up.auto.last, c.requires.last_room))
     c.answer_fits.result
     c.answer_fits.ensures c.if-not-answer_fits.false-raw c.copy.new.out c.copy.ensures
     c.type_levels.result c.type_levels.ensures
 
-pub returns-in-Nothing : goal.returns-in-Nothing
-returns-in-Nothing c =
+pub returns-in_default-looked : goal.returns-in_default-looked
+returns-in_default-looked c =
     let args = c.args in
     let by-checked-there = sectioned-there args.schema.now args.at c.requires.sectioned in
     let by-type-there = type-there (as_limits args.at.limits) args.t.now c.whole_type.result c.whole_type.ensures
     c.if-not-whole_type.false-raw in
     lookup-nothing (as_limits args.at.limits) c.requires.sectioned.fair args.schema.now args.attr args.t.now args.out.now (length
     args.work.now) _ by-checked-there _ by-type-there
-    c.look_up.new.last c.look_up.result c.look_up.ensures c.in-Nothing.is
+    c.look_up.new.last c.look_up.result c.look_up.ensures (c.in-Ok.is ∙ ap Ok c.in_default-looked.is)
 
-pub returns-in-TooLong : goal.returns-in-TooLong
-returns-in-TooLong c =
+pub returns-in_default : goal.returns-in_default
+returns-in_default c =
     let args = c.args in
     let by-checked-there = sectioned-there args.schema.now args.at c.requires.sectioned in
     let by-type-there = type-there (as_limits args.at.limits) args.t.now c.whole_type.result c.whole_type.ensures
     c.if-not-whole_type.false-raw in
     lookup-too-long (as_limits args.at.limits) c.requires.sectioned.fair args.schema.now args.attr args.t.now args.out.now (length
     args.work.now) _ by-checked-there _ by-type-there
-    c.look_up.new.last c.look_up.result c.look_up.ensures c.in-TooLong.is
+    c.look_up.new.last c.look_up.result c.look_up.ensures _ c.in_default.is

@@ -15,7 +15,7 @@ returns-then-not-whole_type c =
 pub may_have_attr-requires : goal.may_have_attr-requires
 may_have_attr-requires c =
     let args = c.args in
-    record { sectioned = c.requires; t_whole = type-whole (as_limits args.at.limits) args.t.now c.whole_type.result c.whole_type.ensures c.if-not-whole_type.false-raw }
+    type-whole (as_limits args.at.limits) args.t.now c.whole_type.result c.whole_type.ensures c.if-not-whole_type.false-raw
 
 pub returns : goal.returns
 returns c =

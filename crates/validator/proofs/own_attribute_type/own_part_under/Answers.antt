@@ -1,3 +1,4 @@
+use Rattle.std.proofs.Common.{arith}
 use Rattle.forms.specs.Limits.{as_limits}
 use Prim.Native.Nat.{◌-◌}
 use Rattle.cedar.specs.Attribute.{own_attr}
@@ -27,8 +28,7 @@ returns-in_default c =
     let whole = type-there (as_limits args.at.limits) args.t.now c.whole_type.result c.whole_type.ensures
     c.if-not-whole_type.false-raw in
     let lacks = place_none (args.at.limits.levels - 1) args.t.now (own_attr args.attr (dec args.at.limits.levels args.t.now))
-    c.own_attribute.result c.in_default.is
-    c.own_attribute.ensures.placed in
+    c.own_attribute.result c.own_attribute.ensures.placed c.in_default.is in
     part-nothing (as_limits args.at.limits) c.requires.fair args.schema.now args.attr args.t.now _ there _ whole lacks
 
 pub returns : goal.returns
@@ -37,9 +37,11 @@ returns c =
     let there = sectioned-there args.schema.now args.at c.requires in
     let whole = type-there (as_limits args.at.limits) args.t.now c.whole_type.result c.whole_type.ensures
     c.if-not-whole_type.false-raw in
-    let placed = placed_at (args.at.limits.levels - 1) args.t.now (own_attr args.attr (dec args.at.limits.levels args.t.now))
-    c.own_attribute.result c.in-At.start c.in-At.end c.in-At.required c.in-At.is
-    c.own_attribute.ensures.placed in
-    part_at (as_limits args.at.limits) c.requires.fair args.schema.now args.attr args.t.now _ there _ whole c.in-At.required _ placed.3
-    c.own_attribute.result c.in-At.start c.in-At.end c.in-At.is
-    c.own_attribute.ensures.spanned
+    let placed = placed_at c.own_attribute.result c.own_attribute.ensures.placed c.in-Some.part c.in-Some.is in
+    part_at (as_limits args.at.limits) c.requires.fair args.schema.now args.attr args.t.now _ there _ whole _ c.own_attribute.result c.in-Some.part
+    placed.is c.in-Some.is c.own_attribute.ensures.spanned
+
+pub overflow_add-result : goal.overflow_add-result
+overflow_add-result c =
+    let placed = placed_at c.own_attribute.result c.own_attribute.ensures.placed c.in-Some.part c.in-Some.is in
+    omega (arith, placed.inside)

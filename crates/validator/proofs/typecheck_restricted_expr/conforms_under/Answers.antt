@@ -50,7 +50,7 @@ pub conforms-said-requires : goal.conforms-said-requires
 conforms-said-requires c =
     let w = c.whole_value in
     let z = c.whole_type in
-    let s = c.args in record { sectioned = c.requires; t_whole = type-whole (as_limits s.at.limits) s.t.now z.result z.ensures c.if-not-whole_type.false-raw; v_whole = value-whole (as_limits s.at.limits) s.v.now w.result w.ensures c.if-not-whole_value.false-raw }
+    let s = c.args in record { t_whole = type-whole (as_limits s.at.limits) s.t.now z.result z.ensures c.if-not-whole_type.false-raw; v_whole = value-whole (as_limits s.at.limits) s.v.now w.result w.ensures c.if-not-whole_value.false-raw }
 
 pub returns-in-Holds : goal.returns-in-Holds
 returns-in-Holds c =

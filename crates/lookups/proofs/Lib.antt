@@ -1,2 +1,0 @@
--- What several proofs cite.
-mod NotFound
