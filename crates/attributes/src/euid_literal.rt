@@ -63,7 +63,7 @@ impl<'a> Literal<'a> {
     {
         match self {
             Literal::Action(body) => {
-                put_kind(out, Kind::ACTION, entity);
+                put_kind(out, Kind::Action, entity);
                 copy(
                     &body[Offset::RECORD_COUNT..],
                     &mut out[Offset::ACTION_COUNT..],

@@ -1,53 +1,55 @@
 // Two types of which no part is joined: their bound goes by their kinds.
 ghost use Rattle.std.specs.Prelude.{◌≡◌};
+ghost use Rattle.forms.specs.Kinds.{kind_number};
 ghost use Rattle.forms.specs.Modes.{as_mode};
-ghost use Rattle.bound_lengths.specs.Kinds.{both_in, unlike, joined_of};
+ghost use Rattle.bound_lengths.specs.Kinds.{is_in, unlike, seen_kind, joined_of};
 
 use forms::kinds::Kind;
 use forms::modes::Mode;
 use forms::refusals::Refusal;
 
-// The kind of a bound that has one byte, or the number of a refusal.
-#[derive(Clone, Copy)]
-pub enum Joined {
-    Kind(u8),
-    Not(u8),
+fn is_boolean(kind: Kind) -> bool
+    ensures { result ≡ is_in 1 3 (kind_number kind) }
+{
+    matches!(kind, Kind::True | Kind::False | Kind::Bool)
 }
 
-// Whether both kinds are from low to high.
-fn both_in(low: u8, high: u8, j: u8, k: u8) -> bool
-    ensures { result ≡ both_in low high j k }
+fn is_set(kind: Kind) -> bool
+    ensures { result ≡ is_in 6 7 (kind_number kind) }
 {
-    if j < low {
-        return false;
-    }
-    if high < j {
-        return false;
-    }
-    if k < low {
-        return false;
-    }
-    k <= high
+    matches!(kind, Kind::AnySet | Kind::Set)
 }
 
-// The bound of two unlike kinds, neither of them Never.
-pub fn unlike_kinds(mode: Mode, j: u8, k: u8) -> Joined
-    ensures { result ≡ joined_of (unlike (as_mode mode) j k) }
+fn is_entity(kind: Kind) -> bool
+    ensures { result ≡ is_in 9 11 (kind_number kind) }
 {
-    if both_in(Kind::TRUE, Kind::BOOL, j, k) {
-        return Joined::Kind(Kind::BOOL);
+    matches!(kind, Kind::AnyEntity | Kind::Entity | Kind::Action)
+}
+
+fn is_record_or_entity(kind: Kind) -> bool
+    ensures { result ≡ is_in 8 11 (kind_number kind) }
+{
+    kind == Kind::Record || is_entity(kind)
+}
+
+// The kind of the bound of two unlike kinds, neither of them Never.
+pub fn unlike_kinds(mode: Mode, j: Kind, k: Kind) -> Result<Kind, Refusal>
+    ensures { seen_kind result ≡ joined_of (unlike (as_mode mode) (kind_number j) (kind_number k)) }
+{
+    if is_boolean(j) && is_boolean(k) {
+        return Ok(Kind::Bool);
     }
-    if both_in(Kind::ANY_SET, Kind::SET, j, k) {
-        return Joined::Kind(Kind::ANY_SET);
+    if is_set(j) && is_set(k) {
+        return Ok(Kind::AnySet);
     }
-    if both_in(Kind::ANY_ENTITY, Kind::ACTION, j, k) {
+    if is_entity(j) && is_entity(k) {
         if mode.is_permissive() {
-            return Joined::Kind(Kind::ANY_ENTITY);
+            return Ok(Kind::AnyEntity);
         }
-        return Joined::Not(Refusal::ENTITY_TYPE);
+        return Err(Refusal::EntityType);
     }
-    if both_in(Kind::RECORD, Kind::ACTION, j, k) {
-        return Joined::Not(Refusal::ENTITY_RECORD);
+    if is_record_or_entity(j) && is_record_or_entity(k) {
+        return Err(Refusal::EntityRecord);
     }
-    Joined::Not(Refusal::NONE)
+    Err(Refusal::NoBound)
 }

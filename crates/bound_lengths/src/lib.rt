@@ -1,7 +1,6 @@
 // How long the least upper bound of two types is, or why there is none.
 #![tactic(auto)]
 
-pub mod attribute_lengths;
 pub mod bound_length;
 pub mod kinds;
 pub mod names;

@@ -1,55 +1,74 @@
-// Lists of ascending names: the first of one, and how many names the union of two has.
-ghost use Rattle.std.specs.Prelude.{◌≡◌, true, cond, ◌+◌, ◌*◌, ◌<◌, ◌≤◌, leb, length};
+// Lists of ascending names, two bytes each, and the union of two, name by name.
+ghost use Rattle.std.specs.Prelude.{◌≡◌, ◌+◌, ◌*◌, ◌<◌, ◌≤◌, length, slice_get, IfSome};
 ghost use Rattle.cedar.specs.Bound.{union};
-ghost use Rattle.forms.specs.TypeBytes.{names_up, names_by};
-ghost use Rattle.bound_lengths.specs.Names.{first_or};
+ghost use Rattle.bound_lengths.specs.Names.{names_in, least, without, Ascending, Merged};
 
 use forms::numbers::u16_at;
 use forms::widths::Width;
 
-// The first of n names, or a number above every name.
-pub fn first_or(names: &[u8], n: usize) -> usize
-    requires { 2 * n ≤ length names.now }
-    ensures { (result ≡ first_or (names_by 2 n names.now)) × (0 < n → result < 65536) }
-{
-    if n == 0 {
-        return 65536;
-    }
-    u16_at(names, 0)
+// What is left of two lists of names.
+#[derive(Clone, Copy)]
+pub struct Union<'a> {
+    pub left: &'a [u8],
+    pub right: &'a [u8],
 }
 
-// 1 where the first is not above the second, else 0.
-pub fn taken(p: usize, q: usize) -> usize
-    ensures { result ≡ cond (leb p q) 1 0 }
+// The first name of a list.
+fn first(names: &[u8]) -> Option<usize>
+    requires { Ascending names.now }
+    ensures value { result ≡ slice_get (names_in names.now) 0 }
+    ensures small { IfSome result (λ name. name < 65536) }
 {
-    if p <= q {
-        return 1;
+    if names.is_empty() {
+        return None;
     }
-    0
+    Some(u16_at(names, 0))
 }
 
-// How many names the union has.
-pub fn union_count(ns: &[u8], n: usize, ks: &[u8], m: usize) -> usize
-    requires ns_len { (length ns.now ≡ 2 * n) × (names_up n 0 ns.now ≡ true) }
-    requires ks_len { (length ks.now ≡ 2 * m) × (names_up m 0 ks.now ≡ true) }
-    requires n_bound { (n < 65536) × (m < 65536) }
-    ensures { (result ≡ length (union (names_by 2 n ns.now) (names_by 2 m ks.now))) × (result ≤ n + m) }
+// The lesser of two names, or the one that is there.
+fn least(p: Option<usize>, q: Option<usize>) -> Option<usize>
+    ensures { result ≡ least p q }
 {
-    let mut x = ns;
-    let mut y = ks;
-    let mut left = n;
-    let mut right = m;
-    let mut count = 0;
-    while 0 < left + right {
-        let p = first_or(x, left);
-        let q = first_or(y, right);
-        let i = taken(p, q);
-        let j = taken(q, p);
-        x = &x[Width::NAME * i..];
-        y = &y[Width::NAME * j..];
-        left -= i;
-        right -= j;
-        count += 1;
+    match (p, q) {
+        (Some(p), Some(q)) => Some(p.min(q)),
+        (p, q) => p.or(q),
     }
-    count
+}
+
+// A list without a name, if it begins with it.
+fn past(names: &[u8], name: usize) -> &[u8]
+    requires { Ascending names.now }
+    ensures same { names_in result.now ≡ without name (names_in names.now) }
+    ensures ascending { Ascending result.now }
+{
+    if first(names) == Some(name) {
+        return &names[Width::NAME..];
+    }
+    names
+}
+
+impl Union<'_> {
+    // The next name of the union.
+    pub fn next(&mut self) -> Option<usize>
+        requires { Ascending self.old.left.now × Ascending self.old.right.now }
+        ensures { Merged self.old.left.now self.old.right.now self.new.left.now self.new.right.now result }
+    {
+        let name = least(first(self.left), first(self.right))?;
+        self.left = past(self.left, name);
+        self.right = past(self.right, name);
+        Some(name)
+    }
+
+    // How many names the union has.
+    pub fn count(mut self) -> usize
+        requires { Ascending self.left.now × Ascending self.right.now }
+        ensures many { result ≡ length (union (names_in self.entry.left.now) (names_in self.entry.right.now)) }
+        ensures most { 2 * result ≤ length self.entry.left.now + length self.entry.right.now }
+    {
+        let mut count = 0;
+        while self.next().is_some() {
+            count += 1;
+        }
+        count
+    }
 }

@@ -1,5 +1,6 @@
 // Which sets have the untyped set for a bound: loose, those whose elements have none.
 ghost use Rattle.std.specs.Prelude.{◌≡◌, true, not, ◌-◌};
+ghost use Rattle.std.specs.Option.{option_map};
 ghost use Rattle.cedar.specs.TypeForm.{enc};
 ghost use Rattle.cedar.specs.Bound.{join_set};
 ghost use Rattle.cedar.specs.Laws.DirectBound.{direct};
@@ -12,30 +13,24 @@ use crate::kept_attributes::has_bound;
 use forms::modes::Mode;
 use forms::offsets::Offset;
 
-// Whether two sets that have a bound have the untyped one, by their elements. Where the length of the bound is known, and not 0, it
-// tells: no other bound of sets has one byte.
-pub fn is_untyped(mode: Mode, x: &[u8], y: &[u8], levels: usize, known: usize) -> bool
+// Whether two sets that have a bound have the untyped one, by their elements. Where the length of the bound is known, it tells: no
+// other bound of sets has one byte.
+pub fn is_untyped(mode: Mode, x: &[u8], y: &[u8], levels: usize, known: Option<usize>) -> bool
     requires x_whole { whole levels x.now ≡ true }
     requires y_whole { whole levels y.now ≡ true }
     requires bounded { is_ok (join_set (as_mode mode) (direct (as_mode mode) (dec levels x.now) (dec levels y.now))) ≡ true }
     requires known_length { KnownLength known (form_of enc (join_set (as_mode mode) (direct (as_mode mode) (dec levels x.now) (dec levels y.now)))) }
     ensures { result ≡ not (is_ok (direct (as_mode mode) (dec levels x.now) (dec levels y.now))) }
 {
-    if 0 < known {
-        return known == Offset::ELEMENT;
+    if let Some(n) = known {
+        return n == Offset::ELEMENT;
     }
-    if !mode.is_loose() {
-        return false;
-    }
-    !has_bound(mode, x, y, levels)
+    mode.is_loose() && !has_bound(mode, x, y, levels)
 }
 
-// The length of a set's element, where the length of the set is known, else 0.
-pub fn element_length(known: usize) -> usize
-    ensures { result ≡ known - 1 }
+// The length of a set's element, where the length of the set is known.
+pub fn element_length(known: Option<usize>) -> Option<usize>
+    ensures { result ≡ option_map (λ n. n - 1) known }
 {
-    if 0 < known {
-        return known - Offset::ELEMENT;
-    }
-    0
+    known.map(|n| n.saturating_sub(Offset::ELEMENT))
 }

@@ -1,13 +1,13 @@
 -- The fold of a list. Assumes nothing: these are definitions.
-use Rattle.std.specs.Prelude.{ℕ, ◌≤◌, ◌<◌, List, true, ◌≡◌, length}
+use Rattle.std.specs.Prelude.{ℕ, ◌≤◌, ◌<◌, List, true, ◌≡◌, Result as Answer, Ok, Err, length}
 use Rattle.cedar.specs.Types.{Ty}
 use Rattle.cedar.specs.Limits.{Limits, most_bytes}
 use Rattle.cedar.specs.Result.{Result, ok, err}
 use Rattle.forms.specs.Parts.{part}
 use Rattle.forms.specs.TypeBytes.{dec}
 use Rattle.forms.specs.ListBytes.{list_fits}
-use Rattle.folds.specs.declared.lists.Folded.{Folded}
-use Rattle.folds.specs.declared.lists.Folded.TheVariants.{To, Not}
+use Rattle.forms.specs.Refusals.{number_of}
+use Rattle.forms.specs.declared.refusals.Refusal.{Refusal}
 use Rattle.folds.specs.Steps.{Held}
 
 -- A whole list, and room for any form within the limits.
@@ -19,6 +19,6 @@ pub record Opened (lim : Limits) (list last : List ℕ) : Type 0 where
   pub room : lim.bytes ≤ length last
 
 -- A fold's answer: a bound, its form left in the first bytes of `last`; or a refusal.
-abbrev pub FoldsTo : Limits → Result Ty → List ℕ → Folded → Type 0
-FoldsTo lim f last (To n) = (f ≡ ok (dec lim.levels (part 0 n last))) × Held lim n last
-FoldsTo lim f last (Not e) = f ≡ err e
+abbrev pub FoldsTo : Limits → Result Ty → List ℕ → Answer ℕ Refusal → Type 0
+FoldsTo lim f last (Ok n) = (f ≡ ok (dec lim.levels (part 0 n last))) × Held lim n last
+FoldsTo lim f last (Err e) = f ≡ err (number_of e)

@@ -1,30 +1,66 @@
 // One step of a fold: a bound written into a half of the workspace.
-ghost use Rattle.std.specs.Prelude.{◌≡◌, true, length};
+ghost use Rattle.std.specs.Prelude.{◌≡◌, true, ◌≤◌, length};
 ghost use Rattle.cedar.specs.Bound.{bound};
+ghost use Rattle.cedar.specs.Laws.DirectBound.{direct};
+ghost use Rattle.cedar.specs.Outcome.{over};
+ghost use Rattle.cedar.specs.TypeForm.{enc};
 ghost use Rattle.forms.specs.Parts.{part};
 ghost use Rattle.forms.specs.TypeBytes.{whole, dec};
 ghost use Rattle.forms.specs.Limits.{as_limits};
 ghost use Rattle.forms.specs.Modes.{as_mode};
-ghost use Rattle.folds.specs.Steps.{Held, Stepped};
+ghost use Rattle.writing.specs.FormLengths.{form_of, Ready};
+ghost use Rattle.folds.specs.Steps.{Held, Stepped, refusal_of};
 
 use bound_lengths::bound_length::bound_length;
 use bounds::bound_writes::write_bound;
 use forms::limits::Limits;
 use forms::modes::Mode;
+use forms::refusals::Refusal;
 use relations::is_subtype::is_subtype;
-use writing::form_lengths::FormLength;
 use writing::writers::copy;
 
-// Where a step leads: to a bound of so many bytes, to none, by the number of its reason, or to one that is too long.
-#[derive(Clone, Copy)]
-pub enum JoinStep {
-    To(usize),
-    Not(u8),
+// Why a step leads to no bound: there is none, for a reason, or it is too long.
+#[derive(Clone, Copy, Debug, PartialEq, Eq)]
+pub enum NoStep {
+    Unbounded(Refusal),
     TooLong,
 }
 
-// The bound of the type in the first bytes of `last` and another: written into a half of the workspace, then copied to `last`. Each
-// step reads that copy, so that one half alone is lent.
+// The refusal of a fold that ends so.
+impl From<NoStep> for Refusal {
+    ghost from_gives = { λ no_step refusal. refusal ≡ refusal_of no_step };
+
+    fn from(no_step: NoStep) -> Refusal {
+        match no_step {
+            NoStep::Unbounded(reason) => reason,
+            NoStep::TooLong => Refusal::Workspace,
+        }
+    }
+}
+
+// The bound of the type in the first bytes of `last` and another, of so many bytes: written into a room, then copied to `last`.
+fn write_through(
+    mode: Mode,
+    last: &mut [u8],
+    len: usize,
+    t: &[u8],
+    levels: usize,
+    n: usize,
+    room: &mut [u8],
+)
+    requires last_room { (len ≤ length last.old) × (n ≤ length last.old) }
+    requires last_whole { whole levels (part 0 len last.old) ≡ true }
+    requires t_whole { whole levels t.now ≡ true }
+    requires ready { Ready enc (direct (as_mode mode) (dec levels (part 0 len last.old)) (dec levels t.now)) room.old }
+    requires exact { n ≡ length (form_of enc (direct (as_mode mode) (dec levels (part 0 len last.old)) (dec levels t.now))) }
+    ensures { last.new ≡ over (form_of enc (direct (as_mode mode) (dec levels (part 0 len last.old)) (dec levels t.now))) last.old }
+{
+    write_bound(mode, &last[0..len], t, levels, Some(n), &mut room[0..]);
+    copy(&room[0..n], last);
+}
+
+// The bound of the type in the first bytes of `last` and another, by way of a half of the workspace. Each step reads the copy in
+// `last`, so that one half alone is lent.
 fn write_step(
     mode: Mode,
     last: &mut [u8],
@@ -33,30 +69,25 @@ fn write_step(
     limits: Limits,
     second: bool,
     work: &mut [u8],
-) -> JoinStep
+) -> Result<usize, NoStep>
     requires held { Held (as_limits limits) len last.old }
     requires t_whole { whole limits.levels t.now ≡ true }
     ensures { Stepped (as_limits limits) (bound (as_mode mode) (dec limits.levels (part 0 len last.old)) (dec limits.levels t.now)) (length work.old) last.new result }
 {
     let half = work.len() / 2;
     let n = match bound_length(mode, &last[0..len], t, limits.levels) {
-        FormLength::Of(n) => n,
-        FormLength::Not(e) => return JoinStep::Not(e),
+        Ok(n) => n,
+        Err(reason) => return Err(NoStep::Unbounded(reason)),
     };
-    if half < n {
-        return JoinStep::TooLong;
-    }
-    if limits.bytes < n {
-        return JoinStep::TooLong;
+    if half.min(limits.bytes) < n {
+        return Err(NoStep::TooLong);
     }
     if second {
-        write_bound(mode, &last[0..len], t, limits.levels, n, &mut work[half..]);
-        copy(&work[half..half + n], last);
-        return JoinStep::To(n);
+        write_through(mode, last, len, t, limits.levels, n, &mut work[half..]);
+    } else {
+        write_through(mode, last, len, t, limits.levels, n, &mut work[..half]);
     }
-    write_bound(mode, &last[0..len], t, limits.levels, n, &mut work[..half]);
-    copy(&work[0..n], last);
-    JoinStep::To(n)
+    Ok(n)
 }
 
 // One step: the type in the first bytes of `last` stays where the other is under it; else their bound is written in its place.
@@ -68,7 +99,7 @@ pub fn join_step(
     limits: Limits,
     second: bool,
     work: &mut [u8],
-) -> JoinStep
+) -> Result<usize, NoStep>
     requires held { Held (as_limits limits) len last.old }
     requires t_whole { whole limits.levels t.now ≡ true }
     ensures { Stepped (as_limits limits) (bound (as_mode mode) (dec limits.levels (part 0 len last.old)) (dec limits.levels t.now)) (length work.old) last.new result }
@@ -77,7 +108,7 @@ pub fn join_step(
         return write_step(mode, last, len, t, limits, second, work);
     }
     if work.len() / 2 < len {
-        return JoinStep::TooLong;
+        return Err(NoStep::TooLong);
     }
-    JoinStep::To(len)
+    Ok(len)
 }

@@ -11,7 +11,7 @@ ghost use Rattle.lookups.specs.Lookup.{below, Shown, Asked, LookedUp};
 
 use attributes::entity_attribute::{EntityAttribute, entity_attribute};
 use attributes::own_attribute::{Attribute, own_attribute};
-use folds::steps::{JoinStep, join_step};
+use folds::steps::{NoStep, join_step};
 use forms::kinds::Kind;
 use forms::limits::Limits;
 use forms::modes::Mode;
@@ -80,9 +80,9 @@ fn fold_attribute(
             second,
             work,
         ) {
-            JoinStep::To(n) => found.bytes = n,
-            JoinStep::Not(_) => return Ok(None),
-            JoinStep::TooLong => return Err(TooLong),
+            Ok(n) => found.bytes = n,
+            Err(NoStep::Unbounded(_)) => return Ok(None),
+            Err(NoStep::TooLong) => return Err(TooLong),
         }
         found.required = found.required && attribute.required;
         second = !second;

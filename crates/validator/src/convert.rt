@@ -12,7 +12,6 @@ use forms::limits::Limits;
 use forms::refusals::Refusal;
 use forms::types::whole_type;
 use levels::depths::type_levels;
-use writing::form_lengths::FormLength;
 
 // The answer under limits that are allowed.
 fn convert_under(limits: Limits, t: &[u8], out: &mut [u8]) -> Answer
@@ -23,7 +22,7 @@ fn convert_under(limits: Limits, t: &[u8], out: &mut [u8]) -> Answer
         return Answer::Refused(Refusal::FIRST);
     }
     match core_length(t, limits.levels) {
-        FormLength::Of(n) => {
+        Ok(n) => {
             if !answer_fits(limits, n, out.len()) {
                 return Answer::Refused(Refusal::RESULT);
             }
@@ -31,7 +30,7 @@ fn convert_under(limits: Limits, t: &[u8], out: &mut [u8]) -> Answer
             let form = &out[0..n];
             Answer::Typed(n, type_levels(form, limits.levels))
         }
-        FormLength::Not(e) => Answer::Refused(e),
+        Err(refusal) => Answer::Refused(u8::from(refusal)),
     }
 }
 

@@ -16,7 +16,6 @@ use forms::refusals::Refusal;
 use forms::types::whole_type;
 use levels::depths::type_levels;
 use schemas::whole::{Checked, check_schema};
-use writing::form_lengths::FormLength;
 
 // The answer under limits that are allowed.
 fn least_upper_bound_under(
@@ -45,15 +44,15 @@ fn least_upper_bound_under(
         return Answer::Refused(Refusal::SECOND);
     }
     match bound_length(m, t0, t1, limits.levels) {
-        FormLength::Of(n) => {
+        Ok(n) => {
             if !answer_fits(limits, n, out.len()) {
                 return Answer::Refused(Refusal::RESULT);
             }
-            write_bound(m, t0, t1, limits.levels, n, out);
+            write_bound(m, t0, t1, limits.levels, Some(n), out);
             let form = &out[0..n];
             Answer::Typed(n, type_levels(form, limits.levels))
         }
-        FormLength::Not(e) => Answer::Refused(e),
+        Err(refusal) => Answer::Refused(u8::from(refusal)),
     }
 }
 

@@ -9,7 +9,7 @@ ghost use Rattle.validator.specs.Answers.{Answered, AnsweredIn};
 use crate::answers::Answer;
 use crate::rooms::answer_fits;
 use crate::workspaces::clear;
-use folds::lists::{Folded, fold_types};
+use folds::lists::fold_types;
 use forms::limits::Limits;
 use forms::lists::whole_list;
 use forms::modes::{KnownMode, Mode};
@@ -44,7 +44,7 @@ fn reduced(
         return Answer::Refused(Refusal::FIRST);
     }
     match fold_types(m, list, limits, last, work) {
-        Folded::To(n) => {
+        Ok(n) => {
             if !answer_fits(limits, n, out.len()) {
                 return Answer::Refused(Refusal::RESULT);
             }
@@ -52,7 +52,7 @@ fn reduced(
             copy(form, out);
             Answer::Typed(n, type_levels(form, limits.levels))
         }
-        Folded::Not(e) => Answer::Refused(e),
+        Err(refusal) => Answer::Refused(u8::from(refusal)),
     }
 }
 

@@ -20,13 +20,10 @@ use Rattle.forms.specs.Laws.Sure.{sure-yes, rd-drop}
 use Rattle.forms.specs.Laws.TypeTwin.{type-twin}
 use Rattle.forms.specs.Laws.Views.{see, seen-set, seen-record, seen-entity, seen-action, seen-extension, seen-atom, Seen, is_set, is-record, is-entity}
 use Rattle.forms.specs.Laws.Views.{is-action, is-extension, is-atom}
-use Rattle.writing.specs.declared.form_lengths.FormLength.{FormLength}
-use Rattle.writing.specs.declared.form_lengths.FormLength.TheVariants.{Of as FormLengthOf}
-use Rattle.bound_lengths.specs.declared.attribute_lengths.AttributesLength.{AttributesLength}
-use Rattle.writing.specs.FormLengths.{cap, table, form_length_of}
+use Rattle.writing.specs.FormLengths.{cap, plus, table, form_length_of}
 use Rattle.forms.specs.Codes.{code}
 use Rattle.bound_lengths.specs.Kinds.{unlike}
-use Rattle.bound_lengths.specs.Pairs.{behind, joined_attrs, attributes_length_of}
+use Rattle.bound_lengths.specs.Pairs.{joined_attrs}
 use Rattle.forms.specs.Tables.{attrs_at, Tabled}
 use Rattle.forms.specs.Laws.Codes.{atom-code, atom-at}
 use Rattle.bound_lengths.specs.Laws.Kinds.{unlike-is}
@@ -127,19 +124,19 @@ atom-join m anyset = refl
 atom-join m anyent = refl
 
 -- A result that is known, and its length.
-pub known-length : (r : Result Ty) (c : Ty) (w : List ℕ) (x : ℕ) → r ≡ ok c → enc c ≡ w → x ≡ cap (length w) → FormLengthOf x ≡ form_length_of enc r
-known-length r c w x e f g = ap FormLengthOf g ∙ sym (rw (e, f) refl)
+pub known-length : (r : Result Ty) (c : Ty) (w : List ℕ) (x : ℕ) → r ≡ ok c → enc c ≡ w → x ≡ cap (length w) → ok x ≡ form_length_of enc r
+known-length r c w x e f g = ap ok g ∙ sym (rw (e, f) refl)
 
-pub of_length : (r : Result Ty) (c : Ty) (n : ℕ) → r ≡ ok c → length (enc c) ≡ n → n ≤ most_bytes → FormLengthOf n ≡ form_length_of enc r
+pub of_length : (r : Result Ty) (c : Ty) (n : ℕ) → r ≡ ok c → length (enc c) ≡ n → n ≤ most_bytes → ok n ≡ form_length_of enc r
 of_length r c n e f g = known-length r c (enc c) n e refl (omega arith)
 
 -- A type made of attributes, with n bytes before them.
 attributed-length : (r : Result Attrs) (s : Result Ty) (make : Attrs → Ty) (n : ℕ) → ((cs : Attrs) → length (enc (make cs)) ≡ length (table cs) + n) →
-    s ≡ bind r (λ cs. ok (make cs)) → (k : AttributesLength) (y : FormLength) → k ≡ attributes_length_of r → y ≡ behind n k → y ≡ form_length_of enc s
-attributed-length r s make n l e k y p q = q ∙ ap (behind n) p ∙ go r ∙ sym (ap (form_length_of enc) e)
+    s ≡ bind r (λ cs. ok (make cs)) → (k : Result ℕ) (y : Result ℕ) → k ≡ form_length_of table r → y ≡ plus n k → y ≡ form_length_of enc s
+attributed-length r s make n l e k y p q = q ∙ ap (plus n) p ∙ go r ∙ sym (ap (form_length_of enc) e)
   where
-    go : (r : Result Attrs) → behind n (attributes_length_of r) ≡ form_length_of enc (bind r (λ cs. ok (make cs)))
-    go (ok cs) = ap FormLengthOf (omega (arith, l cs))
+    go : (r : Result Attrs) → plus n (form_length_of table r) ≡ form_length_of enc (bind r (λ cs. ok (make cs)))
+    go (ok cs) = ap ok (omega (arith, l cs))
     go (err d) = refl
 
 record-long : (o : Bool) (xs : Attrs) → length (enc (rec o xs)) ≡ length (table xs) + 4
@@ -178,7 +175,7 @@ module _ (m : Mode) (l : ℕ) (a b : List ℕ) (ha : whole l a ≡ true) (hb : w
   unfolding direct
   set-join e f = rw ((is_set l a ha e).is, (is_set l b hb f).is) refl
 
-  pub sets-length : kind a ≡ 7 → kind b ≡ 7 → (x y : FormLength) → x ≡ form_length_of enc (direct m (dec (l - 1) (rest 1 a)) (dec (l - 1) (rest 1 b))) →
+  pub sets-length : kind a ≡ 7 → kind b ≡ 7 → (x y : Result ℕ) → x ≡ form_length_of enc (direct m (dec (l - 1) (rest 1 a)) (dec (l - 1) (rest 1 b))) →
       y ≡ set_length m x → y ≡ form_length_of enc joins
   sets-length e f x y p q =
       q ∙ ap (set_length m) p ∙ joined_length m (direct m (dec (l - 1) (rest 1 a)) (dec (l - 1) (rest 1 b))) ∙ sym (ap (form_length_of enc) (set-join e f))
@@ -189,13 +186,13 @@ module _ (m : Mode) (l : ℕ) (a b : List ℕ) (ha : whole l a ≡ true) (hb : w
   unfolding direct
   record-join e f = rw ((is-record l a ha e).is, (is-record l b hb f).is) refl
 
-  pub records-length : kind a ≡ 8 → kind b ≡ 8 → (k : AttributesLength) (y : FormLength) →
-      k ≡ attributes_length_of (joined_attrs m (attrs_at (l - 1) 0 (rest 2 a)) (attrs_at (l - 1) 0 (rest 2 b))) → y ≡ behind 4 k → y ≡ form_length_of enc joins
+  pub records-length : kind a ≡ 8 → kind b ≡ 8 → (k : Result ℕ) (y : Result ℕ) →
+      k ≡ form_length_of table (joined_attrs m (attrs_at (l - 1) 0 (rest 2 a)) (attrs_at (l - 1) 0 (rest 2 b))) → y ≡ plus 4 k → y ≡ form_length_of enc joins
   records-length e f k y p q =
       attributed-length (joined_attrs m (attrs_at (l - 1) 2 a) (attrs_at (l - 1) 2 b)) joins
       (λ cs. join_record (eqb (get_or a 1 0) 1) (eqb (get_or b 1 0) 1) (attrs_at (l - 1) 2 a) (attrs_at (l - 1) 2 b) cs) 4
       (λ cs. record-long (eqb (get_or a 1 0) 1 || eqb (get_or b 1 0) 1 || lost cs (attrs_at (l - 1) 2 a) (attrs_at (l - 1) 2 b)) cs) (record-join e f) k y
-      (p ∙ ap₂ (λ (xs ys : Attrs). attributes_length_of (joined_attrs m xs ys)) (attrs-from (l - 1) 2 a) (attrs-from (l - 1) 2 b)) q
+      (p ∙ ap₂ (λ (xs ys : Attrs). form_length_of table (joined_attrs m xs ys)) (attrs-from (l - 1) 2 a) (attrs-from (l - 1) 2 b)) q
 
   module _ (e : kind a ≡ 11) (f : kind b ≡ 11) (n k : ℕ) (q : n ≡ rd a 1) (r : k ≡ rd b 1) where
     pub action-join : n ≡ k →
@@ -203,12 +200,12 @@ module _ (m : Mode) (l : ℕ) (a b : List ℕ) (ha : whole l a ≡ true) (hb : w
     unfolding direct
     action-join g = rw ((is-action l a ha e).is, (is-action l b hb f).is, eq-eqb (rd a 1) (rd b 1) (sym q ∙ g ∙ r)) refl
 
-    pub actions-length : n ≡ k → (x : AttributesLength) (y : FormLength) →
-        x ≡ attributes_length_of (joined_attrs strict (attrs_at (l - 1) 0 (rest 3 a)) (attrs_at (l - 1) 0 (rest 3 b))) → y ≡ behind 5 x → y ≡ form_length_of enc joins
+    pub actions-length : n ≡ k → (x : Result ℕ) (y : Result ℕ) →
+        x ≡ form_length_of table (joined_attrs strict (attrs_at (l - 1) 0 (rest 3 a)) (attrs_at (l - 1) 0 (rest 3 b))) → y ≡ plus 5 x → y ≡ form_length_of enc joins
     actions-length g x y p z =
         attributed-length (joined_attrs strict (attrs_at (l - 1) 3 a) (attrs_at (l - 1) 3 b)) joins (act (rd a 1)) 5
         (action-long (rd a 1)) (action-join g) x y
-        (p ∙ ap₂ (λ (xs ys : Attrs). attributes_length_of (joined_attrs strict xs ys)) (attrs-from (l - 1) 3 a) (attrs-from (l - 1) 3 b)) z
+        (p ∙ ap₂ (λ (xs ys : Attrs). form_length_of table (joined_attrs strict xs ys)) (attrs-from (l - 1) 3 a) (attrs-from (l - 1) 3 b)) z
 
     pub action-apart : (n ≡ k → ⊥) → joins ≡ unlike m 11 11
     unfolding direct

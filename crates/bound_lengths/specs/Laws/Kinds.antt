@@ -1,35 +1,67 @@
--- Bounds by kinds alone, and flags. Assumes nothing.
-use Rattle.std.specs.Prelude.{◌≡◌, refl, Bool, true, false, cond, ℕ, zero, suc, ◌≤◌, eqb, length}
-use Rattle.std.proofs.Common.{ap, arith}
-use Rattle.cedar.specs.Types.{Mode, is_permissive, eq_flag, never, true', false', bool, long, string, anyset, anyent, Ty, atom, set, rec, act, ent, ext, same}
+-- Bounds by kinds alone. Assumes nothing.
+use Rattle.std.specs.Prelude.{◌≡◌, refl, Bool, true, false, not, cond, ℕ, length}
+use Rattle.std.proofs.Common.{ap, sym, ◌∙◌, arith, rules}
+use denote.Enum.Bare.{sameb, same_true}
+use Rattle.forms.specs.Kinds.{kind_number}
+use Rattle.forms.specs.contracts.kinds.Kind.{the_type}
+use Rattle.forms.specs.declared.kinds.Kind.{Kind}
+use Rattle.forms.specs.declared.kinds.Kind.TheVariants as kinds
+use Rattle.forms.specs.Laws.Kinds.{kind-same}
+use Rattle.forms.specs.Laws.Views.{false-not}
+use Rattle.cedar.specs.Types.{Mode, is_permissive, never, true', false', bool, long, string, anyset, anyent, Ty, atom, set, rec, act, ent, ext, same}
 use Rattle.cedar.specs.TypeForm.{enc}
 use Rattle.cedar.specs.Result.{Result, ok, err}
 use Rattle.cedar.specs.Subtype.{sub}
 use Rattle.cedar.specs.Bound.{bound}
 use Rattle.cedar.specs.Laws.DirectBound.{direct}
-use Rattle.writing.specs.declared.form_lengths.FormLength.TheVariants.{Of, Not}
-use Rattle.bound_lengths.specs.declared.kinds.Joined.{Joined}
-use Rattle.bound_lengths.specs.declared.kinds.Joined.TheVariants.{Kind, Not as JoinedNot}
 use Rattle.writing.specs.FormLengths.{form_length_of}
 use Rattle.forms.specs.Codes.{code}
 use Rattle.bound_lengths.specs.Kinds.{both_in, unlike, joined_of}
 
--- Flags.
-pub flags-same : (a b : ℕ) → a ≡ b → eq_flag (eqb a 1) (eqb b 1) ≡ true
-flags-same a b e = rw e (go (eqb b 1))
-  where
-    go : (x : Bool) → eq_flag x x ≡ true
-    go true = refl
-    go false = refl
+-- Kinds that are compared, by their numbers.
+itself : (k : Kind) → sameb the_type k k ≡ true
+itself kinds.Never = refl
+itself kinds.True = refl
+itself kinds.False = refl
+itself kinds.Bool = refl
+itself kinds.Long = refl
+itself kinds.String = refl
+itself kinds.AnySet = refl
+itself kinds.Set = refl
+itself kinds.Record = refl
+itself kinds.AnyEntity = refl
+itself kinds.Entity = refl
+itself kinds.Action = refl
+itself kinds.Extension = refl
 
-pub flags-other : (a b : ℕ) → a ≤ 1 → b ≤ 1 → (a ≡ b → ⊥) → eq_flag (eqb a 1) (eqb b 1) ≡ false
-flags-other zero zero p q h = absurd (h refl)
-flags-other zero (suc zero) p q h = refl
-flags-other (suc zero) zero p q h = refl
-flags-other (suc zero) (suc zero) p q h = absurd (h refl)
-flags-other zero (suc (suc b)) p q h = absurd (omega arith)
-flags-other (suc zero) (suc (suc b)) p q h = absurd (omega arith)
-flags-other (suc (suc a)) b p q h = absurd (omega arith)
+pub eq-kind : (j k : Kind) → true ≡ sameb the_type j k → kind_number j ≡ kind_number k
+eq-kind j k e = ap kind_number (same_true the_type (search rules) j k (sym e))
+
+pub not-kind : (j k : Kind) → false ≡ sameb the_type j k → kind_number j ≡ kind_number k → ⊥
+not-kind j k e h = let s = kind-same j k h in let z : false ≡ true = e ∙ ap (λ (i : Kind). sameb the_type i k) s ∙ itself k in false-not z
+
+pub ne-kind : (j k : Kind) → true ≡ not (sameb the_type j k) → kind_number j ≡ kind_number k → ⊥
+ne-kind j k e h = let s = kind-same j k h in let z : false ≡ true = sym (e ∙ ap (λ (i : Kind). not (sameb the_type i k)) s ∙ ap not (itself k)) in false-not z
+
+-- The kind of a form that is matched, and of another that was found to have the same.
+pub key : {j : Kind} {n : ℕ} (k : Kind) → kind_number j ≡ n → j ≡ k → n ≡ kind_number k
+key k e f = sym e ∙ ap kind_number f
+
+pub key-too : (j j' : Kind) {n : ℕ} (k : Kind) → kind_number j' ≡ n → false ≡ not (sameb the_type j j') → j ≡ k → n ≡ kind_number k
+key-too j j' k e g f = sym e ∙ sym (eq-kind j j' (go (sameb the_type j j') g)) ∙ ap kind_number f
+  where
+    go : (x : Bool) → false ≡ not x → true ≡ x
+    go true h = refl
+    go false h = sym h
+
+pub same-kind : (j k : Kind) {n m : ℕ} → kind_number j ≡ n → kind_number k ≡ m → false ≡ not (sameb the_type j k) → n ≡ m
+same-kind j k e f g = sym (key-too j k j f g refl ∙ e)
+
+pub other-kind : (j k : Kind) {n m : ℕ} → kind_number j ≡ n → kind_number k ≡ m → true ≡ not (sameb the_type j k) → n ≡ m → ⊥
+other-kind j k e f g h = ne-kind j k g (e ∙ h ∙ sym f)
+
+pub not-key : (j k : Kind) {n : ℕ} → kind_number j ≡ n → (j ≡ k → ⊥) → n ≡ kind_number k → ⊥
+not-key j k e h f = h (kind-same j k (e ∙ f))
 
 -- A bound by kinds is one byte long.
 one_byte : (m : Mode) (j k : ℕ) (t : Ty) → unlike m j k ≡ ok t → length (enc t) ≡ 1
@@ -45,23 +77,23 @@ one_byte m j k t e = go (both_in 1 3 j k) (both_in 6 7 j k) (both_in 9 11 j k) (
     go false false false true p e = absurd (let z : ◌≡◌ {A = ℕ} 0 1 = cc in omega arith)
     go false false false false p e = absurd (let z : ◌≡◌ {A = ℕ} 0 1 = cc in omega arith)
 
-module _ (m : Mode) (j k : ℕ) (x : Joined) (told : x ≡ joined_of (unlike m j k)) where
-  pub unlike-of : (b : ℕ) → x ≡ Kind b → (t : Ty) × ((unlike m j k ≡ ok t) × ((b ≡ code t) × (length (enc t) ≡ 1)))
+module _ (m : Mode) (j k : ℕ) (x : Result ℕ) (told : x ≡ joined_of (unlike m j k)) where
+  pub unlike-of : (b : ℕ) → x ≡ ok b → (t : Ty) × ((unlike m j k ≡ ok t) × ((b ≡ code t) × (length (enc t) ≡ 1)))
   unlike-of b q = go (unlike m j k) refl told
     where
       go : (r : Result Ty) → unlike m j k ≡ r → x ≡ joined_of r → (t : Ty) × ((unlike m j k ≡ ok t) × ((b ≡ code t) × (length (enc t) ≡ 1)))
       go (ok t) e f = (t, (e, (cc, one_byte m j k t e)))
       go (err d) e f = absurd (let z : ◌≡◌ {A = ℕ} 0 1 = cc in omega arith)
 
-  pub unlike-one : (b : ℕ) → x ≡ Kind b → Of 1 ≡ form_length_of enc (unlike m j k)
+  pub unlike-one : (b : ℕ) → x ≡ ok b → ok 1 ≡ form_length_of enc (unlike m j k)
   unlike-one b q = let t = unlike-of b q in rw (t.1.0, t.1.1.1) refl
 
-  pub unlike-not : (d : ℕ) → x ≡ JoinedNot d → Not d ≡ form_length_of enc (unlike m j k)
+  pub unlike-not : (d : ℕ) → x ≡ err d → err d ≡ form_length_of enc (unlike m j k)
   unlike-not d q = go (unlike m j k) told
     where
-      go : (r : Result Ty) → x ≡ joined_of r → Not d ≡ form_length_of enc r
+      go : (r : Result Ty) → x ≡ joined_of r → err d ≡ form_length_of enc r
       go (ok t) f = absurd (let z : ◌≡◌ {A = ℕ} 0 1 = cc in omega arith)
-      go (err e) f = ap Not cc
+      go (err e) f = ap err cc
 
 twice : (p : Bool) (a b : Result Ty) → cond p a (cond p a b) ≡ cond p a b
 twice true a b = refl

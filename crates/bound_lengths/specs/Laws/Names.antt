@@ -1,23 +1,26 @@
 -- Lists of ascending names: their union by one merge, and names that rows begin with. Assumes nothing.
-use Rattle.std.specs.Prelude.{◌≡◌, refl, List, [], ◌∷◌, Bool, true, false, cond, ℕ, zero, suc, ◌+◌, ◌*◌, ◌-◌, ◌≤◌, ◌<◌, min, leb, length}
-use Rattle.std.proofs.Common.{ap, sym, ◌∙◌, add-one, arith, lt-ltb, le-ltb, eq-eqb, ne_eqb, le-leb}
+use Rattle.std.specs.Prelude.{◌≡◌, refl, List, [], ◌∷◌, Bool, true, false, ℕ, zero, suc, ◌+◌, ◌*◌, ◌/◌, ◌-◌, ◌≤◌, ◌<◌, Option, Some, None, IfSome, cond, min, eqb, leb, length, slice_get}
+use Rattle.std.specs.Option.{option_eq}
+use Rattle.std.proofs.Common.{ap, sym, ◌∙◌, add-one, arith, lt-ltb, le-ltb, eq-eqb, ne_eqb}
 use Rattle.std.proofs.Math.Decide.{dec_lt}
-use Rattle.std.proofs.lemmas.Bool.{lt-leb}
 use Rattle.cedar.specs.Types.{Mode, is_permissive, ent, eq_names}
 use Rattle.cedar.specs.TypeForm.{enc}
 use Rattle.cedar.specs.Laws.DirectBound.{direct_names}
-use Rattle.writing.specs.declared.form_lengths.FormLength.TheVariants.{Of, Not}
+use Rattle.cedar.specs.Result.{ok, err}
 use Rattle.writing.specs.FormLengths.{cap, form_length_of}
 use Rattle.cedar.specs.Laws.Shape.{Ascend}
 use Rattle.cedar.specs.Bound.{insert, union}
 use Rattle.cedar.proofs.Laws.Names.{union-ascend}
 use Rattle.forms.specs.Parts.{rest, rd}
 use Rattle.forms.specs.TypeBytes.{names_up, names_by}
-use Rattle.forms.specs.Laws.Parts.{and_r, length_rest, rest_0}
+use Rattle.forms.specs.Laws.Parts.{and_r, length_rest}
 use Rattle.forms.specs.Laws.Types.{names-up}
 use Rattle.forms.specs.Laws.Names.{names-first, names-none, names-length}
 use Rattle.cedar.specs.Bytes.{enc_names}
-use Rattle.bound_lengths.specs.Names.{first_or}
+use Rattle.bound_lengths.specs.Names.{names_in, least, without, Ascending, Next}
+
+some-none : {n : ℕ} → ◌≡◌ {A = Option ℕ} (Some n) None → ⊥
+some-none e = let z : ◌≡◌ {A = ℕ} 0 1 = cc in omega arith
 
 -- A name below all of a list stands first.
 insert-low : (n : ℕ) (l : List ℕ) → Ascend (suc n) l → insert n l ≡ n ∷ l
@@ -40,12 +43,105 @@ union_right k (n ∷ ns) ks a =
 union-same : (n : ℕ) (ns ks : List ℕ) → Ascend (suc n) ns → union (n ∷ ns) (n ∷ ks) ≡ n ∷ union ns ks
 union-same n ns ks a = ap (insert n) (union_right n ns ks a) ∙ rw (le-ltb n n (omega arith), eq-eqb n n refl) refl
 
--- What a merge has left of a list of names in bytes.
-pub record Up (n : ℕ) (b : List ℕ) : Type 0 where
-  pub sized : length b ≡ 2 * n
-  pub low : ℕ
-  pub up : names_up n low b ≡ true
+-- A name that comes next in a union, and what is left.
+pub record Step (ns ks : List ℕ) (n : ℕ) : Type 0 where
+  pub fewer : length (without n ns) + length (without n ks) < length ns + length ks
+  pub is : union ns ks ≡ n ∷ union (without n ns) (without n ks)
 
+step-left : (ns ks : List ℕ) (low p : ℕ) → Ascend low ns → slice_get ns 0 ≡ Some p → slice_get ks 0 ≡ None → Step ns ks p
+step-left [] ks low p a e f = absurd (some-none (sym e))
+step-left (n ∷ ns) (k ∷ ks) low p a e f = absurd (some-none f)
+step-left (n ∷ ns) [] low p a e f =
+    let z : n ≡ p = cc in
+    let d : without p (n ∷ ns) ≡ ns = rw (eq-eqb n p z) refl in
+    record { fewer = rw d (omega arith); is = rw (d, ← z) (union_left n ns [] a.1 tt) }
+
+step-right : (ns ks : List ℕ) (low q : ℕ) → Ascend low ks → slice_get ns 0 ≡ None → slice_get ks 0 ≡ Some q → Step ns ks q
+step-right ns [] low q a e f = absurd (some-none (sym f))
+step-right (n ∷ ns) (k ∷ ks) low q a e f = absurd (some-none e)
+step-right [] (k ∷ ks) low q a e f =
+    let z : k ≡ q = cc in
+    let d : without q (k ∷ ks) ≡ ks = rw (eq-eqb k q z) refl in
+    record { fewer = rw d (omega arith); is = rw (d, z) refl }
+
+step-both : (ns ks : List ℕ) (low low' p q : ℕ) → Ascend low ns → Ascend low' ks → slice_get ns 0 ≡ Some p → slice_get ks 0 ≡ Some q → Step ns ks (min p q)
+step-both [] ks low low' p q a b e f = absurd (some-none (sym e))
+step-both (n ∷ ns) [] low low' p q a b e f = absurd (some-none (sym f))
+step-both (n ∷ ns) (k ∷ ks) low low' p q a b e f = rw (y, z) (go (dec_lt n k) (dec_lt k n))
+  where
+    y : p ≡ n
+    y = cc
+
+    z : q ≡ k
+    z = cc
+
+    here : (m : ℕ) (ms : List ℕ) → without m (m ∷ ms) ≡ ms
+    here m ms = rw (eq-eqb m m refl) refl
+
+    other : (j m : ℕ) (ms : List ℕ) → j < m → without j (m ∷ ms) ≡ m ∷ ms
+    other j m ms h = rw (ne_eqb m j (λ (v : m ≡ j). omega arith)) refl
+
+    go : Dec (n < k) → Dec (k < n) → Step (n ∷ ns) (k ∷ ks) (min n k)
+    go (yes h) d =
+        let m : min n k ≡ n = omega arith in
+        rw (m) record {
+          fewer = rw (here n ns, other n k ks h) (omega arith);
+          is = rw (here n ns, other n k ks h) (union_left n ns (k ∷ ks) a.1 (omega arith, b.1));
+        }
+    go (no h) (yes g) =
+        let m : min n k ≡ k = omega arith in
+        rw (m) record {
+          fewer = rw (here k ks, other k n ns g) (omega arith);
+          is = rw (here k ks, other k n ns g) (union_right k (n ∷ ns) ks (omega arith, a.1));
+        }
+    go (no h) (no g) =
+        let m : min n k ≡ n = omega arith in
+        let v : k ≡ n = omega arith in
+        rw (m, v) record { fewer = rw (here n ns, here n ks) (omega arith); is = rw (here n ns, here n ks) (union-same n ns ks a.1) }
+
+step-none : (ns ks : List ℕ) → slice_get ns 0 ≡ None → slice_get ks 0 ≡ None → union ns ks ≡ []
+step-none [] [] e f = refl
+step-none (n ∷ ns) ks e f = absurd (some-none e)
+step-none [] (k ∷ ks) e f = absurd (some-none f)
+
+-- The least of two first names comes next.
+pub step-first : (ns ks : List ℕ) (low low' n : ℕ) → Ascend low ns → Ascend low' ks → Some n ≡ least (slice_get ns 0) (slice_get ks 0) → Step ns ks n
+step-first [] [] low low' n a b e = absurd (some-none e)
+step-first [] (k ∷ ks) low low' n a b e = step-right [] (k ∷ ks) low' n b refl (sym e)
+step-first (m ∷ ns) [] low low' n a b e = step-left (m ∷ ns) [] low n a (sym e) refl
+step-first (m ∷ ns) (k ∷ ks) low low' n a b e = let z : n ≡ min m k = cc in rw z (step-both (m ∷ ns) (k ∷ ks) low low' m k a b refl refl)
+
+pub step-end : (ns ks : List ℕ) → None ≡ least (slice_get ns 0) (slice_get ks 0) → union ns ks ≡ []
+step-end [] [] e = refl
+step-end [] (k ∷ ks) e = absurd (some-none (sym e))
+step-end (m ∷ ns) [] e = absurd (some-none (sym e))
+step-end (m ∷ ns) (k ∷ ks) e = absurd (some-none (sym e))
+
+pub least-small : (p q : Option ℕ) (n : ℕ) → IfSome p (λ k. k < 65536) → IfSome q (λ k. k < 65536) → Some n ≡ least p q → n < 65536
+least-small None None n h g e = absurd (some-none e)
+least-small None (Some k) n h g e = let z : n ≡ k = cc in rw z g
+least-small (Some m) None n h g e = let z : n ≡ m = cc in rw z h
+least-small (Some m) (Some k) n h g e = let z : n ≡ min m k = cc in omega (arith, h, g)
+
+-- Past a name.
+pub past-first : (ns : List ℕ) (n m : ℕ) (ms : List ℕ) → ns ≡ m ∷ ms → option_eq eqb (slice_get ns 0) (Some n) ≡ true → ms ≡ without n ns
+past-first ns n m ms e h = rw e (go (rw e at h))
+  where
+    go : eqb m n ≡ true → ms ≡ cond (eqb m n) ms (m ∷ ms)
+    go g = rw g refl
+
+pub past-other : (ns : List ℕ) (n : ℕ) → option_eq eqb (slice_get ns 0) (Some n) ≡ false → ns ≡ without n ns
+past-other [] n h = refl
+past-other (m ∷ ms) n h = go h
+  where
+    go : eqb m n ≡ false → m ∷ ms ≡ cond (eqb m n) ms (m ∷ ms)
+    go g = rw g refl
+
+pub past-some : (ns : List ℕ) (n : ℕ) → option_eq eqb (slice_get ns 0) (Some n) ≡ true → 0 < length ns
+past-some [] n h = absurd (let z : ◌≡◌ {A = ℕ} 0 1 = cc in omega arith)
+past-some (m ∷ ms) n h = omega arith
+
+-- Names in bytes.
 up-ascend : (n low : ℕ) (b : List ℕ) → names_up n low b ≡ true → Ascend low (names_by 2 n b)
 unfolding names_up names_by
 up-ascend zero low b h = tt
@@ -53,115 +149,55 @@ up-ascend (suc n) low b h =
     let u = names-up (suc n) low b (omega arith) (unfold names_up in h) in
     (u.0, rw (add-one (rd b 0)) at (up-ascend n (rd b 0 + 1) (rest 2 b) (and_r (leb low (rd b 0)) (names_up n (rd b 0 + 1) (rest 2 b)) h)))
 
-module _ {n : ℕ} {b : List ℕ} (s : Up n b) where
-  up_none : Up (n - 0) (rest 0 b)
-  up_none = let e : n - 0 ≡ n = omega arith in rw (e, rest_0 b) s
-
-  up_same : names_by 2 (n - 0) (rest 0 b) ≡ names_by 2 n b
-  up_same = let e : n - 0 ≡ n = omega arith in rw (e, rest_0 b) refl
-
-  module _ (p : 0 < n) where
-    up_one : Up (n - 1) (rest 2 b)
-    up_one = record { sized = omega (arith, length_rest 2 b, s.sized); low = rd b 0 + 1; up = (names-up n s.low b p s.up).1 }
-
-    up-tail : Ascend (suc (rd b 0)) (names_by 2 (n - 1) (rest 2 b))
-    up-tail = rw (add-one (rd b 0)) at (up-ascend (n - 1) (rd b 0 + 1) (rest 2 b) (names-up n s.low b p s.up).1)
-
--- A turn of the merge: the lesser of the two first names, and what is left.
-pub record Turn (n : ℕ) (x : List ℕ) (m : ℕ) (y : List ℕ) (p q i j : ℕ) : Type 0 where
-  pub some : 1 ≤ i + j
-  pub left : (i ≤ 1) × (i ≤ n)
-  pub right : (j ≤ 1) × (j ≤ m)
-  pub first : Up (n - i) (rest (2 * i) x)
-  pub second : Up (m - j) (rest (2 * j) y)
-  pub small : min p q < 65536
-  pub is : union (names_by 2 n x) (names_by 2 m y) ≡ min p q ∷ union (names_by 2 (n - i) (rest (2 * i) x)) (names_by 2 (m - j) (rest (2 * j) y))
-
-module _ {n m : ℕ} {x y : List ℕ} (s : Up n x) (t : Up m y) (p q : ℕ) where
-  turn-left : 0 < n → p ≡ rd x 0 → p < q → p < 65536 → Ascend (suc (rd x 0)) (names_by 2 m y) → Turn n x m y p q 1 0
-  turn-left h e g b a =
-      let k : min p q ≡ rd x 0 = omega arith in
-      record {
-        some = omega arith;
-        left = (omega arith, h);
-        right = (omega arith, omega arith);
-        first = up_one s h;
-        second = up_none t;
-        small = omega arith;
-        is = rw (names-first 2 n x h, k, up_same t) (union_left (rd x 0) (names_by 2 (n - 1) (rest 2 x)) (names_by 2 m y) (up-tail s h) a);
-      }
-
-  turn-right : 0 < m → q ≡ rd y 0 → q < p → q < 65536 → Ascend (suc (rd y 0)) (names_by 2 n x) → Turn n x m y p q 0 1
-  turn-right h e g b a =
-      let k : min p q ≡ rd y 0 = omega arith in
-      record {
-        some = omega arith;
-        left = (omega arith, omega arith);
-        right = (omega arith, h);
-        first = up_none s;
-        second = up_one t h;
-        small = omega arith;
-        is = rw (names-first 2 m y h, k, up_same s) (union_right (rd y 0) (names_by 2 n x) (names_by 2 (m - 1) (rest 2 y)) a);
-      }
-
-  turn-both : 0 < n → 0 < m → p ≡ rd x 0 → q ≡ rd y 0 → p ≡ q → p < 65536 → Turn n x m y p q 1 1
-  turn-both h g e f z b =
-      let k : min p q ≡ rd x 0 = omega arith in
-      let w : rd y 0 ≡ rd x 0 = omega arith in
-      record {
-        some = omega arith;
-        left = (omega arith, h);
-        right = (omega arith, g);
-        first = up_one s h;
-        second = up_one t g;
-        small = omega arith;
-        is =
-            rw (names-first 2 n x h, names-first 2 m y g, k, w)
-            (union-same (rd x 0) (names_by 2 (n - 1) (rest 2 x)) (names_by 2 (m - 1) (rest 2 y)) (up-tail s h));
-      }
-
-pub turn : {n m : ℕ} {x y : List ℕ} → Up n x → Up m y → 0 < n + m → (p q i j : ℕ) → p ≡ first_or (names_by 2 n x) → (0 < n → p < 65536) →
-    q ≡ first_or (names_by 2 m y) → (0 < m → q < 65536) →
-    i ≡ cond (leb p q) 1 0 → j ≡ cond (leb q p) 1 0 → Turn n x m y p q i j
-turn {n} {m} {x} {y} s t z p q i j pe pl qe ql ie je = go (dec_lt 0 n) (dec_lt 0 m)
+pub not-none : (b : List ℕ) → eqb (length b) 0 ≡ false → 0 < length b
+not-none b h = go (length b) h
   where
-    head : (n : ℕ) (x : List ℕ) (p : ℕ) → 0 < n → p ≡ first_or (names_by 2 n x) → p ≡ rd x 0
-    head n x p h e = e ∙ rw (names-first 2 n x h) refl
+    go : (n : ℕ) → eqb n 0 ≡ false → 0 < n
+    go zero e = absurd (let z : ◌≡◌ {A = ℕ} 0 1 = cc in omega arith)
+    go (suc n) e = omega arith
 
-    none : (n : ℕ) (x : List ℕ) (p : ℕ) → (0 < n → ⊥) → p ≡ first_or (names_by 2 n x) → p ≡ 65536
-    none n x p h e = e ∙ rw (names-none 2 n x (omega arith)) refl
+pub names-some : (b : List ℕ) → 0 < length (names_in b) → 0 < length b
+names-some b h = omega (arith, names-length 2 (length b / 2) b)
 
-    above : (m : ℕ) (y : List ℕ) → Up m y → (low : ℕ) → (0 < m → low ≤ rd y 0) → Ascend low (names_by 2 m y)
-    above zero y t low h = unfold names_by in tt
-    above (suc m) y t low h =
-        let a = up-tail t (omega arith) in
-        rw (names-first 2 (suc m) y (omega arith)) (h (omega arith), a)
+pub no-names : (b : List ℕ) → length b ≡ 0 → names_in b ≡ []
+no-names b h = names-none 2 (length b / 2) b (omega arith)
 
-    set-i : (a b : ℕ) → i ≡ a → j ≡ b → Turn n x m y p q a b → Turn n x m y p q i j
-    set-i a b e f r = rw (e, f) r
+module _ {b : List ℕ} (s : Ascending b) where
+  pub ascends : Ascend s.low (names_in b)
+  ascends = up-ascend (length b / 2) s.low b s.up
 
-    lower : 0 < n → p < q → Turn n x m y p q i j
-    lower h g = set-i 1 0 (ie ∙ rw (le-leb p q (omega arith)) refl) (je ∙ rw (lt-leb q p g) refl)
-        (turn-left s t p q h (head n x p h pe) g (pl h) (above m y t (suc (rd x 0)) (λ k. omega (arith, head m y q k qe, head n x p h pe))))
+  pub names-twice : length b ≡ 2 * length (names_in b)
+  names-twice = omega (arith, s.even, names-length 2 (length b / 2) b)
 
-    higher : 0 < m → q < p → Turn n x m y p q i j
-    higher h g = set-i 0 1 (ie ∙ rw (lt-leb p q g) refl) (je ∙ rw (le-leb q p (omega arith)) refl)
-        (turn-right s t p q h (head m y q h qe) g (ql h) (above n x s (suc (rd y 0)) (λ k. omega (arith, head m y q h qe, head n x p k pe))))
+  module _ (p : 0 < length b) where
+    pub names-room : 2 ≤ length b
+    names-room = omega (arith, s.even)
 
-    both : 0 < n → 0 < m → Dec (p < q) → Dec (q < p) → Turn n x m y p q i j
-    both h k (yes g) f = lower h g
-    both h k (no e) (yes g) = higher k g
-    both h k (no e) (no f) = set-i 1 1 (ie ∙ rw (le-leb p q (omega arith)) refl) (je ∙ rw (le-leb q p (omega arith)) refl)
-        (turn-both s t p q h k (head n x p h pe) (head m y q k qe) (omega arith) (pl h))
+    left-over : length (rest 2 b) / 2 ≡ length b / 2 - 1
+    left-over = omega (arith, s.even, length_rest 2 b)
 
-    go : Dec (0 < n) → Dec (0 < m) → Turn n x m y p q i j
-    go (yes h) (yes k) = both h k (dec_lt p q) (dec_lt q p)
-    go (yes h) (no k) = lower h (omega (arith, none m y q k qe, pl h))
-    go (no h) (yes k) = higher k (omega (arith, none n x p h pe, ql k))
-    go (no h) (no k) = absurd (omega arith)
+    pub names-cons : names_in b ≡ rd b 0 ∷ names_in (rest 2 b)
+    names-cons = names-first 2 (length b / 2) b (omega (arith, s.even)) ∙ rw (← left-over) refl
 
-pub union-none : (n : ℕ) (x : List ℕ) (m : ℕ) (y : List ℕ) → n + m ≤ 0 → union (names_by 2 n x) (names_by 2 m y) ≡ []
-union-none n x m y h = rw (names-none 2 n x (omega arith), names-none 2 m y (omega arith)) refl
+    pub names-more : Ascending (rest 2 b)
+    names-more =
+        record {
+          low = rd b 0 + 1;
+          even = omega (arith, s.even, length_rest 2 b);
+          up = rw left-over (names-up (length b / 2) s.low b (omega (arith, s.even)) s.up).1;
+        }
+
+-- What is left of two lists, each past a name.
+pub step-next : {x y x' y' : List ℕ} {n : ℕ} → Ascending x → Ascending y → Step (names_in x) (names_in y) n → n < 65536 → Ascending x' → Ascending y' →
+    names_in x' ≡ without n (names_in x) → names_in y' ≡ without n (names_in y) → Next x y n x' y'
+step-next {x} {y} {x'} {y'} {n} s t g h s' t' e f =
+    record {
+      small = h;
+      left = s';
+      right = t';
+      fewer = omega (arith, names-twice s, names-twice t, names-twice s', names-twice t', ap length e, ap length f, g.fewer);
+      is = g.is ∙ rw (e, f) refl;
+    }
 
 -- The bound of two entities.
 pub names-long : (ns : List ℕ) → length (enc (ent ns)) ≡ 3 + 2 * length ns
@@ -172,33 +208,25 @@ names-long ns = let e = go ns in omega arith
     go [] = refl
     go (n ∷ ns) = let e = go ns in omega arith
 
--- The names of an entity form, as many as were read.
-pub names_at : (b : List ℕ) (n : ℕ) → n ≡ rd b 1 → (length b ≡ 3 + 2 * rd b 1) × (names_up (rd b 1) 0 (rest 3 b) ≡ true) →
-    (length (rest 3 b) ≡ 2 * n) × (names_up n 0 (rest 3 b) ≡ true)
-names_at b n q h = (omega (arith, length_rest 3 b, h.0), rw q h.1)
+-- The names of an entity form.
+module _ (b : List ℕ) (h : (length b ≡ 3 + 2 * rd b 1) × (names_up (rd b 1) 0 (rest 3 b) ≡ true)) where
+  count-is : length (rest 3 b) / 2 ≡ rd b 1
+  count-is = omega (arith, length_rest 3 b, h.0)
 
--- The bound of two entity forms, whose counts were read.
-module _ (M : Mode) (a b : List ℕ) (n : ℕ) (p : n ≡ rd a 1) (m : ℕ) (q : m ≡ rd b 1) where
-  abbrev first : List ℕ
-  first = names_by 2 (rd a 1) (rest 3 a)
+  pub entity-names : names_in (rest 3 b) ≡ names_by 2 (rd b 1) (rest 3 b)
+  entity-names = rw count-is refl
 
-  abbrev second : List ℕ
-  second = names_by 2 (rd b 1) (rest 3 b)
+  pub entity-ascending : Ascending (rest 3 b)
+  entity-ascending = record { low = 0; even = omega (arith, length_rest 3 b, h.0); up = rw count-is h.1 }
 
-  pub permissive-names : is_permissive M ≡ true → (c x : ℕ) → c ≡ length (union (names_by 2 n (rest 3 a)) (names_by 2 m (rest 3 b))) → x ≡ cap (3 + 2 * c) →
-      Of x ≡ form_length_of enc (direct_names M first second)
-  permissive-names e c x k h =
-      let many : c ≡ length (union first second) = k ∙ rw (p, q) refl in
-      rw (e, names-long (union first second)) (ap Of (omega arith))
+-- The bound of two entity forms.
+module _ (M : Mode) (ns ks : List ℕ) where
+  pub permissive-names : is_permissive M ≡ true → (c x : ℕ) → c ≡ length (union ns ks) → x ≡ cap (2 * c + 3) → ok x ≡ form_length_of enc (direct_names M ns ks)
+  permissive-names e c x k h = rw (e, names-long (union ns ks)) (ap ok (omega arith))
 
-  module _ (e : is_permissive M ≡ false) (r : Bool) (k : r ≡ eq_names (names_by 2 n (rest 3 a)) (names_by 2 m (rest 3 b))) where
-    told : r ≡ eq_names first second
-    told = k ∙ rw (p, q) refl
-
-    pub strict-not : r ≡ false → Not 13 ≡ form_length_of enc (direct_names M first second)
+  module _ (e : is_permissive M ≡ false) (r : Bool) (told : r ≡ eq_names ns ks) where
+    pub strict-not : r ≡ false → err 13 ≡ form_length_of enc (direct_names M ns ks)
     strict-not h = rw (e, sym told ∙ h) refl
 
-    pub strict-length : r ≡ true → length a ≡ 3 + 2 * rd a 1 → (x : ℕ) → x ≡ cap (length a) → Of x ≡ form_length_of enc (direct_names M first second)
-    strict-length h s x g =
-        let l : x ≡ cap (3 + 2 * length first) = g ∙ ap cap (s ∙ ap (λ (i : ℕ). 3 + 2 * i) (sym (names-length 2 (rd a 1) (rest 3 a)))) in
-        rw (e, sym told ∙ h, names-long first) (ap Of l)
+    pub strict-length : r ≡ true → (n x : ℕ) → n ≡ 3 + 2 * length ns → x ≡ cap n → ok x ≡ form_length_of enc (direct_names M ns ks)
+    strict-length h n x l g = rw (e, sym told ∙ h, names-long ns) (ap ok (omega arith))

@@ -1,5 +1,6 @@
 -- The write pass over two whole forms whose bound has room, by their kinds. Assumes nothing.
-use Rattle.std.specs.Prelude.{◌≡◌, Bool, true, false, not, ◌&&◌, ◌||◌, cond, ℕ, ◌-◌, ◌≤◌, ◌<◌, eqb, length, get_or}
+use Rattle.std.specs.Option.{option_map}
+use Rattle.std.specs.Prelude.{◌≡◌, Option as Maybe, Bool, true, false, not, ◌&&◌, ◌||◌, cond, ℕ, ◌-◌, ◌≤◌, ◌<◌, eqb, length, get_or}
 use Rattle.std.proofs.Math.Path.{refl, ap, sym}
 use Rattle.std.proofs.Common.{ap₂, ◌∙◌, arith, length-append}
 use mathlib.Core.List.{List, [], ◌∷◌, ◌++◌}
@@ -21,8 +22,6 @@ use Rattle.forms.specs.Parts.{part, rest, rd, kind}
 use Rattle.forms.specs.TypeBytes.{whole, dec, names_by}
 use Rattle.forms.specs.Laws.Parts.{part-is, length_part}
 use Rattle.forms.specs.Laws.Views.{is-record, is-entity, is-action, is-extension, is-atom}
-use Rattle.bound_lengths.specs.declared.kinds.Joined.{Joined}
-use Rattle.bound_lengths.specs.declared.kinds.Joined.TheVariants.{Kind, Not}
 use Rattle.writing.specs.Written.{Written}
 use Rattle.writing.specs.FormLengths.{table, form_of, Ready}
 use Rattle.forms.specs.Codes.{code}
@@ -58,14 +57,14 @@ pub kept-few : {r : Result Attrs} {o : List ℕ} → Ready table r o → (n : �
 kept-few g n e = omega (arith, e ∙ ap count_of g.is, g.small, length-append (entries g.result) (bodies g.result), length-entries g.result)
 
 -- The bound of two unlike kinds is its code.
-module _ (m : Mode) (j k : ℕ) {o : List ℕ} (g : Ready enc (unlike m j k) o) (x : Joined) (told : x ≡ joined_of (unlike m j k)) where
-  pub unlike-refused : (d : ℕ) → x ≡ Not d → ⊥
-  unlike-refused d q = let f : x ≡ Kind (code g.result) = told ∙ ap joined_of g.is in let z : ◌≡◌ {A = ℕ} 0 1 = cc in omega arith
+module _ (m : Mode) (j k : ℕ) {o : List ℕ} (g : Ready enc (unlike m j k) o) (x : Result ℕ) (told : x ≡ joined_of (unlike m j k)) where
+  pub unlike-refused : (d : ℕ) → x ≡ err d → ⊥
+  unlike-refused d q = let f : x ≡ ok (code g.result) = told ∙ ap joined_of g.is in let z : ◌≡◌ {A = ℕ} 0 1 = cc in omega arith
 
-  module _ (b : ℕ) (q : x ≡ Kind b) where
+  module _ (b : ℕ) (q : x ≡ ok b) where
     is_code : enc g.result ≡ b ∷ []
     is_code =
-        let f : x ≡ Kind (code g.result) = told ∙ ap joined_of g.is in
+        let f : x ≡ ok (code g.result) = told ∙ ap joined_of g.is in
         let z : b ≡ code g.result = cc in
         let u = unlike-of m j k x told b q in
         let w : ok u.0 ≡ ok g.result = sym u.1.0 ∙ g.is in
@@ -79,24 +78,13 @@ module _ (m : Mode) (j k : ℕ) {o : List ℕ} (g : Ready enc (unlike m j k) o) 
     unlike-written xs f = written_known g g.result g.is (b ∷ []) xs 1 is_code f refl
 
 -- The kind and the count of k names stand before the names.
-pub entities-cut : (a b : List ℕ) (n m k : ℕ) → n ≡ rd a 1 → m ≡ rd b 1 → k ≡ length (union (names_by 2 n (rest 3 a)) (names_by 2 m (rest 3 b))) →
-    Cut enc_names enc (10 ∷ u16 k) (ok (union (names_by 2 n (rest 3 a)) (names_by 2 m (rest 3 b))))
-    (ok (ent (union (names_by 2 (rd a 1) (rest 3 a)) (names_by 2 (rd b 1) (rest 3 b)))))
+pub entities-cut : (ns ks : List ℕ) (k : ℕ) → k ≡ length (union ns ks) → Cut enc_names enc (10 ∷ u16 k) (ok (union ns ks)) (ok (ent (union ns ks)))
 unfolding enc
-entities-cut a b n m k e f g =
-    record {
-      make = ent;
-      is = rw (e, f) refl;
-      cut = λ ns q. let z : union (names_by 2 n (rest 3 a)) (names_by 2 m (rest 3 b)) ≡ ns = cc in rw (g, z) refl;
-    }
+entities-cut ns ks k g = record { make = ent; is = refl; cut = λ ls q. let z : union ns ks ≡ ls = cc in rw (g, z) refl }
 
-pub entities-few : (a b : List ℕ) (n m k : ℕ) → n ≡ rd a 1 → m ≡ rd b 1 → k ≡ length (union (names_by 2 n (rest 3 a)) (names_by 2 m (rest 3 b))) → {o : List ℕ} →
-    Ready enc (ok (ent (union (names_by 2 (rd a 1) (rest 3 a)) (names_by 2 (rd b 1) (rest 3 b))))) o → k < 65536
+pub entities-few : (ns ks : List ℕ) (k : ℕ) → k ≡ length (union ns ks) → {o : List ℕ} → Ready enc (ok (ent (union ns ks))) o → k < 65536
 unfolding enc
-entities-few a b n m k e f h g =
-    let ns = union (names_by 2 (rd a 1) (rest 3 a)) (names_by 2 (rd b 1) (rest 3 b)) in
-    let z : k ≡ length ns = h ∙ rw (e, f) refl in
-    omega (arith, ready-room g (ent ns) refl, names-long ns, z)
+entities-few ns ks k h g = omega (arith, ready-room g (ent (union ns ks)) refl, names-long (union ns ks), h)
 
 -- Two whole forms, and room for their bound.
 pub record Given (m : Mode) (l : ℕ) (a b o : List ℕ) : Type 0 where
@@ -171,8 +159,8 @@ module _ {m : Mode} {l : ℕ} {a b o : List ℕ} (g : Given m l a b o) where
       pub sets-known : is_ok (join_set m Elements) ≡ true
       sets-known = ap is_ok (sym sets-are ∙ g.ready.is)
 
-      pub sets-length : (n : ℕ) → KnownLength n (form_of enc joins) → KnownLength n (form_of enc (join_set m Elements))
-      sets-length n f p = f p ∙ ap (λ (r : Result Ty). length (form_of enc r)) sets-are
+      pub sets-length : (n : Maybe ℕ) → KnownLength n (form_of enc joins) → KnownLength n (form_of enc (join_set m Elements))
+      sets-length n f = rw (← sets-are) f
 
       module _ (z : Bool) (told : z ≡ not (is_ok Elements)) where
         pub sets-untyped : z ≡ true → Copied joins (6 ∷ []) o
@@ -186,7 +174,7 @@ module _ {m : Mode} {l : ℕ} {a b o : List ℕ} (g : Given m l a b o) where
           pub sets-cut : Cut enc enc (7 ∷ []) Elements joins
           sets-cut = rw sets-are (typed-cut m Elements sets-known typed)
 
-          pub elements-length : (n : ℕ) → KnownLength n (form_of enc joins) → KnownLength (n - 1) (form_of enc Elements)
+          pub elements-length : (n : Maybe ℕ) → KnownLength n (form_of enc joins) → KnownLength (option_map (λ k. k - 1) n) (form_of enc Elements)
           elements-length n f = element-known m Elements sets-known n (sets-length n f) typed
 
     pub entities-union : kind a ≡ 10 → is_permissive m ≡ true → Same joins (ok (ent (union (names_by 2 (rd a 1) (rest 3 a)) (names_by 2 (rd b 1) (rest 3 b))))) o
@@ -225,9 +213,9 @@ module _ {m : Mode} {l : ℕ} {a b o : List ℕ} (g : Given m l a b o) where
         ap is_ok (tables-are m 2) ∙ sym (ok-bind (joined_attrs m (attrs_at (l - 1) 2 a) (attrs_at (l - 1) 2 b)) made)
         ∙ sym (ap is_ok (record-join m l a b g.first g.second e (sym k ∙ e))) ∙ ap is_ok g.ready.is
 
-    pub records-cut : kind a ≡ 8 → (n i j x : ℕ) → n ≡ count_of (Tables m 2) → i ≡ rd (rest 2 a) 0 → j ≡ rd (rest 2 b) 0 →
-        x ≡ flag (eqb (get_or a 1 0) 1 || eqb (get_or b 1 0) 1 || not (eqb n i && eqb n j)) →
-        Cut table enc (8 ∷ x ∷ u16 n) (Tables m 2) joins
+    pub records-cut : kind a ≡ 8 → (n i j : ℕ) (x : Bool) → n ≡ count_of (Tables m 2) → i ≡ rd (rest 2 a) 0 → j ≡ rd (rest 2 b) 0 →
+        x ≡ (eqb (get_or a 1 0) 1 || eqb (get_or b 1 0) 1 || not (eqb n i && eqb n j)) →
+        Cut table enc (8 ∷ flag x ∷ u16 n) (Tables m 2) joins
     unfolding enc Ordered
     records-cut e n i j x nn ni nj nx =
         let f = sym k ∙ e in
@@ -244,7 +232,7 @@ module _ {m : Mode} {l : ℕ} {a b o : List ℕ} (g : Given m l a b o) where
       where
         front : (xs ys cs : Attrs) → joined_attrs m xs ys ≡ ok cs → Ordered (rec (eqb (get_or a 1 0) 1) xs) → Ordered (rec (eqb (get_or b 1 0) 1) ys) →
             n ≡ count cs → i ≡ count xs → j ≡ count ys →
-            enc (join_record (eqb (get_or a 1 0) 1) (eqb (get_or b 1 0) 1) xs ys cs) ≡ (8 ∷ x ∷ u16 n) ++ table cs
+            enc (join_record (eqb (get_or a 1 0) 1) (eqb (get_or b 1 0) 1) xs ys cs) ≡ (8 ∷ flag x ∷ u16 n) ++ table cs
         front xs ys cs z ox oy u v w =
             let d : direct_attrs m xs ys ≡ ok cs = sym (joined-direct m xs ys cs z) ∙ z in
             let c = lost-count (join_attrs-join xs m ys cs (sym (direct_attrs-bound xs m ys 0 ox oy) ∙ d)) ox oy in

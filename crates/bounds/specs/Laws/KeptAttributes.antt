@@ -1,29 +1,24 @@
 -- Which attributes a bound keeps, and how many. Assumes nothing.
-use Rattle.std.specs.Prelude.{◌≡◌, refl, List, Bool, true, false, ◌||◌, cond, ℕ, suc, ◌+◌, ◌*◌, ◌-◌, ◌≤◌, ◌<◌, eqb, length, get_or}
+use Rattle.std.specs.Prelude.{◌≡◌, refl, Option as Maybe, Some, None, is_some, List, Bool, true, false, ◌&&◌, ◌||◌, cond, ℕ, suc, ◌+◌, ◌-◌, ◌≤◌, ◌<◌, eqb, get_or}
 use Rattle.std.proofs.Common.{ap, sym, ◌∙◌, arith}
 use Rattle.std.proofs.Math.Option.{Option, none, some}
 use Rattle.std.proofs.Math.Decide.{ℕ_discrete}
 use Rattle.cedar.specs.Types.{Mode, is_permissive, is_loose, eq_names, eq_flag, Ty, Attrs, nil, attr, maybe, names, find}
-use Rattle.cedar.specs.TypeForm.{count, enc}
+use Rattle.cedar.specs.TypeForm.{count}
 use Rattle.cedar.specs.Result.{Result, ok, err, bind}
 use Rattle.cedar.specs.Bound.{absent, join_equal, join_kept, join_one, join_record}
 use Rattle.cedar.specs.Laws.DirectBound.{direct, direct_attrs}
-use Rattle.forms.specs.Parts.{part, rest, rd, kind}
-use Rattle.forms.specs.Search.{below, used, found_at}
-use Rattle.forms.specs.declared.search.Found.{Found}
-use Rattle.forms.specs.declared.search.Found.TheVariants.{At, Nothing}
-use Rattle.forms.specs.TypeBytes.{whole, dec, dec_a}
-use Rattle.forms.specs.Laws.Attributes.{past, Past, found-at, found-not}
-use Rattle.writing.specs.declared.form_lengths.FormLength.{FormLength}
-use Rattle.writing.specs.declared.form_lengths.FormLength.TheVariants.{Of, Not}
-use Rattle.writing.specs.FormLengths.{form_length_of}
-use Rattle.bound_lengths.specs.Pairs.{Front, joined_attrs, joined, joined_to}
+use Rattle.forms.specs.Parts.{rest, rd, kind}
+use Rattle.forms.specs.RowBytes.{TookFirst, Skipped, Sought}
 use Rattle.forms.specs.Tables.{Tabled, attrs_at}
-use Rattle.writing.specs.Laws.FormLengths.{of-ok, not_err}
+use Rattle.forms.specs.TypeBytes.{whole, dec, dec_a}
+use Rattle.forms.specs.declared.rows.Row.{Row}
 use Rattle.forms.specs.Laws.Tables.{Split, attrs-count}
-use Rattle.bound_lengths.specs.Laws.Pairs.{after, Walk, walk_end, walk-room, walk-fit, walk-body, walk-front, walk_more, walk_step, start-walk}
+use Rattle.writing.specs.Laws.FormLengths.{before}
+use Rattle.bound_lengths.specs.Pairs.{joined_attrs, joined, joined_to, row_flag, joined_row}
+use Rattle.bound_lengths.specs.Laws.Pairs.{after, Joins, Walk, walk_end, walk_more, walk_step, start-walk}
 use Rattle.bound_lengths.specs.Laws.Bounds.{set-join, record-join, entity-join, atoms-join}
-use Rattle.bounds.specs.Joins.{count_of, is_ok, is_kept}
+use Rattle.bounds.specs.Joins.{count_of, is_ok, is_kept, KeptWith}
 use Rattle.bounds.specs.Laws.UntypedSets.{loose-known, joined-known}
 
 -- There is a result.
@@ -34,14 +29,6 @@ ok-known (err e) h = absurd (let z : ◌≡◌ {A = ℕ} 0 1 = cc in omega arith
 pub ok-bind : {A B : Type 0} (r : Result A) (f : A → B) → is_ok (bind r (λ a. ok (f a))) ≡ is_ok r
 ok-bind (ok a) f = refl
 ok-bind (err e) f = refl
-
--- What the length pass said.
-module _ (m : Mode) (t u : Ty) (x : FormLength) (told : x ≡ form_length_of enc (direct m t u)) where
-  pub form-length-yes : (n : ℕ) → x ≡ Of n → true ≡ is_ok (direct m t u)
-  form-length-yes n q = let c = of-ok enc (direct m t u) x n told q in sym (ap is_ok c.1.0)
-
-  pub form-length-no : (d : ℕ) → x ≡ Not d → false ≡ is_ok (direct m t u)
-  form-length-no d q = sym (ap is_ok (not_err enc (direct m t u) x d told q))
 
 -- Permissive, two attribute lists have a bound: what has none is dropped.
 lists-bound : (m : Mode) → is_permissive m ≡ true → (xs ys : Attrs) → is_ok (direct_attrs m xs ys) ≡ true
@@ -114,16 +101,33 @@ module _ (m : Mode) (r : Bool) (t : Ty) (o : Option (Bool × Ty)) where
         go (ok c) = rw p refl
         go (err d) = rw p refl
 
--- What a search for the name of an entry found.
-module _ {l m : ℕ} {f c : List ℕ} (e : List ℕ) (s : Front l m (rd e 0) f c) (name : ℕ) (named : name ≡ rd e 0) (r : Found) (told : r ≡ found_at 5 m name f) where
-  pub name-found : (i off : ℕ) → r ≡ At i off → (y : Bool × Ty) × (find (rd e 0) (dec_a (dec l) m f c) ≡ some y)
-  name-found i off q = (_, ap (λ (n : ℕ). find n (dec_a (dec l) m f c)) (sym named) ∙ (found-at s.sound name r told i off q).is)
+-- An attribute that is kept stands before the others, with the bound of its types.
+pub kept-before : (m : Mode) (l n : ℕ) (r x : Row) (cs : Result Attrs) → is_kept (joined_row m l r (Some x)) ≡ true →
+    after n (joined_row m l r (Some x)) cs ≡ before n (row_flag r && row_flag x) (direct m (dec l r.body.now) (dec l x.body.now)) cs
+kept-before m l n r x cs h = go (direct m (dec l r.body.now) (dec l x.body.now)) h
+  where
+    kept : (b : Bool) (c : Ty) → is_kept (cond b (ok (some (row_flag r && row_flag x, c))) (err 11)) ≡ true →
+        after n (cond b (ok (some (row_flag r && row_flag x, c))) (err 11)) cs ≡ before n (row_flag r && row_flag x) (ok c) cs
+    kept true c h = refl
+    kept false c h = absurd (let z : ◌≡◌ {A = ℕ} 0 1 = cc in omega arith)
 
-  pub name-absent : r ≡ Nothing → find (rd e 0) (dec_a (dec l) m f c) ≡ none
-  name-absent q = ap (λ (n : ℕ). find n (dec_a (dec l) m f c)) (sym named) ∙ found-not s.sound name r told q
+    none-kept : (b : Bool) (d : ℕ) → is_kept (cond b (ok none) (err d)) ≡ true → ⊥
+    none-kept true d h = let z : ◌≡◌ {A = ℕ} 0 1 = cc in omega arith
+    none-kept false d h = let z : ◌≡◌ {A = ℕ} 0 1 = cc in omega arith
+
+    go : (c : Result Ty) → is_kept (joined_to m (row_flag r) (row_flag x) c) ≡ true →
+        after n (joined_to m (row_flag r) (row_flag x) c) cs ≡ before n (row_flag r && row_flag x) c cs
+    go (ok c) h = kept (is_permissive m || eq_flag (row_flag r) (row_flag x)) c h
+    go (err d) h = absurd (none-kept (is_permissive m) d h)
+
+-- An attribute that is dropped, where there is a bound.
+pub dropped-after : (n : ℕ) (j : Result (Option (Bool × Ty))) (cs : Result Attrs) → is_ok j ≡ true → is_kept j ≡ false → after n j cs ≡ cs
+dropped-after n (ok none) cs g h = refl
+dropped-after n (ok (some y)) cs g h = absurd (let z : ◌≡◌ {A = ℕ} 0 1 = cc in omega arith)
+dropped-after n (err d) cs g h = absurd (let z : ◌≡◌ {A = ℕ} 0 1 = cc in omega arith)
 
 -- An attribute before the others, where there is a bound.
-after-known : (n : ℕ) (j : Result (Option (Bool × Ty))) (cs : Result Attrs) → is_ok (after n j cs) ≡ true → is_ok j ≡ true
+pub after-known : (n : ℕ) (j : Result (Option (Bool × Ty))) (cs : Result Attrs) → is_ok (after n j cs) ≡ true → is_ok j ≡ true
 after-known n (ok none) cs h = refl
 after-known n (ok (some y)) cs h = refl
 after-known n (err e) cs h = h
@@ -175,21 +179,26 @@ module _ (m : Mode) (p : is_permissive m ≡ false) where
       let c = ok-known (joined_attrs m (attrs_at l at a) (attrs_at l at b)) s in
       e ∙ sym (attrs-count (dec l) (rd a at) _ _) ∙ strict-many (attrs_at l at a) (attrs_at l at b) c.0 c.1 ∙ sym (ap count_of c.1)
 
-pub one-most : (r : Bool) → cond r 1 0 ≤ 1
+one-most : (r : Bool) → cond r 1 0 ≤ 1
 one-most true = omega arith
 one-most false = omega arith
 
--- The loop that counts: `num` attributes are kept, and `left` are to be asked for.
-pub record Counting (d : Mode) (all : Result Attrs) (n l left : ℕ) (e s : List ℕ) (m : ℕ) (f c : List ℕ) (num : ℕ) : Type 0 where
-  pub walk : Walk l left e s m f c
-  pub few : m < 65536
-  pub most : num + left ≤ n
-  pub known : is_ok (direct_attrs d (dec_a (dec l) left e s) (dec_a (dec l) m f c)) ≡ true
-  pub same : count_of all ≡ num + count_of (direct_attrs d (dec_a (dec l) left e s) (dec_a (dec l) m f c))
+-- Whether one is kept, by the attribute with which it is.
+pub kept-some : (m : Mode) (l : ℕ) (r : Row) (o k : Maybe Row) → KeptWith m l r o k → is_kept (joined_row m l r o) ≡ is_some k
+kept-some m l r o (Some x) h = h.1
+kept-some m l r o None h = h
 
-pub counting-start : {l at : ℕ} {a b : List ℕ} → Tabled l at a → Tabled l at b → {left m : ℕ} {e s f c : List ℕ} → Split at a left e s → Split at b m f c →
-    m < 65536 → (d : Mode) →
-    is_ok (joined_attrs d (attrs_at l at a) (attrs_at l at b)) ≡ true → Counting d (joined_attrs d (attrs_at l at a) (attrs_at l at b)) left l left e s m f c 0
+-- The loop that counts: `num` attributes are kept, and `left` are to be asked for.
+pub record Counting (d : Mode) (all : Result Attrs) (n l left : ℕ) (es bs : List ℕ) (m : ℕ) (fs cs : List ℕ) (num : ℕ) : Type 0 where
+  pub walk : Walk l left es bs m fs cs
+  pub few : n < 65536
+  pub most : num + left ≤ n
+  pub known : is_ok (direct_attrs d (dec_a (dec l) left es bs) (dec_a (dec l) m fs cs)) ≡ true
+  pub same : count_of all ≡ num + count_of (direct_attrs d (dec_a (dec l) left es bs) (dec_a (dec l) m fs cs))
+
+pub counting-start : {l at : ℕ} {a b : List ℕ} → Tabled l at a → Tabled l at b → {left m : ℕ} {es bs fs cs : List ℕ} → Split at a left es bs → Split at b m fs cs →
+    left < 65536 → (d : Mode) →
+    is_ok (joined_attrs d (attrs_at l at a) (attrs_at l at b)) ≡ true → Counting d (joined_attrs d (attrs_at l at a) (attrs_at l at b)) left l left es bs m fs cs 0
 counting-start {l} {at} {a} {b} p q u v h d g =
     let k = ok-known (joined_attrs d (attrs_at l at a) (attrs_at l at b)) g in
     let j = joined-direct d (attrs_at l at a) (attrs_at l at b) k.0 k.1 in
@@ -201,46 +210,35 @@ counting-start {l} {at} {a} {b} p q u v h d g =
       same = rw (u.n-is, u.es-is, u.bs-is, v.n-is, v.es-is, v.bs-is) (ap count_of j ∙ omega arith);
     }
 
-module _ {d : Mode} {all : Result Attrs} {n l left : ℕ} {e s : List ℕ} {m : ℕ} {f c : List ℕ} {num : ℕ} (w : Counting d all n l left e s m f c num) where
+module _ {d : Mode} {all : Result Attrs} {n l left : ℕ} {es bs : List ℕ} {m : ℕ} {fs cs : List ℕ} {num : ℕ} (w : Counting d all n l left es bs m fs cs num) where
   pub counting-end : left ≤ 0 → num ≡ count_of all
-  counting-end h = sym (w.same ∙ ap (λ (r : Result Attrs). num + count_of r) (walk_end d l left e s (dec_a (dec l) m f c) h) ∙ omega arith)
+  counting-end h = sym (w.same ∙ ap (λ (r : Result Attrs). num + count_of r) (walk_end d l left es bs (dec_a (dec l) m fs cs) h) ∙ omega arith)
 
-  -- A turn: the first list's entry has this name, and the second list is past the names below.
-  module _ (p : 0 < left) (name : ℕ) (named : name ≡ rd e 0) (k off : ℕ) (skipped : (k ≡ below 5 m name f) × (off ≡ used 5 k f)) where
-    pub counting-past : Past l m name f c k off
-    counting-past = past w.walk.second name k off skipped.0 skipped.1
+  -- A turn: an attribute of the first list was taken, and the second was searched for its name.
+  module _ {left' m' : ℕ} {es' bs' fs' cs' : List ℕ} {r : Row} (t : TookFirst 5 left es bs left' es' bs' r) {name : ℕ} (q : name ≡ rd r.head.now 0)
+      (s : Skipped 5 m name fs cs m' fs' cs') (o : Maybe Row) (g : Sought 5 m' name fs' cs' o) where
+    step : Joins (direct_attrs d (dec_a (dec l) left es bs) (dec_a (dec l) m fs cs)) (rd r.head.now 0) (joined_row d l r o)
+        (direct_attrs d (dec_a (dec l) left' es' bs') (dec_a (dec l) m' fs' cs'))
+    step = walk_step w.walk t q s o g d
 
-    module _ (len : ℕ) (q : len ≡ rd e 3) where
-      pub counting-front : Front l (m - k) (rd e 0) (rest (5 * k) f) (rest off c)
-      counting-front = walk-front w.walk p len q name named k off counting-past
+    after-is : is_ok (after (rd r.head.now 0) (joined_row d l r o) (direct_attrs d (dec_a (dec l) left' es' bs') (dec_a (dec l) m' fs' cs'))) ≡ true
+    after-is = ap is_ok (sym step.is) ∙ w.known
 
-      pub counting-body : (len ≤ length s) × (whole l (part 0 len s) ≡ true)
-      counting-body = (walk-fit w.walk p len q, walk-body w.walk p len q)
+    pub counting-known : is_ok (joined_row d l r o) ≡ true
+    counting-known = after-known (rd r.head.now 0) (joined_row d l r o) _ after-is
 
-      abbrev Turned : Result (Option (Bool × Ty))
-      Turned = joined d (eqb (get_or e 2 0) 1) (dec l (part 0 len s)) (find (rd e 0) (dec_a (dec l) (m - k) (rest (5 * k) f) (rest off c)))
+    pub counting-few : num + 1 < 65536
+    counting-few = omega (arith, w.few, w.most, t.left)
 
-      abbrev Others : Result Attrs
-      Others = direct_attrs d (dec_a (dec l) (left - 1) (rest 5 e) (rest len s)) (dec_a (dec l) (m - k) (rest (5 * k) f) (rest off c))
-
-      step : direct_attrs d (dec_a (dec l) left e s) (dec_a (dec l) m f c) ≡ after (rd e 0) Turned Others
-      step = walk_step w.walk p len q name named k off counting-past d
-
-      pub counting-known : is_ok Turned ≡ true
-      counting-known = after-known (rd e 0) Turned Others (ap is_ok (sym step) ∙ w.known)
-
-      pub counting_more : (r : Bool) (i : ℕ) → r ≡ is_kept Turned → i ≡ cond r 1 0 →
-          Counting d all n l (left - 1) (rest 5 e) (rest len s) (m - k) (rest (5 * k) f) (rest off c) (num + i)
-      counting_more r i h j =
-          let t = after-count (rd e 0) Turned Others (ap is_ok (sym step) ∙ w.known) in
-          let z : i ≡ cond (is_kept Turned) 1 0 = j ∙ ap (λ (x : Bool). cond x 1 0) h in
-          record {
-            walk = walk_more w.walk p len q name named k off counting-past;
-            few = omega (arith, w.few);
-            most = omega (arith, w.most, one-most r, j);
-            known = t.0;
-            same = w.same ∙ ap (λ (x : Result Attrs). num + count_of x) step ∙ omega (arith, t.1, z);
-          }
-
-  pub counting-entry : 0 < left → 5 ≤ length e
-  counting-entry p = walk-room w.walk p
+    pub counting_more : (x : Bool) (num' : ℕ) → is_kept (joined_row d l r o) ≡ x → num' ≡ num + cond x 1 0 →
+        Counting d all n l left' es' bs' m' fs' cs' num'
+    counting_more x num' h e =
+        let c = after-count (rd r.head.now 0) (joined_row d l r o) (direct_attrs d (dec_a (dec l) left' es' bs') (dec_a (dec l) m' fs' cs')) after-is in
+        let k : ◌≡◌ {A = ℕ} (cond (is_kept (joined_row d l r o)) 1 0) (cond x 1 0) = ap (λ (y : Bool). cond y 1 0) h in
+        record {
+          walk = walk_more w.walk t q s;
+          few = w.few;
+          most = omega (arith, w.most, t.left, one-most x, e);
+          known = c.0;
+          same = w.same ∙ ap (λ (y : Result Attrs). num + count_of y) step.is ∙ omega (arith, c.1, k, e);
+        }

@@ -1,7 +1,8 @@
 -- The bound of two sets by that of their elements: whether there is one, and when it is the untyped set. Assumes nothing.
 use Rattle.std.proofs.Math.Path.{◌≡◌, refl, ap}
 use Rattle.std.proofs.Common.{sym, ◌∙◌, arith}
-use Rattle.std.specs.Prelude.{[], ◌∷◌, Bool, false, cond, ℕ, ◌-◌}
+use Rattle.std.specs.Option.{option_map}
+use Rattle.std.specs.Prelude.{Option as Maybe, Some, None, [], ◌∷◌, Bool, false, cond, ℕ, ◌-◌}
 use Rattle.std.proofs.Math.Bool.{true, not}
 use Rattle.std.proofs.Math.Dec.{eqb}
 use Rattle.std.proofs.Math.ListN.{length}
@@ -60,9 +61,10 @@ module _ (m : Mode) (r : Result Ty) (known : is_ok (join_set m r) ≡ true) wher
           ne_eqb n 1 (λ z. let g = enc-pos c in omega (arith, l))
       go (err d) p = eq-eqb n 1 (e ∙ ap (λ (q : Result Ty). length (form_of enc q)) (untyped-is (ap is_ok p)))
 
-  pub element-known : (n : ℕ) → KnownLength n (form_of enc (join_set m r)) → is_ok r ≡ true → KnownLength (n - 1) (form_of enc r)
+  pub element-known : (o : Maybe ℕ) → KnownLength o (form_of enc (join_set m r)) → is_ok r ≡ true → KnownLength (option_map (λ n. n - 1) o) (form_of enc r)
   unfolding enc
-  element-known n f h p = go r h (f (omega arith))
+  element-known None f h = f
+  element-known (Some n) f h = go r h f
     where
       go : (q : Result Ty) → is_ok q ≡ true → n ≡ length (form_of enc (join_set m q)) → n - 1 ≡ length (form_of enc q)
       go (ok c) h e = omega (arith, e)

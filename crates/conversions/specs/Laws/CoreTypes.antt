@@ -1,5 +1,5 @@
 -- The core type of a form, by its kind. Assumes nothing.
-use Rattle.std.specs.Prelude.{◌≡◌, Bool, true, ℕ, suc, ◌+◌, ◌*◌, ◌-◌, ◌≤◌, ◌<◌, eqb, length, get_or}
+use Rattle.std.specs.Prelude.{◌≡◌, Bool, true, ℕ, suc, ◌+◌, ◌*◌, ◌-◌, ◌≤◌, eqb, length, get_or}
 use Rattle.std.proofs.Math.Path.{refl, ap}
 use Rattle.std.proofs.Common.{sym, ◌∙◌}
 use mathlib.Core.List.{List, [], ◌∷◌, ◌++◌}
@@ -8,29 +8,29 @@ use native.Mathlib.Omega.{arith}
 use Rattle.std.proofs.Math.Decide.{ℕ_discrete}
 use borrow.Author.Tests.{ne_eqb}
 use Rattle.cedar.specs.Types.{Atom, never, true', false', bool, long, string, anyset, anyent, Ty, atom, set, rec, ent, ext, Attrs, nil, attr}
-use Rattle.cedar.specs.Bytes.{u16, ◌>>=◌}
+use Rattle.cedar.specs.Bytes.{u16, flag, ◌>>=◌}
 use Rattle.cedar.specs.TypeForm.{atom_code, count, enc}
 use Rattle.cedar.specs.Conversion.{convert, convert_attrs}
 use Rattle.cedar.specs.Result.{Result, ok, err, bind}
-use Rattle.forms.specs.Parts.{part, rest, rd, kind}
+use Rattle.forms.specs.Parts.{rest, rd, kind}
 use Rattle.forms.specs.TypeBytes.{names_by, dec_a, whole, dec, Sound}
 use Rattle.forms.specs.Laws.Parts.{rest-is}
 use Rattle.forms.specs.Laws.Sure.{rd-drop}
-use Rattle.writing.specs.declared.form_lengths.FormLength.{FormLength}
-use Rattle.writing.specs.declared.form_lengths.FormLength.TheVariants.{Of, Not}
 use Rattle.cedar.specs.Outcome.{over}
 use Rattle.cedar.specs.Limits.{most_bytes}
 use Rattle.writing.specs.Written.{Written}
 use Rattle.writing.specs.FormLengths.{cap, table, form_length_of, form_of, Ready, or_refuse}
 use Rattle.writing.specs.Laws.Writing.{back}
-use Rattle.writing.specs.Laws.FormLengths.{Cut, before, Summing, summing-err, summing-more}
-use Rattle.forms.specs.Laws.Views.{is_set, is-record, is-entity, is-action, is-extension, is-atom}
+use Rattle.writing.specs.Laws.FormLengths.{Cut, before, Summing, summing-not, summing-more}
+use Rattle.forms.specs.Laws.Views.{is_set, is-entity, is-action, is-extension, is-atom}
 use Rattle.forms.specs.Laws.Attributes.{attrs-none}
-use Rattle.writing.specs.Laws.Laying.{flag_is, behind-front, ready-room, written_known, Laying, laying-start, laying-end, laying-ready, laying-pos, laying-at}
+use Rattle.writing.specs.Laws.Laying.{behind-front, ready-room, written_known, Laying, laying-start, laying-end, laying-ready, laying-pos, laying-at}
 use Rattle.writing.specs.Laws.Laying.{laying-entry, laying-small, laying-more}
 use Rattle.forms.specs.Laws.Names.{names-length}
-use Rattle.forms.specs.Laws.Tables.{Split, split, record_is, attrs-count, left_is, left-flag}
+use Rattle.forms.specs.Laws.Tables.{Split, split, record_is, attrs-count}
 use Rattle.forms.specs.Tables.{Left}
+use Rattle.forms.specs.declared.rows.Row.{Row}
+use Rattle.forms.specs.Laws.AttributeRows.{Attribute}
 use Rattle.forms.specs.Laws.Codes.{atom-code, atom-at}
 use Rattle.conversions.specs.CoreTypes.{core, core_attrs, bool_or}
 
@@ -52,37 +52,25 @@ core-nil : core_attrs nil ≡ ok nil
 unfolding core_attrs convert
 core-nil = refl
 
--- An attribute list from its first on.
-module _ {l n : ℕ} {es bs : List ℕ} (s : Left l n es bs) where
-  pub attrs-step : (p : 0 < n) (k : ℕ) (q : k ≡ rd es 3) →
-      core_attrs (dec_a (dec l) n es bs) ≡ before (rd es 0) (eqb (get_or es 2 0) 1) (core (dec l (part 0 k bs)))
-      (core_attrs (dec_a (dec l) (n - 1) (rest 5 es) (rest k bs)))
-  attrs-step p k q =
-      ap core_attrs (left_is s p k q) ∙ core-before (rd es 0) (eqb (get_or es 2 0) 1) (dec l (part 0 k bs)) (dec_a (dec l) (n - 1) (rest 5 es) (rest k bs))
+pub attrs-end : (l n : ℕ) (es bs : List ℕ) → n ≤ 0 → core_attrs (dec_a (dec l) n es bs) ≡ ok nil
+attrs-end l n es bs p = ap core_attrs (attrs-none (dec l) n es bs p) ∙ core-nil
 
-  pub attrs-end : n ≤ 0 → core_attrs (dec_a (dec l) n es bs) ≡ ok nil
-  attrs-end p = ap core_attrs (attrs-none (dec l) n es bs p) ∙ core-nil
+-- An attribute that was taken from a list, and the others.
+module _ {l low m : ℕ} {xs : Attrs} {fs cs : List ℕ} {r : Row} (a : Attribute l low xs m fs cs r) where
+  core-step : core_attrs xs ≡ before (rd r.head.now 0) (eqb (get_or r.head.now 2 0) 1) (core (dec l r.body.now)) (core_attrs (dec_a (dec l) m fs cs))
+  core-step =
+      ap core_attrs a.is ∙ core-before (rd r.head.now 0) (eqb (get_or r.head.now 2 0) 1) (dec l r.body.now) (dec_a (dec l) m fs cs)
 
--- The only refusal.
-core-err : (t : Ty) (x : FormLength) (d : ℕ) → x ≡ form_length_of enc (core t) → x ≡ Not d → core t ≡ err 8
-unfolding core
-core-err t x d p q = go (convert t) p
-  where
-    go : (o : Option Ty) → x ≡ form_length_of enc (or_refuse 8 o) → or_refuse 8 o ≡ err 8
-    go none p = refl
-    go (some u) p = absurd (let z : ◌≡◌ {A = ℕ} 0 1 = cc in omega arith)
+  -- The loop of the length pass, where its type's length was asked.
+  module _ {all : Result Attrs} {sum : ℕ} (i : Summing all (core_attrs xs) sum) (x : Result ℕ) (told : x ≡ form_length_of enc (core (dec l r.body.now))) where
+    pub attrs-not : (d : ℕ) → x ≡ err d → err d ≡ form_length_of table all
+    attrs-not d q =
+        summing-not i (rd r.head.now 0) (eqb (get_or r.head.now 2 0) 1) (core (dec l r.body.now)) (core_attrs (dec_a (dec l) m fs cs)) core-step x told d q
 
--- The loop of the length pass, at an attribute whose type's length was asked.
-module _ {all : Result Attrs} {l n sum : ℕ} {es bs : List ℕ} (i : Summing all (core_attrs (dec_a (dec l) n es bs)) sum) (s : Left l n es bs) (p : 0 < n) (k : ℕ)
-    (q : k ≡ rd es 3)
-    (x : FormLength) (told : x ≡ form_length_of enc (core (dec l (part 0 k bs)))) where
-  pub attrs-not : (d : ℕ) → x ≡ Not d → Not 8 ≡ form_length_of table all
-  attrs-not d z = summing-err i 8 (attrs-step s p k q ∙ rw (core-err (dec l (part 0 k bs)) x d told z) refl)
-
-  pub attrs-more : (y z : ℕ) → x ≡ Of y → z ≡ cap (sum + y + 5) → Summing all (core_attrs (dec_a (dec l) (n - 1) (rest 5 es) (rest k bs))) z
-  attrs-more y z of g =
-      summing-more i (rd es 0) (eqb (get_or es 2 0) 1) (core (dec l (part 0 k bs))) (core_attrs (dec_a (dec l) (n - 1) (rest 5 es) (rest k bs)))
-      (attrs-step s p k q) x told y z of g
+    pub attrs-more : (k z : ℕ) → x ≡ ok k → z ≡ cap (sum + k + 5) → Summing all (core_attrs (dec_a (dec l) m fs cs)) z
+    attrs-more k z q g =
+        summing-more i (rd r.head.now 0) (eqb (get_or r.head.now 2 0) 1) (core (dec l r.body.now)) (core_attrs (dec_a (dec l) m fs cs)) core-step x told k z
+        q g
 
 core-atom : (a : Atom) (k : ℕ) → atom_code a ≡ k → (k ≡ 0 → ⊥) → (k ≡ 9 → ⊥) → (c : Ty) × ((core (atom a) ≡ ok c) × (enc c ≡ bool_or k ∷ []))
 unfolding core convert enc
@@ -131,14 +119,14 @@ module _ (l : ℕ) (b : List ℕ) (h : whole l b ≡ true) where
   set-cut e = record { make = set; is = rw (is_set l b h e).is (refuse-map 8 (convert (dec (l - 1) (rest 1 b))) set); cut = λ a q. refl }
 
   pub record-cut : {n : ℕ} {es bs : List ℕ} → kind b ≡ 8 → Split 2 b n es bs →
-      Cut table enc (8 ∷ get_or b 1 0 ∷ u16 n) (core_attrs (dec_a (dec (l - 1)) n es bs)) (core (dec l b))
+      Cut table enc (8 ∷ flag (eqb (get_or b 1 0) 1) ∷ u16 n) (core_attrs (dec_a (dec (l - 1)) n es bs)) (core (dec l b))
   unfolding core core_attrs convert enc
   record-cut {n} {es} {bs} e s =
       let xs = dec_a (dec (l - 1)) n es bs in
       record {
         make = λ cs. rec (eqb (get_or b 1 0) 1) cs;
         is = rw (record_is l b h e s) (refuse-map 8 (convert_attrs xs) (λ cs. rec (eqb (get_or b 1 0) 1) cs));
-        cut = λ cs q. rw (flag_is (get_or b 1 0) (is-record l b h e).flag, core-count xs cs q ∙ attrs-count (dec (l - 1)) n es bs) refl;
+        cut = λ cs q. rw (core-count xs cs q ∙ attrs-count (dec (l - 1)) n es bs) refl;
       }
 
   pub entity-core : kind b ≡ 10 → (n : ℕ) → n ≡ rd b 1 → n ≡ 1 → core (dec l b) ≡ ok (ent (rd b 3 ∷ []))
@@ -161,10 +149,10 @@ module _ (l : ℕ) (b : List ℕ) (h : whole l b ≡ true) where
   extension-core e = rw (is-extension l b h e).is refl
 
   -- The length pass.
-  pub known-length : (c : Ty) (k : ℕ) → core (dec l b) ≡ ok c → length (enc c) ≡ k → k ≤ 5 → Of k ≡ form_length_of enc (core (dec l b))
-  known-length c k e q p = rw (e, q) (ap Of (omega arith))
+  pub known-length : (c : Ty) (k : ℕ) → core (dec l b) ≡ ok c → length (enc c) ≡ k → k ≤ 5 → ok k ≡ form_length_of enc (core (dec l b))
+  known-length c k e q p = rw (e, q) (ap ok (omega arith))
 
-  pub refused-length : core (dec l b) ≡ err 8 → Not 8 ≡ form_length_of enc (core (dec l b))
+  pub refused-length : core (dec l b) ≡ err 8 → err 8 ≡ form_length_of enc (core (dec l b))
   refused-length e = rw e refl
 
   -- A form of one byte.
@@ -176,7 +164,7 @@ module _ (l : ℕ) (b : List ℕ) (h : whole l b ≡ true) where
         let s = core-atom a.kind-of (kind b) (atom-code a) p0 p9 in
         (s.0, (ap core a.is ∙ s.1.0, s.1.1))
 
-    pub atom-length : Of 1 ≡ form_length_of enc (core (dec l b))
+    pub atom-length : ok 1 ≡ form_length_of enc (core (dec l b))
     atom-length = known-length single.0 1 single.1.0 (ap length single.1.1) (omega arith)
 
     pub atom-written : {o : List ℕ} (g : Ready enc (core (dec l b)) o) →
@@ -240,33 +228,39 @@ core-laying {l} {n} {low} {es} {bs} s g = laying-start n g (λ xs e. core-count 
 module _ {all : Result Attrs} {l n : ℕ} {es bs o : List ℕ} {at pos : ℕ} {out : List ℕ} (i : Laying all (core_attrs (dec_a (dec l) n es bs)) o at pos out)
     (s : Left l n es bs) where
   pub core-end : n ≤ 0 → Written (form_of table all) o out pos
-  core-end p = laying-end i (attrs-end s p)
+  core-end p = laying-end i (attrs-end l n es bs p)
 
-  module _ (p : 0 < n) (k : ℕ) (q : k ≡ rd es 3) where
-    abbrev Type' : Result Ty
-    Type' = core (dec l (part 0 k bs))
+-- An attribute that was taken, and the others.
+module _ {l low m : ℕ} {xs : Attrs} {fs cs : List ℕ} {r : Row} (a : Attribute l low xs m fs cs r) {all : Result Attrs} {o : List ℕ} {at pos : ℕ} {out : List ℕ}
+    (i : Laying all (core_attrs xs) o at pos out) where
+  abbrev name : ℕ
+  name = rd r.head.now 0
 
-    abbrev Rest : Result Attrs
-    Rest = core_attrs (dec_a (dec l) (n - 1) (rest 5 es) (rest k bs))
+  abbrev required : Bool
+  required = eqb (get_or r.head.now 2 0) 1
 
-    pub core-pos : pos ≤ length out
-    core-pos = laying-pos i (rd es 0) (eqb (get_or es 2 0) 1) Type' Rest (attrs-step s p k q)
+  abbrev Type' : Result Ty
+  Type' = core (dec l r.body.now)
 
-    pub core-ready : Ready enc Type' (rest pos out)
-    core-ready = laying-ready i (rd es 0) (eqb (get_or es 2 0) 1) Type' Rest (attrs-step s p k q)
+  abbrev Rest : Result Attrs
+  Rest = core_attrs (dec_a (dec l) m fs cs)
 
-    module _ (ys : List ℕ) (x : ℕ) (t : Written (form_of enc Type') (rest pos out) ys x) where
-      pub core_at : at + 5 ≤ length (back pos out ys)
-      core_at = laying-at i (rd es 0) (eqb (get_or es 2 0) 1) Type' Rest (attrs-step s p k q) ys x t
+  pub core-pos : pos ≤ length out
+  core-pos = laying-pos i name required Type' Rest (core-step a)
 
-      pub core-entry : 5 ≤ length (rest at (back pos out ys))
-      core-entry = laying-entry i (rd es 0) (eqb (get_or es 2 0) 1) Type' Rest (attrs-step s p k q) ys x t
+  pub core-ready : Ready enc Type' (rest pos out)
+  core-ready = laying-ready i name required Type' Rest (core-step a)
 
-      pub core-small : (x ≤ most_bytes) × ((pos + x ≤ most_bytes) × (at + 5 ≤ most_bytes))
-      core-small = laying-small i (rd es 0) (eqb (get_or es 2 0) 1) Type' Rest (attrs-step s p k q) ys x t
+  module _ (ys : List ℕ) (x : ℕ) (t : Written (form_of enc Type') (rest pos out) ys x) where
+    pub core_at : at + 5 ≤ length (back pos out ys)
+    core_at = laying-at i name required Type' Rest (core-step a) ys x t
 
-      pub core-more : (m : ℕ) (zs : List ℕ) → m ≡ rd es 0 → zs ≡ over (u16 m ++ (get_or es 2 0 ∷ u16 x)) (rest at (back pos out ys)) →
-          Laying all Rest o (at + 5) (pos + x) (back at (back pos out ys) zs)
-      core-more m zs e f =
-          laying-more i (rd es 0) (eqb (get_or es 2 0) 1) Type' Rest (attrs-step s p k q) ys x t (get_or es 2 0) zs (sym (flag_is (get_or es 2 0) (left-flag s p)))
-          (f ∙ rw e refl)
+    pub core-entry : 5 ≤ length (rest at (back pos out ys))
+    core-entry = laying-entry i name required Type' Rest (core-step a) ys x t
+
+    pub core-small : (x ≤ most_bytes) × ((pos + x ≤ most_bytes) × (at + 5 ≤ most_bytes))
+    core-small = laying-small i name required Type' Rest (core-step a) ys x t
+
+    pub core-more : (k : ℕ) (f : Bool) (zs : List ℕ) → k ≡ name → f ≡ required → zs ≡ over (u16 k ++ (flag f ∷ u16 x)) (rest at (back pos out ys)) →
+        Laying all Rest o (at + 5) (pos + x) (back at (back pos out ys) zs)
+    core-more k f zs e g h = laying-more i name required Type' Rest (core-step a) ys x t zs (h ∙ rw (e, g) refl)

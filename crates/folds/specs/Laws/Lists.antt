@@ -1,5 +1,5 @@
 -- The loop of a fold, and its start. Assumes nothing.
-use Rattle.std.specs.Prelude.{ℕ, zero, suc, ◌+◌, ◌*◌, ◌-◌, ◌≤◌, ◌<◌, List, [], ◌∷◌, true, ◌≡◌, refl, length, set}
+use Rattle.std.specs.Prelude.{ℕ, zero, suc, ◌+◌, ◌*◌, ◌≤◌, ◌<◌, List, [], ◌∷◌, true, ◌≡◌, refl, Result as Answer, Ok, Err, length, set}
 use Rattle.std.proofs.Common.{arith, subst, ◌∙◌}
 use Rattle.std.proofs.Math.Path.{ap, sym}
 use Rattle.std.proofs.Math.ListN.{length-set}
@@ -12,13 +12,19 @@ use Rattle.cedar.specs.Fold.{fold_from, fold_types}
 use Rattle.cedar.specs.Calls.{step_fits}
 use Rattle.forms.specs.Parts.{part, rest, rd}
 use Rattle.forms.specs.TypeBytes.{whole, dec}
-use Rattle.forms.specs.ListBytes.{SoundTs, dec_ts, list_of}
-use Rattle.forms.specs.Laws.Lists.{type-entry, types-none, is-list}
-use Rattle.folds.specs.declared.steps.JoinStep.{JoinStep}
-use Rattle.folds.specs.declared.steps.JoinStep.TheVariants as steps
-use Rattle.folds.specs.declared.lists.Folded.TheVariants.{To, Not}
-use Rattle.folds.specs.declared.lists.Folded.{Folded}
-use Rattle.folds.specs.Steps.{Held, Stepped}
+use Rattle.forms.specs.ListBytes.{SoundTs, type_fits, dec_ts, list_of}
+use Rattle.forms.specs.Laws.Lists.{TypeEntry, type-entry, types-none, is-list}
+use Rattle.forms.specs.RowBytes.{TookFirst}
+use Rattle.forms.specs.Rows.{none_left}
+use Rattle.forms.specs.Search.{Laid}
+use Rattle.forms.specs.ValueBytes.{member_row}
+use Rattle.forms.specs.declared.refusals.Refusal.{Refusal}
+use Rattle.forms.specs.declared.rows.Row.{Row}
+use Rattle.forms.specs.Laws.Skips.{rows-used}
+use Rattle.forms.specs.Laws.RowBytes.{took-left}
+use Rattle.folds.specs.declared.steps.NoStep.{NoStep}
+use Rattle.folds.specs.declared.steps.NoStep.TheVariants.{Unbounded, TooLong}
+use Rattle.folds.specs.Steps.{Held, Stepped, refusal_of}
 use Rattle.folds.specs.Lists.{Opened, FoldsTo}
 
 -- The loop: `all` is what it is to end with.
@@ -33,46 +39,46 @@ folding-start lim work m len last n es bs h s = record { held = h; sound = s; sa
 
 module _ {lim : Limits} {work : ℕ} {m : Mode} {all : Result Ty} {len : ℕ} {last : List ℕ} {left : ℕ} {es bs : List ℕ}
     (i : Folding lim work m all len last left es bs) where
-  pub folding-end : left ≤ 0 → FoldsTo lim all last (To len)
+  pub folding-end : left ≤ 0 → FoldsTo lim all last (Ok len)
   folding-end h = (i.same ∙ ap (fold_from (step_fits lim work) m (dec lim.levels (part 0 len last))) (types-none lim.levels left es bs h), i.held)
 
-  module _ (p : 0 < left) where
-    pub folding-room : 2 ≤ length es
-    folding-room = (type-entry i.sound p).room
+  pub folding-laid : Laid 2 left es bs
+  folding-laid =
+      record {
+        wide = omega arith;
+        sized = i.sound.sized;
+        room = rows-used member_row (λ _. type_fits lim) none_left (λ _. dec lim.levels) left tt es bs i.sound.good;
+      }
 
-    module _ (k : ℕ) (q : k ≡ rd es 0) where
-      pub folding-fits : k ≤ length bs
-      folding-fits = omega (arith, (type-entry i.sound p).fit)
+  -- A type that was taken.
+  module _ {left' : ℕ} {es' bs' : List ℕ} {row : Row} (t : TookFirst 2 left es bs left' es' bs' row) where
+    taken : TypeEntry lim left es bs
+    taken = type-entry i.sound t.first.some
 
-      pub folding-type : whole lim.levels (part 0 k bs) ≡ true
-      folding-type = rw q (type-entry i.sound p).body
+    pub folding-type : whole lim.levels row.body.now ≡ true
+    folding-type = rw t.first.body taken.body
 
-      first : dec_ts lim.levels left es bs ≡ dec lim.levels (part 0 k bs) ∷ dec_ts lim.levels (left - 1) (rest 2 es) (rest k bs)
-      first = rw q (type-entry i.sound p).is
+    goes : all ≡ fold_from (step_fits lim work) m (dec lim.levels (part 0 len last)) (dec lim.levels row.body.now ∷ dec_ts lim.levels left' es' bs')
+    goes =
+        let e : dec_ts lim.levels left es bs ≡ dec lim.levels row.body.now ∷ dec_ts lim.levels left' es' bs' =
+        rw (t.first.body, t.entries, t.bodies, ← took-left t) taken.is in
+        i.same ∙ ap (fold_from (step_fits lim work) m (dec lim.levels (part 0 len last))) e
 
-      goes : all ≡ fold_from (step_fits lim work) m (dec lim.levels (part 0 len last)) (dec lim.levels (part 0 k bs) ∷ dec_ts lim.levels (left - 1)
-          (rest 2 es) (rest k bs))
-      goes = i.same ∙ ap (fold_from (step_fits lim work) m (dec lim.levels (part 0 len last))) first
+    module _ (last' : List ℕ) where
+      abbrev stepped : Answer ℕ NoStep → Type 0
+      stepped r = Stepped lim (bound m (dec lim.levels (part 0 len last)) (dec lim.levels row.body.now)) work last' r
 
-      module _ (last' : List ℕ) (r : JoinStep) (g : Stepped lim (bound m (dec lim.levels (part 0 len last)) (dec lim.levels
-          (part 0 k bs))) work last' r) where
-        told : (x : JoinStep) → r ≡ x → Stepped lim (bound m (dec lim.levels (part 0 len last)) (dec lim.levels (part 0 k bs))) work last' x
-        told x h = subst (λ (y : JoinStep). Stepped lim (bound m (dec lim.levels (part 0 len last)) (dec lim.levels (part 0 k bs))) work last' y) h g
+      pub folding-not : (x : NoStep) → stepped (Err x) → FoldsTo lim all last' (Err (refusal_of x))
+      folding-not (Unbounded e) g = goes ∙ rw g refl
+      folding-not TooLong g = goes ∙ rw (g.1.0, g.1.1) refl
 
-        pub folding-not : (e : ℕ) → r ≡ steps.Not e → FoldsTo lim all last' (Not e)
-        folding-not e h = goes ∙ rw (told (steps.Not e) h) refl
-
-        pub folding-too-long : r ≡ steps.TooLong → FoldsTo lim all last' (Not 9)
-        folding-too-long h = let d = told steps.TooLong h in goes ∙ rw (d.1.0, d.1.1) refl
-
-        pub folding-next : (n : ℕ) → r ≡ steps.To n → Folding lim work m all n last' (left - 1) (rest 2 es) (rest k bs)
-        folding-next n h =
-            let d = told (steps.To n) h in
-            record {
-              held = d.2;
-              sound = rw q (type-entry i.sound p).more;
-              same = goes ∙ rw (d.0, d.1) refl;
-            }
+      pub folding-next : (n : ℕ) → stepped (Ok n) → Folding lim work m all n last' left' es' bs'
+      folding-next n d =
+          record {
+            held = d.2;
+            sound = rw (t.entries, t.bodies, ← took-left t) taken.more;
+            same = goes ∙ rw (d.0, d.1) refl;
+          }
 
 -- The start: Never in the first byte, then the whole list.
 never-part : (last : List ℕ) → 0 < length last → part 0 1 (set last 0 0) ≡ 0 ∷ []
@@ -106,7 +112,7 @@ module _ (lim : Limits) (list last : List ℕ) (o : Opened lim list last) where
     pub list-sound : SoundTs lim n (part 2 (2 + 2 * n) list) (rest (2 + 2 * n) list)
     list-sound = rw q (is-list lim list o.good).sound
 
-    pub list-folds : (work : ℕ) (m : Mode) (last' : List ℕ) (r : Folded) →
+    pub list-folds : (work : ℕ) (m : Mode) (last' : List ℕ) (r : Answer ℕ Refusal) →
         FoldsTo lim
         (fold_from (step_fits lim work) m (dec lim.levels (part 0 1 (set last 0 0)))
         (dec_ts lim.levels n (part 2 (2 + 2 * n) list) (rest (2 + 2 * n) list))) last' r →

@@ -1,7 +1,6 @@
 -- A step: the bound's length, its form in a half of the workspace, and its copy. Assumes nothing.
-use Rattle.std.specs.Prelude.{ℕ, ◌+◌, ◌-◌, ◌/◌, ◌≤◌, ◌<◌, min, List, ◌++◌, true, ◌≡◌, refl, T, length, get_or, take, drop}
-use Rattle.std.proofs.Common.{arith, append_assoc, ap, sym, subst, ◌∙◌, length-take, le-leb}
-use Rattle.std.proofs.Math.Seq.{take-append_seam, drop-append_seam}
+use Rattle.std.specs.Prelude.{ℕ, ◌/◌, ◌≤◌, ◌<◌, min, List, true, ◌≡◌, refl, T, Ok, Err, length, get_or}
+use Rattle.std.proofs.Common.{arith, ap, sym, subst, ◌∙◌, le-leb}
 use Rattle.std.proofs.lemmas.Bool.{lt-leb}
 use Rattle.cedar.specs.Types.{Mode, Ty}
 use Rattle.cedar.specs.Bytes.{Bytes}
@@ -9,7 +8,7 @@ use Rattle.cedar.specs.Laws.Shape.{Ordered}
 use Rattle.cedar.specs.Subtype.{sub}
 use Rattle.cedar.specs.TypeForm.{enc}
 use Rattle.cedar.specs.Limits.{Limits, most_bytes}
-use Rattle.cedar.specs.Result.{Result, ok}
+use Rattle.cedar.specs.Result.{Result, ok, err}
 use Rattle.cedar.specs.Bound.{bound}
 use Rattle.cedar.specs.Laws.DirectBound.{direct}
 use Rattle.cedar.specs.Outcome.{over}
@@ -18,36 +17,19 @@ use Rattle.cedar.proofs.Laws.TypeForm.{parse-iff}
 use Rattle.cedar.proofs.Laws.Direct.{direct-bound, direct-right}
 use Rattle.cedar.proofs.Laws.Join.{bound-WF}
 use Rattle.cedar.proofs.Laws.JoinBytes.{bound-bytes}
-use Rattle.forms.specs.Parts.{part, rest}
+use Rattle.forms.specs.Parts.{part}
 use Rattle.forms.specs.TypeBytes.{whole, dec}
-use Rattle.forms.specs.Laws.Parts.{part-is, length_part}
+use Rattle.forms.specs.Laws.Parts.{length_part}
 use Rattle.forms.specs.Laws.Sure.{sure-yes, sure-some}
 use Rattle.forms.specs.Laws.TypeTwin.{type-twin}
-use Rattle.writing.specs.declared.form_lengths.FormLength.{FormLength}
-use Rattle.writing.specs.declared.form_lengths.FormLength.TheVariants as form-lengths
+use Rattle.forms.specs.Refusals.{number_of}
+use Rattle.forms.specs.declared.refusals.Refusal.{Refusal}
 use Rattle.writing.specs.FormLengths.{cap, form_length_of, form_of, Ready}
 use Rattle.writing.specs.Laws.FormLengths.{of-ok, not_err, ready}
-use Rattle.writing.specs.Laws.Writing.{back, over-front}
+use Rattle.writing.specs.Laws.Writing.{over-front}
 use Rattle.forms.specs.Laws.Bytes.{Bytes-index, Bytes-part, enc-dec}
-use Rattle.folds.specs.declared.steps.JoinStep.TheVariants.{To, Not, TooLong}
+use Rattle.folds.specs.declared.steps.NoStep.TheVariants.{Unbounded, TooLong}
 use Rattle.folds.specs.Steps.{Held, Stepped}
-
--- What was written at the front of a list is there, whatever stands behind it.
-front : (w o zs : List ℕ) (n : ℕ) → n ≡ length w → take n (over w o ++ zs) ≡ w
-front w o zs n l = rw (l, append_assoc) (take-append_seam w (drop (length w) o ++ zs))
-
--- What was written into the second half, and into the first.
-second-half : (work w ys : List ℕ) (half n : ℕ) → half ≤ length work → ys ≡ over w (rest half work) → n ≡ length w →
-    part half (half + n) (back half work ys) ≡ w
-second-half work w ys half n h e l =
-    let k : length (take half work) ≡ half = length-take half work ∙ omega arith in
-    let m : half + n - half ≡ n = omega arith in
-    let zs = drop (length work - half) (drop half work) in
-    let d : drop half (back half work ys) ≡ ys ++ zs = ap (λ (j : ℕ). drop j (back half work ys)) (sym k) ∙ drop-append_seam (take half work) (ys ++ zs) in
-    ap (λ (j : ℕ). take j (drop half (back half work ys))) m ∙ ap (take n) (d ∙ ap (λ (y : List ℕ). y ++ zs) e) ∙ front w (rest half work) zs n l
-
-first-half : (w o ys zs : List ℕ) (n : ℕ) → ys ≡ over w o → n ≡ length w → part 0 n (ys ++ zs) ≡ w
-first-half w o ys zs n e l = part-is n (ys ++ zs) ∙ ap (λ (y : List ℕ). take n (y ++ zs)) e ∙ front w o zs n l
 
 -- A bound's form is whole, and says the bound.
 module _ (l : ℕ) (m : Mode) (a b : List ℕ) (p : Bytes a) (q : Bytes b) (u : whole l a ≡ true) (v : whole l b ≡ true) (c : Ty)
@@ -107,33 +89,30 @@ module _ (m : Mode) {lim : Limits} {len : ℕ} {last t : List ℕ} (g : Stepping
     long : length (enc (dec l hand)) ≡ len
     long = ap length g.held.exact ∙ length_part 0 len last (omega (arith, g.held.fits, g.held.room)) ∙ omega arith
 
-    pub step_stays : len ≤ work / 2 → Stepped lim stepped work last (To len)
+    pub step_stays : len ≤ work / 2 → Stepped lim stepped work last (Ok len)
     step_stays k = (under, le-leb (length (enc (dec l hand))) (min (work / 2) lim.bytes) (omega (arith, long, g.held.fits)), g.held)
 
-    pub step-stays-long : work / 2 < len → Stepped lim stepped work last TooLong
+    pub step-stays-long : work / 2 < len → Stepped lim stepped work last (Err TooLong)
     step-stays-long k = (dec l hand, (under, lt-leb (length (enc (dec l hand))) (min (work / 2) lim.bytes) (omega (arith, long))))
 
-  module _ (x : FormLength) (told : x ≡ form_length_of enc (direct m (dec l hand) (dec l t))) (work : ℕ) where
+  module _ (x : Result ℕ) (told : x ≡ form_length_of enc (direct m (dec l hand) (dec l t))) (work : ℕ) where
     told_is : x ≡ form_length_of enc stepped
     told_is = told ∙ ap (form_length_of enc) direct_is
 
-    pub step-none : (e : ℕ) → x ≡ form-lengths.Not e → Stepped lim stepped work last (Not e)
-    step-none e f = not_err enc stepped x e told_is f
+    pub step-none : (e : Refusal) → x ≡ err (number_of e) → Stepped lim stepped work last (Err (Unbounded e))
+    step-none e f = not_err enc stepped x (number_of e) told_is f
 
-    module _ (n : ℕ) (f : x ≡ form-lengths.Of n) where
+    module _ (n : ℕ) (f : x ≡ ok n) where
       of-type : (c : Ty) × ((stepped ≡ ok c) × (n ≡ cap (length (enc c))))
       of-type = of-ok enc stepped x n told_is f
 
       abbrev bounded : Ty
       bounded = of-type.0
 
-      pub step-over-half : work / 2 < n → Stepped lim stepped work last TooLong
-      step-over-half h = (bounded, (of-type.1.0, lt-leb (length (enc bounded)) (min (work / 2) lim.bytes) (omega (arith, of-type.1.1, g.held.most))))
+      pub step-over : min (work / 2) lim.bytes < n → Stepped lim stepped work last (Err TooLong)
+      step-over h = (bounded, (of-type.1.0, lt-leb (length (enc bounded)) (min (work / 2) lim.bytes) (omega (arith, of-type.1.1, g.held.most))))
 
-      pub step-over-form : lim.bytes < n → Stepped lim stepped work last TooLong
-      step-over-form h = (bounded, (of-type.1.0, lt-leb (length (enc bounded)) (min (work / 2) lim.bytes) (omega (arith, of-type.1.1, g.held.most))))
-
-      module _ (h : n ≤ work / 2) (k : n ≤ lim.bytes) where
+      module _ (h : n ≤ min (work / 2) lim.bytes) where
         exact : n ≡ length (enc bounded)
         exact = omega (arith, of-type.1.1, g.held.most)
 
@@ -147,28 +126,17 @@ module _ (m : Mode) {lim : Limits} {len : ℕ} {last t : List ℕ} (g : Stepping
         step-length = exact ∙ sym (ap length form-written)
 
         -- The bound's form was copied to the front of `last`.
-        copied : (xs : List ℕ) → lim.bytes ≤ length xs → part 0 n xs ≡ enc bounded → Stepped lim stepped work xs (To n)
+        copied : (xs : List ℕ) → lim.bytes ≤ length xs → part 0 n xs ≡ enc bounded → Stepped lim stepped work xs (Ok n)
         copied xs r y =
             let w = bound-form l m hand t p q g.held.good g.other bounded of-type.1.0 (omega (arith, exact, g.held.most)) in
             let z : dec l (part 0 n xs) ≡ bounded = ap (dec l) y ∙ w.1 in (
               of-type.1.0 ∙ ap ok (sym z),
               ap (step_fits lim work) z ∙ le-leb (length (enc bounded)) (min (work / 2) lim.bytes) (omega (arith, exact)),
-              record { most = g.held.most; room = r; fits = k; good = ap (whole l) y ∙ w.0; exact = ap enc z ∙ sym y },
+              record { most = g.held.most; room = r; fits = omega arith; good = ap (whole l) y ∙ w.0; exact = ap enc z ∙ sym y },
             )
 
-        -- It was written into the second half of the workspace, or into the first, and copied from there.
-        module _ (ws ys xs : List ℕ) (s : length ws ≡ work) (r : length xs ≡ length last) where
-          pub step-second : ys ≡ over (form_of enc (direct m (dec l hand) (dec l t))) (rest (work / 2) ws) →
-              xs ≡ over (part (work / 2) (work / 2 + n) (back (work / 2) ws ys)) last → Stepped lim stepped work xs (To n)
-          step-second w e =
-              let y : ys ≡ over (enc bounded) (rest (work / 2) ws) = w ∙ ap (λ (z : List ℕ). over z (rest (work / 2) ws)) form-written in
-              let i = second-half ws (enc bounded) ys (work / 2) n (omega (arith, s)) y exact in
-              copied xs (omega (arith, r, g.held.room)) (over-front (enc bounded) last xs n (e ∙ ap (λ (z : List ℕ). over z last) i) exact)
-
-          pub step-first : ys ≡ over (form_of enc (direct m (dec l hand) (dec l t))) (take (work / 2) ws) →
-              xs ≡ over (part 0 n (ys ++ drop (work / 2) ws)) last →
-              Stepped lim stepped work xs (To n)
-          step-first w e =
-              let y : ys ≡ over (enc bounded) (take (work / 2) ws) = w ∙ ap (λ (z : List ℕ). over z (take (work / 2) ws)) form-written in
-              let i = first-half (enc bounded) (take (work / 2) ws) ys (drop (work / 2) ws) n y exact in
-              copied xs (omega (arith, r, g.held.room)) (over-front (enc bounded) last xs n (e ∙ ap (λ (z : List ℕ). over z last) i) exact)
+        -- It was written to the front of `last`.
+        pub step-written : (xs : List ℕ) → length xs ≡ length last → xs ≡ over (form_of enc (direct m (dec l hand) (dec l t))) last →
+            Stepped lim stepped work xs (Ok n)
+        step-written xs r e =
+            copied xs (omega (arith, r, g.held.room)) (over-front (enc bounded) last xs n (e ∙ ap (λ (w : List ℕ). over w last) form-written) exact)

@@ -1,5 +1,5 @@
 -- The fold of an attribute over entity types, and the lookup of any type. Assumes nothing.
-use Rattle.std.specs.Prelude.{ℕ, ◌-◌, ◌≤◌, ◌<◌, List, ◌∷◌, ◌++◌, Bool, true, ◌&&◌, ◌≡◌, refl, length, take, drop, Option as Maybe, Some, None, Ok}
+use Rattle.std.specs.Prelude.{ℕ, ◌-◌, ◌≤◌, ◌<◌, List, ◌∷◌, ◌++◌, Bool, true, ◌&&◌, ◌≡◌, refl, length, take, drop, Option as Maybe, Some, None, Result as Outcome, Ok, Err}
 use Rattle.std.specs.declared.slice.ChunksExact.{ChunksExact}
 use Rattle.std.proofs.Common.{arith, ap, sym, subst, ◌∙◌}
 use Rattle.std.proofs.Math.Option.{Option, none, some}
@@ -25,8 +25,9 @@ use Rattle.attributes.specs.declared.entity_attribute.EntityAttribute.{EntityAtt
 use Rattle.attributes.specs.declared.entity_attribute.EntityAttribute.TheVariants.{Found, Absent, Missing}
 use Rattle.attributes.specs.EntityAttribute.{AttributeIn, HasAttribute}
 use Rattle.attributes.specs.Place.{Stands}
-use Rattle.folds.specs.declared.steps.JoinStep.{JoinStep}
-use Rattle.folds.specs.declared.steps.JoinStep.TheVariants.{To, Not, TooLong}
+use Rattle.forms.specs.declared.refusals.Refusal.{Refusal}
+use Rattle.folds.specs.declared.steps.NoStep.{NoStep}
+use Rattle.folds.specs.declared.steps.NoStep.TheVariants.{Unbounded, TooLong}
 use Rattle.folds.specs.Steps.{Held, Stepped}
 use Rattle.lookups.specs.declared.lookup_attribute_type.Looked.{Looked}
 use Rattle.lookups.specs.Lookup.{below, Shown, LookedUp}
@@ -76,27 +77,19 @@ module _ {lim : Limits} {work : ℕ} {s : Said} {a : ℕ} {all : Result (Option 
     pub folding-lacks : attr_of s a k ≡ none → all ≡ ok none
     folding-lacks f = first-is ∙ rw f refl
 
-    module _ (y : Bool) (t : List ℕ) (f : attr_of s a k ≡ some (y, dec (lim.levels - 1) t)) (last' : List ℕ) (r : JoinStep)
-        (g : Stepped (below lim) (bound permissive (dec (lim.levels - 1) (part 0 x.bytes last)) (dec (lim.levels - 1) t)) work last' r) where
-      told : (z : JoinStep) → r ≡ z → Stepped (below lim) (bound permissive (dec (lim.levels - 1) (part 0 x.bytes last)) (dec (lim.levels - 1) t)) work last' z
-      told z h =
-          subst
-          (λ (y : JoinStep). Stepped (below lim) (bound permissive (dec (lim.levels - 1) (part 0 x.bytes last)) (dec (lim.levels - 1) t)) work last' y) h g
+    module _ (y : Bool) (t : List ℕ) (f : attr_of s a k ≡ some (y, dec (lim.levels - 1) t)) (last' : List ℕ) where
+      abbrev stepped : Outcome ℕ NoStep → Type 0
+      stepped r = Stepped (below lim) (bound permissive (dec (lim.levels - 1) (part 0 x.bytes last)) (dec (lim.levels - 1) t)) work last' r
 
-      pub folding-unbounded : (n : ℕ) → r ≡ Not n → all ≡ ok none
-      folding-unbounded n h =
-          let d = told (Not n) h in
-          first-is ∙ rw (f, d) refl
+      pub folding-unbounded : (r : Refusal) → stepped (Err (Unbounded r)) → all ≡ ok none
+      folding-unbounded r d = first-is ∙ rw (f, d) refl
 
-      pub folding-too-long : r ≡ TooLong → all ≡ err 9
-      folding-too-long h =
-          let d = told TooLong h in
-          first-is ∙ rw (f, d.1.0, d.1.1) refl
+      pub folding-too-long : stepped (Err TooLong) → all ≡ err 9
+      folding-too-long d = first-is ∙ rw (f, d.1.0, d.1.1) refl
 
-      pub folding-next : (m : ℕ) → r ≡ To m → (next : ChunksExact ℕ) → next.size ≡ left.size → next.rest.now ≡ b →
+      pub folding-next : (m : ℕ) → stepped (Ok m) → (next : ChunksExact ℕ) → next.size ≡ left.size → next.rest.now ≡ b →
           (z : Looked) → z.bytes ≡ m → z.required ≡ x.required && y → Folding lim work s a all z last' next
-      folding-next m h next p q z zm zq =
-          let d = told (To m) h in
+      folding-next m d next p q z zm zq =
           record {
             held = rw zm d.2;
             ahead = record { size = p ∙ i.ahead.size; same = first-is ∙ rw (f, d.0, d.1, zm, zq, q) refl };

@@ -1,5 +1,5 @@
 -- The fold call, question by question. Assumes nothing.
-use Rattle.std.specs.Prelude.{ℕ, ◌≤◌, min, List, Bool, true, false, not, ◌&&◌, ◌≡◌, refl, leb, length}
+use Rattle.std.specs.Prelude.{ℕ, ◌≤◌, min, List, Bool, true, false, not, ◌&&◌, ◌≡◌, refl, Result as Answer, Ok, Err, leb, length}
 use Rattle.std.proofs.Common.{arith, ap, ap₂, sym, subst, ◌∙◌, leb-true}
 use Rattle.std.proofs.Math.Option.{none, some}
 use Rattle.std.proofs.lemmas.Bool.{not-true, not-false}
@@ -19,8 +19,8 @@ use Rattle.forms.specs.ListBytes.{list_fits, list_of}
 use Rattle.forms.specs.Laws.Parts.{and_r, length_part}
 use Rattle.forms.specs.Laws.Sure.{sure-present, sure-yes}
 use Rattle.forms.specs.Laws.Lists.{whole-list-twin}
-use Rattle.folds.specs.declared.lists.Folded.{Folded}
-use Rattle.folds.specs.declared.lists.Folded.TheVariants.{To, Not}
+use Rattle.forms.specs.Refusals.{number_of}
+use Rattle.forms.specs.declared.refusals.Refusal.{Refusal as Reason}
 use Rattle.folds.specs.Lists.{Opened, FoldsTo}
 use Rattle.validator.specs.declared.answers.Answer.TheVariants.{Refused, Typed}
 use Rattle.validator.specs.Answers.{Answered}
@@ -45,25 +45,25 @@ module _ (lim : Limits) (b : List ℕ) (r : Bool) (q : r ≡ present (whole_list
       }
 
 -- What the fold f came to, its form left in the first bytes of `last`.
-module _ (lim : Limits) (f : Result Ty) (o last : List ℕ) (r : Folded) (h : FoldsTo lim f last r) where
-  ends : (y : Folded) → r ≡ y → FoldsTo lim f last y
-  ends y e = subst (λ (z : Folded). FoldsTo lim f last z) e h
+module _ (lim : Limits) (f : Result Ty) (o last : List ℕ) (r : Answer ℕ Reason) (h : FoldsTo lim f last r) where
+  ends : (y : Answer ℕ Reason) → r ≡ y → FoldsTo lim f last y
+  ends y e = subst (λ (z : Answer ℕ Reason). FoldsTo lim f last z) e h
 
-  pub folds-not : (e : ℕ) → r ≡ Not e → write_type lim (length o) f ≡ refused e
-  folds-not e q = ap (write_type lim (length o)) (ends (Not e) q)
+  pub folds-not : (e : Reason) → r ≡ Err e → write_type lim (length o) f ≡ refused (number_of e)
+  folds-not e q = ap (write_type lim (length o)) (ends (Err e) q)
 
-  module _ (n : ℕ) (e : r ≡ To n) where
+  module _ (n : ℕ) (e : r ≡ Ok n) where
     pub folds-small : n ≤ length last
-    folds-small = omega (arith, (ends (To n) e).1.fits, (ends (To n) e).1.room)
+    folds-small = omega (arith, (ends (Ok n) e).1.fits, (ends (Ok n) e).1.room)
 
     sized : length (part 0 n last) ≡ n
     sized = length_part 0 n last folds-small ∙ omega arith
 
     pub folds-exact : enc (dec lim.levels (part 0 n last)) ≡ part 0 n last
-    folds-exact = (ends (To n) e).1.exact
+    folds-exact = (ends (Ok n) e).1.exact
 
     pub folds-whole : whole lim.levels (part 0 n last) ≡ true
-    folds-whole = (ends (To n) e).1.good
+    folds-whole = (ends (Ok n) e).1.good
 
     pub folds-length : length (enc (dec lim.levels (part 0 n last))) ≡ n
     folds-length = ap length folds-exact ∙ sized
@@ -73,14 +73,14 @@ module _ (lim : Limits) (f : Result Ty) (o last : List ℕ) (r : Folded) (h : Fo
       fits-as = ap (λ (k : ℕ). leb k (min (length o) lim.bytes)) folds-length ∙ sym fit
 
       pub folds-over : not y ≡ true → write_type lim (length o) f ≡ refused 10
-      folds-over k = ap (write_type lim (length o)) (ends (To n) e).0 ∙ rw (fits-as, not-true y k) refl
+      folds-over k = ap (write_type lim (length o)) (ends (Ok n) e).0 ∙ rw (fits-as, not-true y k) refl
 
       module _ (k : not y ≡ false) where
         pub folds-room : length (part 0 n last) ≤ length o
         folds-room = omega (arith, sized, leb-true n (min (length o) lim.bytes) (sym fit ∙ not-false y k))
 
         pub folds-typed : write_type lim (length o) f ≡ typed (dec lim.levels (part 0 n last))
-        folds-typed = ap (write_type lim (length o)) (ends (To n) e).0 ∙ rw (fits-as, not-false y k) refl
+        folds-typed = ap (write_type lim (length o)) (ends (Ok n) e).0 ∙ rw (fits-as, not-false y k) refl
 
 -- The questions in their order.
 module _ (lim : Limits) (fair : allowed lim ≡ true) (mode : ℕ) (s list o : List ℕ) (work : ℕ) where

@@ -15,7 +15,6 @@ use Rattle.cedar.specs.Calls.{write_type, literal_call}
 use Rattle.cedar.proofs.Laws.Limits.{allowed-bytes}
 use Rattle.cedar.proofs.Laws.Result.{ok-inj}
 use Rattle.schemas.specs.SchemaBytes.{dec_s}
-use Rattle.writing.specs.declared.form_lengths.FormLength.TheVariants.{Of}
 use Rattle.writing.specs.FormLengths.{form_length_of}
 use Rattle.attributes.specs.declared.euid_literal.Literal.{Literal}
 use Rattle.attributes.specs.declared.euid_literal.Literal.TheVariants as literals
@@ -66,15 +65,15 @@ module _ (lim : Limits) (fair : allowed lim ≡ true) (schema v o : List ℕ) wh
             go (literals.Action c) h v = omega (arith, h, v.1)
             go literals.Entity h v = omega (arith, h)
 
-        told : Of n ≡ form_length_of enc (ok found)
-        told = ap Of (omega (arith, sized, short))
+        told : ok n ≡ form_length_of enc (ok found)
+        told = ap ok (omega (arith, sized, short))
 
         goes_to : outcome ≡ write_type lim (length o) (ok found)
         goes_to = goes_on (some found) is
 
         module _ (y : Bool) (fits : y ≡ leb n (min (length o) lim.bytes)) where
           pub literal-over : not y ≡ true → Answered outcome o o (Refused 10)
-          literal-over h = writes-over lim (allowed-bytes lim fair).1 (ok found) o outcome goes_to (Of n) told n refl y fits h
+          literal-over h = writes-over lim (allowed-bytes lim fair).1 (ok found) o outcome goes_to (ok n) told n refl y fits h
 
           module _ (h : not y ≡ false) where
             pub literal-room : literal_length x ≤ length o
@@ -82,6 +81,6 @@ module _ (lim : Limits) (fair : allowed lim ≡ true) (schema v o : List ℕ) wh
 
             pub literal-writes : (xs : List ℕ) → xs ≡ over (literal_form k x) o → (d : ℕ) → d ≡ literal_levels lim x → Answered outcome o xs (Typed n d)
             literal-writes xs w d p =
-                writes lim (allowed-bytes lim fair).1 (ok found) o outcome goes_to (Of n) told n refl y fits h xs n
+                writes lim (allowed-bytes lim fair).1 (ok found) o outcome goes_to (ok n) told n refl y fits h xs n
                 record { bytes = w ∙ ap (λ (z : List ℕ). over z o) form-is; many = sized }
                 d (λ t e. p ∙ sym (literal-levels lim k x) ∙ ap depth (ok-inj e))

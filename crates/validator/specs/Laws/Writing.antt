@@ -6,7 +6,7 @@ use Rattle.std.proofs.lemmas.Bool.{lt-leb, not-true, not-false}
 use Rattle.cedar.specs.Types.{Ty, present}
 use Rattle.cedar.specs.Levels.{depth}
 use Rattle.cedar.specs.TypeForm.{enc}
-use Rattle.cedar.specs.Result.{Result, ok}
+use Rattle.cedar.specs.Result.{Result, ok, err}
 use Rattle.cedar.specs.Limits.{Limits, most_bytes}
 use Rattle.cedar.specs.Whole.{whole_type}
 use Rattle.cedar.specs.Outcome.{Outcome, refused, typed, over}
@@ -18,8 +18,6 @@ use Rattle.forms.specs.TypeBytes.{whole, dec}
 use Rattle.forms.specs.Laws.Parts.{and_r}
 use Rattle.forms.specs.Laws.Sure.{sure-present, sure-yes, sure-some}
 use Rattle.forms.specs.Laws.TypeTwin.{type-twin, whole-type-twin}
-use Rattle.writing.specs.declared.form_lengths.FormLength.{FormLength}
-use Rattle.writing.specs.declared.form_lengths.FormLength.TheVariants.{Of, Not}
 use Rattle.writing.specs.Written.{Written}
 use Rattle.writing.specs.FormLengths.{cap, form_length_of, form_of, Ready}
 use Rattle.writing.specs.Laws.FormLengths.{of-ok, not_err, exact, ready}
@@ -75,12 +73,12 @@ module _ {lim : Limits} {c : Outcome} {o xs : List ℕ} {n : ℕ} (w : Wrote lim
   pub wrote-levels : (d : ℕ) → d ≡ depth (dec lim.levels (part 0 n xs)) → Answered c o xs (Typed n d)
   wrote-levels d q = fills w.kept n d w.is w.long (sym (q ∙ ap depth (ap (dec lim.levels) front ∙ form.1))) w.filled
 
-module _ (lim : Limits) (most : lim.bytes ≤ most_bytes) (r : Result Ty) (o : List ℕ) (c : Outcome) (e : c ≡ write_type lim (length o) r) (x : FormLength)
+module _ (lim : Limits) (most : lim.bytes ≤ most_bytes) (r : Result Ty) (o : List ℕ) (c : Outcome) (e : c ≡ write_type lim (length o) r) (x : Result ℕ)
     (told : x ≡ form_length_of enc r) where
-  pub writes-not : (d : ℕ) → x ≡ Not d → Answered c o o (Refused d)
+  pub writes-not : (d : ℕ) → x ≡ err d → Answered c o o (Refused d)
   writes-not d q = refuses d (e ∙ rw (not_err enc r x d told q) refl)
 
-  module _ (n : ℕ) (q : x ≡ Of n) (f : Bool) (fits : f ≡ leb n (min (length o) lim.bytes)) where
+  module _ (n : ℕ) (q : x ≡ ok n) (f : Bool) (fits : f ≡ leb n (min (length o) lim.bytes)) where
     of-type : (t : Ty) × ((r ≡ ok t) × (n ≡ cap (length (enc t))))
     of-type = of-ok enc r x n told q
 

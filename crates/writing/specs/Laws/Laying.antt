@@ -1,5 +1,5 @@
 -- The write pass: a result behind what stands before it, and a table of attributes, entry by entry. Assumes nothing.
-use Rattle.std.specs.Prelude.{◌≡◌, List, [], ◌∷◌, ◌++◌, Bool, ℕ, zero, suc, ◌+◌, ◌*◌, ◌≤◌, eqb, length}
+use Rattle.std.specs.Prelude.{◌≡◌, List, [], ◌∷◌, ◌++◌, Bool, ℕ, ◌+◌, ◌*◌, ◌≤◌, length}
 use Rattle.std.proofs.Math.Path.{refl}
 use Rattle.std.proofs.Common.{ap, sym, ◌∙◌, arith, length-append}
 use Rattle.cedar.specs.Types.{Ty, Attrs, nil, attr}
@@ -15,12 +15,6 @@ use Rattle.writing.specs.FormLengths.{table, form_of, Ready}
 use Rattle.writing.specs.Laws.FormLengths.{length-entries, bind_ok, Cut, before}
 use Rattle.writing.specs.Laws.Writing.{back, written_at, room_at, Filling, filling-start, filling-length, filling-at, filling-pos, filling-body}
 use Rattle.writing.specs.Laws.Writing.{filling-entry, filling-end}
-
--- A flag's byte is the flag.
-pub flag_is : (v : ℕ) → v ≤ 1 → flag (eqb v 1) ≡ v
-flag_is zero h = refl
-flag_is (suc zero) h = refl
-flag_is (suc (suc v)) h = absurd (omega arith)
 
 -- A result that is known.
 module _ {A : Type 0} {w : A → List ℕ} {r : Result A} {o : List ℕ} (g : Ready w r o) (a : A) (e : r ≡ ok a) where
@@ -188,11 +182,11 @@ module _ {all ahead : Result Attrs} {o : List ℕ} {at pos : ℕ} {out : List �
         (omega (arith, written.many, body-long, total-long), omega (arith, filling-at i.filling, entry-long, total-long)),
       )
 
-      pub laying-more : (v : ℕ) (zs : List ℕ) → v ≡ flag r → zs ≡ over (u16 n ++ (v ∷ u16 x)) (rest at (back pos out ys)) →
+      pub laying-more : (zs : List ℕ) → zs ≡ over (u16 n ++ (flag r ∷ u16 x)) (rest at (back pos out ys)) →
           Laying all cs o (at + 5) (pos + x) (back at (back pos out ys) zs)
-      laying-more v zs f g =
+      laying-more zs g =
           let m : x ≡ length (enc parts.0) = written.many in
-          let k : zs ≡ over (u16 n ++ (flag r ∷ u16 (length (enc parts.0)))) (rest at (back pos out ys)) = g ∙ rw (f, m) refl in
+          let k : zs ≡ over (u16 n ++ (flag r ∷ u16 (length (enc parts.0)))) (rest at (back pos out ys)) = g ∙ rw m refl in
           record {
             total = i.total;
             total-is = i.total-is;

@@ -1,16 +1,17 @@
-use Prim.Native.Nat.{◌+◌, ◌≤◌}
+use Rattle.std.proofs.Common.{◌+◌, length}
 use Rattle.cedar.specs.Bytes.{enc_names}
 use Rattle.cedar.specs.Bound.{union}
-use Rattle.forms.specs.TypeBytes.{names_by}
 use Rattle.writing.specs.Laws.Writing.{Writing}
-use Rattle.bound_lengths.specs.Laws.Names.{Up}
+use Rattle.bound_lengths.specs.Names.{names_in, Ascending}
 use Rattle.bounds.proofs.unions.write_union.Given as goal
 
-abbrev pub invariant-loop-left : goal.invariant-loop-left
-invariant-loop-left l = Up l.left l.x ×
-    (Up l.right l.y ×
-    ((l.left + l.right ≤ l.n + l.m) × Writing (enc_names (union (names_by 2 l.n l.ns) (names_by 2 l.m l.ks))) (enc_names (union (names_by 2 l.left l.x) (names_by 2 l.right l.y)))
-    l.initial.out l.at l.out))
+abbrev pub invariant-loop-name : goal.invariant-loop-name
+invariant-loop-name l = record {
+  left : Ascending l.names.left.now;
+  right : Ascending l.names.right.now;
+  writing : Writing (enc_names (union (names_in l.fn.names.left.now) (names_in l.fn.names.right.now)))
+      (enc_names (union (names_in l.names.left.now) (names_in l.names.right.now))) l.initial.out l.at l.out;
+}
 
-abbrev pub decreases-loop-left : goal.decreases-loop-left
-decreases-loop-left l = l.left + l.right
+abbrev pub decreases-loop-name : goal.decreases-loop-name
+decreases-loop-name l = length l.names.left.now + length l.names.right.now

@@ -1,202 +1,127 @@
-use native.Mathlib.Omega.{arith}
-use Rattle.cedar.specs.TypeForm.{enc}
-use Rattle.forms.specs.TypeBytes.{dec}
-use Rattle.forms.specs.Laws.Views.{not-empty, is_set, is-record, is-entity}
-use Rattle.forms.specs.Laws.Tables.{left-start, left-room, left-fit, left_body, left-more, split, record-sound}
-use Rattle.writing.specs.Laws.FormLengths.{summing_start, summing-end, of-small, cut-length}
-use Rattle.conversions.specs.CoreTypes.{core}
+use Rattle.std.proofs.Common.{◌≡◌, arith, ap, sym, refl, ◌∙◌, inl, inr, lit<}
+use Rattle.cedar.specs.Result.{ok}
+use Rattle.forms.specs.Kinds.{kind_number}
+use Rattle.forms.specs.Parts.{kind}
+use Rattle.forms.specs.Refusals.{number_of}
+use Rattle.forms.specs.declared.kinds.Kind.{Kind}
+use Rattle.forms.specs.declared.kinds.Kind.TheVariants as kinds
+use Rattle.forms.specs.Laws.Views.{is_set, is-record, is-entity}
+use Rattle.forms.specs.Laws.Kinds.{whole-kind, kind-same}
+use Rattle.forms.specs.Laws.Attributes.{laid}
+use Rattle.forms.specs.Laws.AttributeRows.{taken-attribute}
+use Rattle.forms.specs.Laws.Tables.{left-start, split, record-sound}
+use Rattle.writing.specs.Laws.FormLengths.{seen-err, summing-end, cut-length}
 use Rattle.conversions.specs.Laws.CoreTypes.{attrs-end, attrs-not, attrs-more, set-cut, record-cut, known-length, refused-length, atom-length, never-core}
 use Rattle.conversions.specs.Laws.CoreTypes.{any-core, entity-core, entities-core, action-core, extension-core, entity-long, extension-long}
 use Rattle.conversions.proofs.core_types.+core_attributes_length_core_length.Goals as goal
 
-pub core_attributes_length-loop-left-init : goal.core_attributes_length-loop-left-init
-core_attributes_length-loop-left-init t c = (left-start c.requires, summing_start _)
-
-pub core_attributes_length-u16_at-len-requires : goal.core_attributes_length-u16_at-len-requires
-core_attributes_length-u16_at-len-requires t c = omega (arith, left-room c.loop-left.invariant.0 c.loop-left-test.true)
-
-pub core_attributes_length-slice_bounds-core_length-end : goal.core_attributes_length-slice_bounds-core_length-end
-core_attributes_length-slice_bounds-core_length-end t c =
-    let loop = c.loop-left in
-    omega (arith, left-fit loop.invariant.0 c.loop-left-test.true c.u16_at-len.result c.u16_at-len.ensures.0)
+pub core_attributes_length-next-requires : goal.core_attributes_length-next-requires
+core_attributes_length-next-requires t c = (lit< tt, laid c.loop-row.invariant.0.sound)
 
 pub core_attributes_length-core_length-requires : goal.core_attributes_length-core_length-requires
 core_attributes_length-core_length-requires t c =
-    let u16-at = c.u16_at-len in
-    let loop-test = c.loop-left-test in
-    let loop = c.loop-left in
-    (omega (arith, c.decreases), left_body loop.invariant.0 loop-test.true u16-at.result u16-at.ensures.0)
+    (omega (arith, c.decreases), (taken-attribute c.loop-row.invariant.0.sound c.in-Some.ensures).body)
 
-pub core_attributes_length-returns-in_default : goal.core_attributes_length-returns-in_default
-core_attributes_length-returns-in_default t c =
-    let core-length-step = c.core_length in
-    let u16-at = c.u16_at-len in
-    let loop-test = c.loop-left-test in
-    let loop = c.loop-left in
-    attrs-not loop.invariant.1 loop.invariant.0 loop-test.true u16-at.result u16-at.ensures.0 core-length-step.result core-length-step.ensures
-    _ c.in_default.is
+pub core_attributes_length-returns-in_err-n : goal.core_attributes_length-returns-in_err-n
+core_attributes_length-returns-in_err-n t c =
+    let here = taken-attribute c.loop-row.invariant.0.sound c.in-Some.ensures in
+    seen-err c.from_residual.result c.in_err-n.field-0.0 c.from_residual.ensures.1 ∙
+    attrs-not here c.loop-row.invariant.1 _ c.in_err-n.ensures (number_of c.in_err-n.field-0.0) refl
 
-pub core_attributes_length-overflow_add-sum : goal.core_attributes_length-overflow_add-sum
-core_attributes_length-overflow_add-sum t c =
-    let core-length-step = c.core_length in
-    let loop = c.loop-left in
-    let args = c.args in
-    omega (
-      arith,
-      loop.invariant.1.small,
-      of-small enc (core (dec args.levels _)) core-length-step.result c.in-Of.x core-length-step.ensures
-          c.in-Of.is,
-    )
-
-pub core_attributes_length-overflow_add-sum-in-loop-left : goal.core_attributes_length-overflow_add-sum-in-loop-left
-core_attributes_length-overflow_add-sum-in-loop-left t c =
-    let core-length-step = c.core_length in
-    let loop = c.loop-left in
-    let args = c.args in
-    omega (
-      arith,
-      loop.invariant.1.small,
-      of-small enc (core (dec args.levels _)) core-length-step.result c.in-Of.x core-length-step.ensures
-          c.in-Of.is,
-    )
-
-pub core_attributes_length-slice_bounds-e-count : goal.core_attributes_length-slice_bounds-e-count
-core_attributes_length-slice_bounds-e-count t c =
-    let loop-test = c.loop-left-test in
-    let loop = c.loop-left in
-    omega (arith, left-room loop.invariant.0 loop-test.true)
-
-pub core_attributes_length-slice_bounds-e-start : goal.core_attributes_length-slice_bounds-e-start
-core_attributes_length-slice_bounds-e-start t c =
-    let loop-test = c.loop-left-test in
-    let loop = c.loop-left in
-    omega (arith, left-room loop.invariant.0 loop-test.true)
-
-pub core_attributes_length-slice_bounds-b-count : goal.core_attributes_length-slice_bounds-b-count
-core_attributes_length-slice_bounds-b-count t c =
-    let u16-at = c.u16_at-len in
-    let loop-test = c.loop-left-test in
-    let loop = c.loop-left in
-    omega (arith, left-fit loop.invariant.0 loop-test.true u16-at.result u16-at.ensures.0)
-
-pub core_attributes_length-slice_bounds-b-start : goal.core_attributes_length-slice_bounds-b-start
-core_attributes_length-slice_bounds-b-start t c =
-    let u16-at = c.u16_at-len in
-    let loop-test = c.loop-left-test in
-    let loop = c.loop-left in
-    omega (arith, left-fit loop.invariant.0 loop-test.true u16-at.result u16-at.ensures.0)
-
-pub core_attributes_length-loop-left-preserved : goal.core_attributes_length-loop-left-preserved
-core_attributes_length-loop-left-preserved t c =
-    let capped = c.capped-sum in
-    let core-length-step = c.core_length in
-    let u16-at = c.u16_at-len in
-    let loop-test = c.loop-left-test in
-    let loop = c.loop-left in
-    let by-left-more = left-more loop.invariant.0 loop-test.true u16-at.result u16-at.ensures.0 in (
-      by-left-more,
-      attrs-more loop.invariant.1 loop.invariant.0 loop-test.true u16-at.result u16-at.ensures.0 core-length-step.result
-          core-length-step.ensures c.in-Of.x _ c.in-Of.is capped.ensures,
-    )
+pub core_attributes_length-loop-row-preserved : goal.core_attributes_length-loop-row-preserved
+core_attributes_length-loop-row-preserved t c =
+    let here = taken-attribute c.loop-row.invariant.0.sound c.in-Some.ensures in
+    (left-start here.more, attrs-more here c.loop-row.invariant.1 _ c.in_ok-n.ensures c.in_ok-n.n _ refl c.capped-sum.ensures)
 
 pub core_attributes_length-returns : goal.core_attributes_length-returns
-core_attributes_length-returns t c = summing-end c.loop-left.invariant.1 (attrs-end c.loop-left.invariant.0 c.loop-left-test.false)
+core_attributes_length-returns t c =
+    summing-end c.loop-row.invariant.1 (attrs-end c.args.levels _ c.loop-row.rows.entries.now c.loop-row.rows.bodies.now (omega (arith, c.in_default.ensures.none)))
 
-pub core_length-bounds-t-0 : goal.core_length-bounds-t-0
-core_length-bounds-t-0 t c = omega (arith, not-empty c.args.levels c.args.t.now c.requires)
-
-pub core_length-slice_bounds-core_length-count : goal.core_length-slice_bounds-core_length-count
-core_length-slice_bounds-core_length-count t c = omega (arith, not-empty c.args.levels c.args.t.now c.requires)
-
-pub core_length-slice_bounds-core_length-start : goal.core_length-slice_bounds-core_length-start
-core_length-slice_bounds-core_length-start t c = omega (arith, not-empty c.args.levels c.args.t.now c.requires)
+pub core_length-of-requires : goal.core_length-of-requires
+core_length-of-requires t c = whole-kind c.args.levels c.args.t.now c.requires
 
 pub core_length-overflow_sub-levels : goal.core_length-overflow_sub-levels
-core_length-overflow_sub-levels t c = omega (arith, (is_set c.args.levels c.args.t.now c.requires c.in-7.is).deep)
+core_length-overflow_sub-levels t c = omega (arith, (is_set c.args.levels c.args.t.now c.requires (sym c.in-Set.ensures)).deep)
 
 pub core_length-core_length-requires : goal.core_length-core_length-requires
 core_length-core_length-requires t c =
-    let args = c.args in
-    let by-is-set = is_set args.levels args.t.now c.requires c.in-7.is in
-    (omega (arith, c.decreases, by-is-set.deep), by-is-set.good)
+    let here = is_set c.args.levels c.args.t.now c.requires (sym c.in-Set.ensures) in
+    (omega (arith, c.decreases, here.deep), here.good)
 
-pub core_length-u16_at-n-requires : goal.core_length-u16_at-n-requires
-core_length-u16_at-n-requires t c = omega (arith, (is-record c.args.levels c.args.t.now c.requires c.in-8.is).some)
+pub core_length-returns-in_err-n-in-Set : goal.core_length-returns-in_err-n-in-Set
+core_length-returns-in_err-n-in-Set t c =
+    let cut = set-cut c.args.levels c.args.t.now c.requires (sym c.in-Set.ensures) in
+    seen-err c.from_residual.result c.in_err-n-in-Set.field-0.0 c.from_residual.ensures.1 ∙ cut-length cut _ _ c.in_err-n-in-Set.ensures refl
 
-pub core_length-entries_at-requires : goal.core_length-entries_at-requires
-core_length-entries_at-requires t c = (omega arith, (is-record c.args.levels c.args.t.now c.requires c.in-8.is).fit)
+pub core_length-returns-in_ok-n-in-Set : goal.core_length-returns-in_ok-n-in-Set
+core_length-returns-in_ok-n-in-Set t c =
+    let cut = set-cut c.args.levels c.args.t.now c.requires (sym c.in-Set.ensures) in
+    cut-length cut (ok c.in_ok-n-in-Set.n) _ c.in_ok-n-in-Set.ensures (ap ok c.longer.ensures)
 
-pub core_length-bodies_at-requires : goal.core_length-bodies_at-requires
-core_length-bodies_at-requires t c = (omega arith, (is-record c.args.levels c.args.t.now c.requires c.in-8.is).fit)
+pub core_length-at-requires : goal.core_length-at-requires
+core_length-at-requires t c = (lit< tt, (is-record c.args.levels c.args.t.now c.requires (sym c.in-Record.ensures)).fit)
 
-pub core_length-overflow_sub-levels-in-8 : goal.core_length-overflow_sub-levels-in-8
-core_length-overflow_sub-levels-in-8 t c = omega (arith, (is-record c.args.levels c.args.t.now c.requires c.in-8.is).deep)
+pub core_length-overflow_sub-levels-in-Record : goal.core_length-overflow_sub-levels-in-Record
+core_length-overflow_sub-levels-in-Record t c = omega (arith, (is-record c.args.levels c.args.t.now c.requires (sym c.in-Record.ensures)).deep)
 
 pub core_length-core_attributes_length-requires : goal.core_length-core_attributes_length-requires
 core_length-core_attributes_length-requires t c =
-    let u16-at = c.u16_at-n in
-    let args = c.args in
-    let by-split = split u16-at.ensures.0 c.entries_at.ensures c.bodies_at.ensures in
-    let by-record-sound = record-sound args.levels args.t.now c.requires c.in-8.is by-split in
-    (omega (arith, c.decreases, (is-record args.levels args.t.now c.requires c.in-8.is).deep), by-record-sound)
+    let here = is-record c.args.levels c.args.t.now c.requires (sym c.in-Record.ensures) in
+    let rows = split c.at.ensures.left c.at.ensures.entries c.at.ensures.bodies in
+    (omega (arith, c.decreases, here.deep), record-sound c.args.levels c.args.t.now c.requires (sym c.in-Record.ensures) rows)
+
+pub core_length-returns-in_err-n-in-Record : goal.core_length-returns-in_err-n-in-Record
+core_length-returns-in_err-n-in-Record t c =
+    let rows = split c.at.ensures.left c.at.ensures.entries c.at.ensures.bodies in
+    let cut = record-cut c.args.levels c.args.t.now c.requires (sym c.in-Record.ensures) rows in
+    let thrown = c.from_residual-in_err-n-in-Record in
+    seen-err thrown.result c.in_err-n-in-Record.field-0.0 thrown.ensures.1 ∙ cut-length cut _ _ c.in_err-n-in-Record.ensures refl
+
+pub core_length-returns-in_ok-n-in-Record : goal.core_length-returns-in_ok-n-in-Record
+core_length-returns-in_ok-n-in-Record t c =
+    let rows = split c.at.ensures.left c.at.ensures.entries c.at.ensures.bodies in
+    let cut = record-cut c.args.levels c.args.t.now c.requires (sym c.in-Record.ensures) rows in
+    cut-length cut (ok c.in_ok-n-in-Record.n) _ c.in_ok-n-in-Record.ensures (ap ok c.longer-in-Record.ensures)
 
 pub core_length-u16_at-requires : goal.core_length-u16_at-requires
-core_length-u16_at-requires t c = omega (arith, (is-entity c.args.levels c.args.t.now c.requires c.in-10.is).some)
+core_length-u16_at-requires t c = omega (arith, (is-entity c.args.levels c.args.t.now c.requires (sym c.in-Entity.ensures)).some)
 
 pub core_length-returns-then-u16_at-eq1 : goal.core_length-returns-then-u16_at-eq1
 core_length-returns-then-u16_at-eq1 t c =
-    let u16-at2 = c.u16_at in
     let args = c.args in
-    let by-entity-core = entity-core args.levels args.t.now c.requires c.in-10.is u16-at2.result u16-at2.ensures.0
-    c.if-u16_at-eq1.true in
-    known-length args.levels args.t.now c.requires _ 5 by-entity-core (entity-long _) (omega arith)
-
-pub core_length-returns-in-0 : goal.core_length-returns-in-0
-core_length-returns-in-0 t c =
-    let args = c.args in
-    refused-length args.levels args.t.now c.requires (never-core args.levels args.t.now c.requires c.in-0.is)
-
-pub core_length-returns-in-9 : goal.core_length-returns-in-9
-core_length-returns-in-9 t c =
-    let args = c.args in
-    refused-length args.levels args.t.now c.requires (any-core args.levels args.t.now c.requires c.in-9.is)
-
-pub core_length-returns-in-7 : goal.core_length-returns-in-7
-core_length-returns-in-7 t c =
-    let by-set-cut = set-cut c.args.levels c.args.t.now c.requires c.in-7.is in
-    cut-length by-set-cut _ _ c.core_length.ensures c.plus.ensures
-
-pub core_length-returns-in-8 : goal.core_length-returns-in-8
-core_length-returns-in-8 t c =
-    let bodies-at = c.bodies_at in
-    let entries_at = c.entries_at in
-    let u16-at = c.u16_at-n in
-    let by-record-cut = record-cut c.args.levels c.args.t.now c.requires c.in-8.is
-    (split u16-at.ensures.0 entries_at.ensures bodies-at.ensures) in
-    cut-length by-record-cut _ _ c.core_attributes_length.ensures c.plus-in-8.ensures
+    let one = entity-core args.levels args.t.now c.requires (sym c.in-Entity.ensures) c.u16_at.result c.u16_at.ensures.0 c.if-u16_at-eq1.true in
+    known-length args.levels args.t.now c.requires _ 5 one (entity-long _) (omega arith)
 
 pub core_length-returns-else-u16_at-eq1 : goal.core_length-returns-else-u16_at-eq1
 core_length-returns-else-u16_at-eq1 t c =
-    let u16-at2 = c.u16_at in
     let args = c.args in
-    let by-entities-core = entities-core args.levels args.t.now c.requires c.in-10.is u16-at2.result u16-at2.ensures.0
-    c.if-u16_at-eq1.false in
-    refused-length args.levels args.t.now c.requires by-entities-core
+    refused-length args.levels args.t.now c.requires
+    (entities-core args.levels args.t.now c.requires (sym c.in-Entity.ensures) c.u16_at.result c.u16_at.ensures.0 c.if-u16_at-eq1.false)
 
-pub core_length-returns-in-11 : goal.core_length-returns-in-11
-core_length-returns-in-11 t c =
+pub core_length-returns-in-Never : goal.core_length-returns-in-Never
+core_length-returns-in-Never t c =
     let args = c.args in
-    known-length args.levels args.t.now c.requires _ 5 (action-core args.levels args.t.now c.requires c.in-11.is)
-    (entity-long _) (omega arith)
+    refused-length args.levels args.t.now c.requires
+    (elim c.in-Never.is [
+      | inl h ↦ never-core args.levels args.t.now c.requires (sym (rw h at c.of.ensures))
+      | inr h ↦ any-core args.levels args.t.now c.requires (sym (rw h at c.of.ensures))
+    ])
 
-pub core_length-returns-in-12 : goal.core_length-returns-in-12
-core_length-returns-in-12 t c =
+pub core_length-returns-in-Action : goal.core_length-returns-in-Action
+core_length-returns-in-Action t c =
     let args = c.args in
-    known-length args.levels args.t.now c.requires _ 3 (extension-core args.levels args.t.now c.requires c.in-12.is)
-    (extension-long _) (omega arith)
+    known-length args.levels args.t.now c.requires _ 5 (action-core args.levels args.t.now c.requires (sym c.in-Action.ensures)) (entity-long _) (omega arith)
+
+pub core_length-returns-in-Extension : goal.core_length-returns-in-Extension
+core_length-returns-in-Extension t c =
+    let args = c.args in
+    known-length args.levels args.t.now c.requires _ 3 (extension-core args.levels args.t.now c.requires (sym c.in-Extension.ensures)) (extension-long _)
+    (omega arith)
 
 pub core_length-returns-in_default : goal.core_length-returns-in_default
 core_length-returns-in_default t c =
-    let m = c.in_default.in_default-own.rest in
-    atom-length c.args.levels c.args.t.now c.requires m.0.0.0.0.1 m.0.0.0.1 m.0.0.1 m.0.1 m.1
-    m.0.0.0.0.0.0.1 m.0.0.0.0.0.1
+    let not-kind : (k : Kind) → (c.of.result ≡ k → ⊥) → kind c.args.t.now ≡ kind_number k → ⊥ = λ k h e. h (kind-same c.of.result k (c.of.ensures ∙ e)) in
+    let m = c.in_default in
+    atom-length c.args.levels c.args.t.now c.requires (not-kind kinds.Set m.not-Set) (not-kind kinds.Record m.not-Record)
+    (not-kind kinds.Entity m.not-Entity) (not-kind kinds.Action m.not-Action) (not-kind kinds.Extension m.not-Extension)
+    (not-kind kinds.Never m.not-Never) (not-kind kinds.AnyEntity m.not-AnyEntity)

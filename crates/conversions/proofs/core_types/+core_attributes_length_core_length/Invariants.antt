@@ -11,8 +11,11 @@ decreases-core_attributes_length l = l.levels + l.levels + 1
 abbrev pub decreases-core_length : goal.decreases-core_length
 decreases-core_length l = l.levels + l.levels
 
-abbrev pub invariant-core_attributes_length-loop-left : goal.invariant-core_attributes_length-loop-left
-invariant-core_attributes_length-loop-left l = Left l.levels l.left l.e l.b × Summing (core_attrs (dec_a (dec l.levels) l.n l.es l.bs)) (core_attrs (dec_a (dec l.levels) l.left l.e l.b)) l.sum
+abbrev pub invariant-core_attributes_length-loop-row : goal.invariant-core_attributes_length-loop-row
+invariant-core_attributes_length-loop-row l =
+    Left l.levels l.rows.left l.rows.entries.now l.rows.bodies.now
+    × Summing (core_attrs (dec_a (dec l.levels) l.fn.rows.left l.fn.rows.entries.now l.fn.rows.bodies.now))
+    (core_attrs (dec_a (dec l.levels) l.rows.left l.rows.entries.now l.rows.bodies.now)) l.sum
 
-abbrev pub decreases-core_attributes_length-loop-left : goal.decreases-core_attributes_length-loop-left
-decreases-core_attributes_length-loop-left l = l.left
+abbrev pub decreases-core_attributes_length-loop-row : goal.decreases-core_attributes_length-loop-row
+decreases-core_attributes_length-loop-row l = l.rows.left

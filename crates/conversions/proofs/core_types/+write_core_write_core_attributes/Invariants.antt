@@ -11,8 +11,11 @@ decreases-write_core l = l.levels + l.levels
 abbrev pub decreases-write_core_attributes : goal.decreases-write_core_attributes
 decreases-write_core_attributes l = l.levels + l.levels + 1
 
-abbrev pub invariant-write_core_attributes-loop-left : goal.invariant-write_core_attributes-loop-left
-invariant-write_core_attributes-loop-left l = Left l.levels l.left l.e l.b × Laying (core_attrs (dec_a (dec l.levels) l.n l.es l.bs)) (core_attrs (dec_a (dec l.levels) l.left l.e l.b)) l.initial.out l.at l.pos l.out
+abbrev pub invariant-write_core_attributes-loop-row : goal.invariant-write_core_attributes-loop-row
+invariant-write_core_attributes-loop-row l =
+    Left l.levels l.rows.left l.rows.entries.now l.rows.bodies.now
+    × Laying (core_attrs (dec_a (dec l.levels) l.fn.rows.left l.fn.rows.entries.now l.fn.rows.bodies.now))
+    (core_attrs (dec_a (dec l.levels) l.rows.left l.rows.entries.now l.rows.bodies.now)) l.initial.out l.at l.pos l.out
 
-abbrev pub decreases-write_core_attributes-loop-left : goal.decreases-write_core_attributes-loop-left
-decreases-write_core_attributes-loop-left l = l.left
+abbrev pub decreases-write_core_attributes-loop-row : goal.decreases-write_core_attributes-loop-row
+decreases-write_core_attributes-loop-row l = l.rows.left

@@ -1,6 +1,8 @@
 use Rattle.cedar.proofs.Laws.Limits.{allowed-bytes}
 use Rattle.forms.specs.Limits.{as_limits}
-use mathlib.Core.Path.{refl}
+use mathlib.Core.Path.{refl, ap}
+use Rattle.forms.specs.Refusals.{number_of}
+use Rattle.writing.specs.FormLengths.{seen}
 use Prim.Native.Nat.{ℕ, ◌<◌}
 use native.Mathlib.Omega.{arith}
 use lib.ListN.{length, get_or}
@@ -81,7 +83,7 @@ returns-then-not-answer_fits c =
     _ (bound-direct (as_limits args.limits) c.requires.fair args.mode args.schema.now args.t0.now args.t1.now (length
     args.out.now) _ by-mode-known _ by-checked-there
     by-type-there (λ i. (c.type_inv.t0 i).fits) (λ i. (c.type_inv.t1 i).fits)
-    by-type-there-2) c.bound_length.result c.bound_length.ensures c.in-Of-bound_length.n c.in-Of-bound_length.is
+    by-type-there-2) (seen c.bound_length.result) c.bound_length.ensures c.in-Ok.n (ap seen c.in-Ok.is)
     c.answer_fits.result c.answer_fits.ensures c.if-not-answer_fits.true-raw
 
 pub write_bound-requires : goal.write_bound-requires
@@ -95,11 +97,11 @@ write_bound-requires c =
       a_whole = by-type-whole;
       b_whole = by-type-whole-2;
       ready = writes-ready (as_limits args.limits) (allowed-bytes (as_limits args.limits) c.requires.fair).1 by-direct args.out.now _ refl
-          c.bound_length.result c.bound_length.ensures
-          c.in-Of-bound_length.n c.in-Of-bound_length.is c.answer_fits.result c.answer_fits.ensures c.if-not-answer_fits.false-raw;
-      known_length = λ p. writes-length (as_limits args.limits) (allowed-bytes (as_limits args.limits) c.requires.fair).1 by-direct args.out.now _ refl
-          c.bound_length.result c.bound_length.ensures
-          c.in-Of-bound_length.n c.in-Of-bound_length.is c.answer_fits.result c.answer_fits.ensures c.if-not-answer_fits.false-raw;
+          (seen c.bound_length.result) c.bound_length.ensures
+          c.in-Ok.n (ap seen c.in-Ok.is) c.answer_fits.result c.answer_fits.ensures c.if-not-answer_fits.false-raw;
+      known_length = writes-length (as_limits args.limits) (allowed-bytes (as_limits args.limits) c.requires.fair).1 by-direct args.out.now _ refl
+          (seen c.bound_length.result) c.bound_length.ensures
+          c.in-Ok.n (ap seen c.in-Ok.is) c.answer_fits.result c.answer_fits.ensures c.if-not-answer_fits.false-raw;
     }
 
 pub slice_bounds-form-end : goal.slice_bounds-form-end
@@ -119,7 +121,7 @@ slice_bounds-form-end c =
     let by-bound-within = bound-within (as_limits args.limits) fair args.mode args.schema.now args.t0.now args.t1.now (length args.out.now)
     _ by-mode-known _ by-checked-there by-type-there known-first known-second by-type-there-2 in
     let was-written = wrote (as_limits args.limits) (allowed-bytes (as_limits args.limits) fair).1 by-direct args.out.now _ by-bound-direct
-    c.bound_length.result c.bound_length.ensures c.in-Of-bound_length.n c.in-Of-bound_length.is c.answer_fits.result
+    (seen c.bound_length.result) c.bound_length.ensures c.in-Ok.n (ap seen c.in-Ok.is) c.answer_fits.result
     c.answer_fits.ensures c.if-not-answer_fits.false-raw c.write_bound.new.out c.write_bound.result c.write_bound.ensures
     by-bound-within in
     omega (arith, wrote-small was-written)
@@ -141,7 +143,7 @@ type_levels-requires c =
     let by-bound-within = bound-within (as_limits args.limits) fair args.mode args.schema.now args.t0.now args.t1.now (length args.out.now)
     _ by-mode-known _ by-checked-there by-type-there known-first known-second by-type-there-2 in
     let was-written = wrote (as_limits args.limits) (allowed-bytes (as_limits args.limits) fair).1 by-direct args.out.now _ by-bound-direct
-    c.bound_length.result c.bound_length.ensures c.in-Of-bound_length.n c.in-Of-bound_length.is c.answer_fits.result
+    (seen c.bound_length.result) c.bound_length.ensures c.in-Ok.n (ap seen c.in-Ok.is) c.answer_fits.result
     c.answer_fits.ensures c.if-not-answer_fits.false-raw c.write_bound.new.out c.write_bound.result c.write_bound.ensures
     by-bound-within in
     wrote-whole was-written
@@ -163,13 +165,13 @@ returns-else-not-answer_fits c =
     let by-bound-within = bound-within (as_limits args.limits) fair args.mode args.schema.now args.t0.now args.t1.now (length args.out.now)
     _ by-mode-known _ by-checked-there by-type-there known-first known-second by-type-there-2 in
     let was-written = wrote (as_limits args.limits) (allowed-bytes (as_limits args.limits) fair).1 by-direct args.out.now _ by-bound-direct
-    c.bound_length.result c.bound_length.ensures c.in-Of-bound_length.n c.in-Of-bound_length.is c.answer_fits.result
+    (seen c.bound_length.result) c.bound_length.ensures c.in-Ok.n (ap seen c.in-Ok.is) c.answer_fits.result
     c.answer_fits.ensures c.if-not-answer_fits.false-raw c.write_bound.new.out c.write_bound.result c.write_bound.ensures
     by-bound-within in
     wrote-levels was-written c.type_levels.result c.type_levels.ensures
 
-pub returns-in-Not : goal.returns-in-Not
-returns-in-Not c =
+pub returns-in-Err : goal.returns-in-Err
+returns-in-Err c =
     let args = c.args in
     let by-direct = direct (as_mode c.in-Of.m) (dec args.limits.levels args.t0.now) (dec args.limits.levels args.t1.now) in
     let by-mode-known = mode-known args.mode c.from_number.result c.from_number.ensures c.in-Of.m c.in-Of.is in
@@ -179,8 +181,8 @@ returns-in-Not c =
     c.if-not-whole_type.false-raw in
     let by-type-there-2 = type-there (as_limits args.limits) args.t1.now c.whole_type-2.result c.whole_type-2.ensures
     c.if-not-whole_type-2.false-raw in
-    writes-not (as_limits args.limits) (allowed-bytes (as_limits args.limits) c.requires.fair).1 by-direct args.out.now
+    rw c.from.ensures (writes-not (as_limits args.limits) (allowed-bytes (as_limits args.limits) c.requires.fair).1 by-direct args.out.now
     _ (bound-direct (as_limits args.limits) c.requires.fair args.mode args.schema.now args.t0.now args.t1.now (length
     args.out.now) _ by-mode-known _ by-checked-there
     by-type-there (λ i. (c.type_inv.t0 i).fits) (λ i. (c.type_inv.t1 i).fits)
-    by-type-there-2) c.bound_length.result c.bound_length.ensures c.in-Not.e c.in-Not.is
+    by-type-there-2) (seen c.bound_length.result) c.bound_length.ensures (number_of c.in-Err.refusal) (ap seen c.in-Err.is))

@@ -11,6 +11,7 @@ use Rattle.cedar.specs.Fold.{fold_types}
 use Rattle.cedar.specs.Whole.{whole_list}
 use lib.ListN.{length}
 use native.Mathlib.Omega.{arith}
+use Rattle.forms.specs.Refusals.{number_of}
 use Rattle.validator.proofs.reduce_to_least_upper_bound.reduced.Goals as goal
 
 pub returns-in_default : goal.returns-in_default
@@ -57,7 +58,7 @@ returns-then-not-answer_fits c =
     args.list.now) in
     let by-mode-known = mode-known args.mode c.from_number.result c.from_number.ensures c.in-Of.m c.in-Of.is in
     let by-folds-over = folds-over (as_limits args.limits) f args.out.now fold-types.new.last fold-types.result fold-types.ensures
-    c.in-To.n c.in-To.is
+    c.in-Ok.n c.in-Ok.is
     answer-fits.result answer-fits.ensures c.if-not-answer_fits.true-raw in
     let by-checked-there = checked-there args.limits args.schema.now args.check c.requires.own_check c.in-Whole.field-0 c.in-Whole.is in
     let by-list-there = list-there (as_limits args.limits) args.list.now whole-list.result whole-list.ensures if1.false-raw in
@@ -74,7 +75,7 @@ slice_bounds-form-end c =
     omega (
       arith,
       folds-small (as_limits args.limits) f args.out.now fold-types.new.last fold-types.result fold-types.ensures
-          c.in-To.n c.in-To.is,
+          c.in-Ok.n c.in-Ok.is,
     )
 
 pub copy-requires : goal.copy-requires
@@ -86,7 +87,7 @@ copy-requires c =
     let f = fold_types (step_fits (as_limits args.limits) (length args.work.now)) (as_mode c.in-Of.m) (list_of args.limits.levels
     args.list.now) in
     let by-folds-room = folds-room (as_limits args.limits) f args.out.now fold-types.new.last fold-types.result fold-types.ensures
-    c.in-To.n c.in-To.is
+    c.in-Ok.n c.in-Ok.is
     answer-fits.result answer-fits.ensures if2.false-raw in
     omega (arith, by-folds-room)
 
@@ -96,8 +97,8 @@ type_levels-requires c =
     let args = c.args in
     let f = fold_types (step_fits (as_limits args.limits) (length args.work.now)) (as_mode c.in-Of.m) (list_of args.limits.levels
     args.list.now) in
-    folds-whole (as_limits args.limits) f args.out.now fold-types.new.last fold-types.result fold-types.ensures c.in-To.n
-    c.in-To.is
+    folds-whole (as_limits args.limits) f args.out.now fold-types.new.last fold-types.result fold-types.ensures c.in-Ok.n
+    c.in-Ok.is
 
 pub returns-else-not-answer_fits : goal.returns-else-not-answer_fits
 returns-else-not-answer_fits c =
@@ -112,22 +113,22 @@ returns-else-not-answer_fits c =
     args.list.now) in
     let by-mode-known = mode-known args.mode c.from_number.result c.from_number.ensures c.in-Of.m c.in-Of.is in
     let by-folds-typed = folds-typed (as_limits args.limits) f args.out.now fold-types.new.last fold-types.result fold-types.ensures
-    c.in-To.n c.in-To.is
+    c.in-Ok.n c.in-Ok.is
     answer-fits.result answer-fits.ensures if2.false-raw in
     let by-checked-there = checked-there args.limits args.schema.now args.check c.requires.own_check c.in-Whole.field-0 c.in-Whole.is in
     let by-list-there = list-there (as_limits args.limits) args.list.now whole-list.result whole-list.ensures if1.false-raw in
     let by-folds-exact = folds-exact (as_limits args.limits) f args.out.now fold-types.new.last fold-types.result fold-types.ensures
-    c.in-To.n c.in-To.is in
+    c.in-Ok.n c.in-Ok.is in
     let by-folds-length = folds-length (as_limits args.limits) f args.out.now fold-types.new.last fold-types.result
-    fold-types.ensures c.in-To.n
-    c.in-To.is in
+    fold-types.ensures c.in-Ok.n
+    c.in-Ok.is in
     fold-writes (as_limits args.limits) c.requires.fair args.mode args.schema.now args.list.now args.out.now (length
     args.work.now) _ by-mode-known _ by-checked-there by-list-there
-    c.in-To.n fold-types.new.last by-folds-typed by-folds-exact by-folds-length copy.new.out copy.ensures
+    c.in-Ok.n fold-types.new.last by-folds-typed by-folds-exact by-folds-length copy.new.out copy.ensures
     c.type_levels.result c.type_levels.ensures
 
-pub returns-in-Not : goal.returns-in-Not
-returns-in-Not c =
+pub returns-in-Err : goal.returns-in-Err
+returns-in-Err c =
     let fold-types = c.fold_types in
     let if1 = c.if-not-whole_list in
     let whole-list = c.whole_list in
@@ -138,7 +139,7 @@ returns-in-Not c =
     let by-checked-there = checked-there args.limits args.schema.now args.check c.requires.own_check c.in-Whole.field-0 c.in-Whole.is in
     let by-list-there = list-there (as_limits args.limits) args.list.now whole-list.result whole-list.ensures if1.false-raw in
     let by-folds-not = folds-not (as_limits args.limits) f args.out.now fold-types.new.last fold-types.result fold-types.ensures
-    c.in-Not.e c.in-Not.is in
-    fold-refused (as_limits args.limits) c.requires.fair args.mode args.schema.now args.list.now args.out.now (length
+    c.in-Err.refusal c.in-Err.is in
+    rw c.from.ensures (fold-refused (as_limits args.limits) c.requires.fair args.mode args.schema.now args.list.now args.out.now (length
     args.work.now) _ by-mode-known _ by-checked-there by-list-there
-    c.in-Not.e by-folds-not
+    (number_of c.in-Err.refusal) by-folds-not)

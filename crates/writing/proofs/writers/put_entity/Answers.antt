@@ -1,17 +1,8 @@
-use lib.ListN.{length-set}
-use native.Mathlib.Omega.{arith}
-use lib.Seq.{sets-eq}
-use mathlib.Core.List.{[], ◌∷◌}
+use Rattle.std.proofs.Common.{◌∷◌, refl}
+use Rattle.cedar.specs.Bytes.{u16}
+use Rattle.writing.specs.Laws.Writing.{over-at}
 use Rattle.writing.proofs.writers.put_entity.Goals as goal
 
-pub bounds-out-1 : goal.bounds-out-1
-bounds-out-1 c = simp length-set (omega arith)
-
-pub bounds-out-2 : goal.bounds-out-2
-bounds-out-2 c = simp length-set (omega arith)
-
-pub bounds-out-3 : goal.bounds-out-3
-bounds-out-3 c = simp length-set (omega arith)
-
 pub returns : goal.returns
-returns c = sets-eq (_ ∷ _ ∷ _ ∷ _ ∷ _ ∷ []) c.args.out.now 0 c.requires.0
+returns c =
+    over-at c.args.out.now (10 ∷ u16 1) (u16 c.args.name) c.put_kind.new.out c.put_name.new.out 3 c.put_kind.ensures refl c.put_name.ensures c.requires.0

@@ -1,6 +1,0 @@
-use lib.Seq.{sets-eq}
-use mathlib.Core.List.{[], ◌∷◌}
-use Rattle.writing.proofs.writers.put_one.Goals as goal
-
-pub returns : goal.returns
-returns c = sets-eq (_ ∷ []) c.args.out.now 0 c.requires
