@@ -216,9 +216,6 @@ module _ (b : List ℕ) (h : (length b ≡ 3 + 2 * rd b 1) × (names_up (rd b 1)
   pub entity-names : names_in (rest 3 b) ≡ names_by 2 (rd b 1) (rest 3 b)
   entity-names = rw count-is refl
 
-  pub entity-ascending : Ascending (rest 3 b)
-  entity-ascending = record { low = 0; even = omega (arith, length_rest 3 b, h.0); up = rw count-is h.1 }
-
 -- The bound of two entity forms.
 module _ (M : Mode) (ns ks : List ℕ) where
   pub permissive-names : is_permissive M ≡ true → (c x : ℕ) → c ≡ length (union ns ks) → x ≡ cap (2 * c + 3) → ok x ≡ form_length_of enc (direct_names M ns ks)

@@ -135,10 +135,12 @@ module _ {l n m : ℕ} {es bs fs cs : List ℕ} (w : Walk l n es bs m fs cs) {n'
         let ys = dec_a (dec l) m fs cs in
         let zs = dec_a (dec l) m' fs' cs' in
         let xs = dec_a (dec l) n' es' bs' in
-        record { is = ap (λ (z : Attrs). direct_attrs M z ys) walk-row.is
-        ∙ attr-step M (rd r.head.now 0) (row_flag r) (dec l r.body.now) xs ys
-        ∙ ap₂ (λ (o : Option (Bool × Ty)) (c : Result Attrs). after (rd r.head.now 0) (joined M (row_flag r) (dec l r.body.now) o) c)
-        (sym walk-found) (later_same M l n' (rd r.head.now 0 + 1) es' bs' ys zs walk-row.more (λ j h. others.later j (omega (arith, q)))) }
+        record {
+          is = ap (λ (z : Attrs). direct_attrs M z ys) walk-row.is
+              ∙ attr-step M (rd r.head.now 0) (row_flag r) (dec l r.body.now) xs ys
+              ∙ ap₂ (λ (o : Option (Bool × Ty)) (c : Result Attrs). after (rd r.head.now 0) (joined M (row_flag r) (dec l r.body.now) o) c)
+              (sym walk-found) (later_same M l n' (rd r.head.now 0 + 1) es' bs' ys zs walk-row.more (λ j h. others.later j (omega (arith, q))));
+        }
 
 -- The loop of the length pass, where an attribute was joined.
 module _ {all ahead : Result Attrs} {sum : ℕ} (i : Summing all ahead sum) {n : ℕ} {J : Result (Option (Bool × Ty))} {cs : Result Attrs} (step : Joins ahead n J cs) where

@@ -37,10 +37,11 @@ pub attributes_length-loop-row-init : goal.attributes_length-loop-row-init
 attributes_length-loop-row-init t c =
     let args = c.args in
     let first = split c.at-rows.ensures.left c.at-rows.ensures.entries c.at-rows.ensures.bodies in
-    let second = split c.at-others.ensures.left c.at-others.ensures.entries c.at-others.ensures.bodies in
-    (start-walk (as_mode args.mode) args.levels 0 args.a.now args.b.now c.requires.a_tabled c.requires.b_tabled first second,
-    start-summing (as_mode args.mode) args.levels 0 args.a.now args.b.now c.requires.a_tabled c.requires.b_tabled first second
-    c.names_allowed.result c.names_allowed.ensures (rw c.if-not-names_allowed.false refl))
+    let second = split c.at-others.ensures.left c.at-others.ensures.entries c.at-others.ensures.bodies in (
+      start-walk (as_mode args.mode) args.levels 0 args.a.now args.b.now c.requires.a_tabled c.requires.b_tabled first second,
+      start-summing (as_mode args.mode) args.levels 0 args.a.now args.b.now c.requires.a_tabled c.requires.b_tabled first second
+          c.names_allowed.result c.names_allowed.ensures (rw c.if-not-names_allowed.false refl),
+    )
 
 pub attributes_length-next-requires : goal.attributes_length-next-requires
 attributes_length-next-requires t c = (lit< tt, laid c.loop-row.invariant.0.first)
@@ -52,9 +53,10 @@ pub attributes_length-pair_length-requires : goal.attributes_length-pair_length-
 attributes_length-pair_length-requires t c =
     let walk = c.loop-row.invariant.0 in
     let took = c.in-Some.ensures in
-    let passed = c.find-other.ensures.passed in
-    (omega (arith, c.decreases),
-    (walk-whole walk took c.name.ensures passed, walk-other walk took c.name.ensures passed c.find-other.result c.find-other.ensures.sought))
+    let passed = c.find-other.ensures.passed in (
+      omega (arith, c.decreases),
+      (walk-whole walk took c.name.ensures passed, walk-other walk took c.name.ensures passed c.find-other.result c.find-other.ensures.sought),
+    )
 
 pub attributes_length-returns-in_err-n : goal.attributes_length-returns-in_err-n
 attributes_length-returns-in_err-n t c =
@@ -75,17 +77,19 @@ pub attributes_length-loop-row-preserved-in-Some-2 : goal.attributes_length-loop
 attributes_length-loop-row-preserved-in-Some-2 t c =
     let walk = c.loop-row.invariant.0 in
     let step = walk_step walk c.in-Some.ensures c.name.ensures c.find-other.ensures.passed c.find-other.result c.find-other.ensures.sought
-    (as_mode c.args.mode) in
-    (walk_more walk c.in-Some.ensures c.name.ensures c.find-other.ensures.passed,
-    pair-more c.loop-row.invariant.1 step c.in-Some-2.n (rw c.in-Some-2.is at c.in_ok-n.ensures) _ c.capped-sum.ensures)
+    (as_mode c.args.mode) in (
+      walk_more walk c.in-Some.ensures c.name.ensures c.find-other.ensures.passed,
+      pair-more c.loop-row.invariant.1 step c.in-Some-2.n (rw c.in-Some-2.is at c.in_ok-n.ensures) _ c.capped-sum.ensures,
+    )
 
 pub attributes_length-loop-row-preserved : goal.attributes_length-loop-row-preserved
 attributes_length-loop-row-preserved t c =
     let walk = c.loop-row.invariant.0 in
     let step = walk_step walk c.in-Some.ensures c.name.ensures c.find-other.ensures.passed c.find-other.result c.find-other.ensures.sought
-    (as_mode c.args.mode) in
-    (walk_more walk c.in-Some.ensures c.name.ensures c.find-other.ensures.passed,
-    pair-dropped c.loop-row.invariant.1 step (rw c.in_default-2.is at c.in_ok-n.ensures))
+    (as_mode c.args.mode) in (
+      walk_more walk c.in-Some.ensures c.name.ensures c.find-other.ensures.passed,
+      pair-dropped c.loop-row.invariant.1 step (rw c.in_default-2.is at c.in_ok-n.ensures),
+    )
 
 pub attributes_length-returns : goal.attributes_length-returns
 attributes_length-returns t c =
@@ -145,9 +149,10 @@ bound_length-returns-in-Set t c =
 pub bound_length-record_length-requires : goal.bound_length-record_length-requires
 bound_length-record_length-requires t c =
     let first = key kinds.Record c.of-j.ensures c.in-Record.is in
-    let second = key-too c.of-j.result c.of-k.result kinds.Record c.of-k.ensures c.if-ne.ensures c.in-Record.is in
-    (omega (arith, c.decreases, (is-record c.args.levels c.args.a.now c.requires.a_whole first).deep),
-    ((c.requires.a_whole, first), (c.requires.b_whole, second)))
+    let second = key-too c.of-j.result c.of-k.result kinds.Record c.of-k.ensures c.if-ne.ensures c.in-Record.is in (
+      omega (arith, c.decreases, (is-record c.args.levels c.args.a.now c.requires.a_whole first).deep),
+      ((c.requires.a_whole, first), (c.requires.b_whole, second)),
+    )
 
 pub bound_length-entities_length-requires-clause-a_len : goal.bound_length-entities_length-requires-clause-a_len
 bound_length-entities_length-requires-clause-a_len t c =
@@ -197,9 +202,10 @@ pub bound_length-attributes_length-requires : goal.bound_length-attributes_lengt
 bound_length-attributes_length-requires t c =
     let args = c.args in
     let first = key kinds.Action c.of-j.ensures c.in-Action.is in
-    let second = key-too c.of-j.result c.of-k.result kinds.Action c.of-k.ensures c.if-ne.ensures c.in-Action.is in
-    (omega (arith, c.decreases, (is-action args.levels args.a.now c.requires.a_whole first).deep),
-    (action-tabled args.levels args.a.now c.requires.a_whole first, action-tabled args.levels args.b.now c.requires.b_whole second))
+    let second = key-too c.of-j.result c.of-k.result kinds.Action c.of-k.ensures c.if-ne.ensures c.in-Action.is in (
+      omega (arith, c.decreases, (is-action args.levels args.a.now c.requires.a_whole first).deep),
+      (action-tabled args.levels args.a.now c.requires.a_whole first, action-tabled args.levels args.b.now c.requires.b_whole second),
+    )
 
 pub bound_length-returns-in_err-n-in-Action : goal.bound_length-returns-in_err-n-in-Action
 bound_length-returns-in_err-n-in-Action t c =
@@ -318,10 +324,13 @@ record_length-overflow_sub-levels t c = omega (arith, (is-record c.args.levels c
 
 pub record_length-attributes_length-requires : goal.record_length-attributes_length-requires
 record_length-attributes_length-requires t c =
-    let args = c.args in
-    (omega (arith, c.decreases, (is-record args.levels args.a.now c.requires.a_whole.0 c.requires.a_whole.1).deep),
-    (record-tabled args.levels args.a.now c.requires.a_whole.0 c.requires.a_whole.1,
-    record-tabled args.levels args.b.now c.requires.b_whole.0 c.requires.b_whole.1))
+    let args = c.args in (
+      omega (arith, c.decreases, (is-record args.levels args.a.now c.requires.a_whole.0 c.requires.a_whole.1).deep),
+      (
+        record-tabled args.levels args.a.now c.requires.a_whole.0 c.requires.a_whole.1,
+        record-tabled args.levels args.b.now c.requires.b_whole.0 c.requires.b_whole.1,
+      ),
+    )
 
 pub record_length-returns-in_err-n : goal.record_length-returns-in_err-n
 record_length-returns-in_err-n t c =
