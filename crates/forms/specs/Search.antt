@@ -1,8 +1,6 @@
 -- Searches by name over entries of one width. Assumes nothing: these are definitions.
-use Rattle.std.specs.Prelude.{ℕ, zero, suc, ◌+◌, ◌*◌, ◌-◌, ◌≤◌, List, cond, ◌&&◌, ◌≡◌, eqb, ltb, length}
+use Rattle.std.specs.Prelude.{ℕ, zero, suc, ◌+◌, ◌*◌, ◌-◌, ◌≤◌, List, cond, ◌≡◌, ltb, length}
 use Rattle.forms.specs.Parts.{rest, rd}
-use Rattle.forms.specs.declared.search.Found.{Found}
-use Rattle.forms.specs.declared.search.Found.TheVariants.{At, Nothing}
 
 -- How many of n entries stand before the first whose name is not below the name.
 unfoldable pub below : ℕ → ℕ → ℕ → List ℕ → ℕ
@@ -24,8 +22,3 @@ pub record Laid (w n : ℕ) (es bs : List ℕ) : Type 0 where
   pub wide : 2 ≤ w
   pub sized : length es ≡ w * n
   pub room : used w n es ≤ length bs
-
--- Where the first entry stands whose name is not below the name, if it has the name.
-unfoldable pub found_at : ℕ → ℕ → ℕ → List ℕ → Found
-found_at w n name es =
-    cond (ltb (below w n name es) n && eqb (rd es (w * below w n name es)) name) (At (below w n name es) (used w (below w n name es) es)) Nothing

@@ -10,7 +10,6 @@ pub mod numbers;
 pub mod offsets;
 pub mod refusals;
 pub mod rows;
-pub mod search;
 pub mod tables;
 pub mod types;
 pub mod values;

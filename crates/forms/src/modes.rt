@@ -4,58 +4,44 @@ ghost use Rattle.cedar.specs.Types.{is_permissive, is_loose};
 ghost use Rattle.cedar.specs.Calls.{mode_of};
 ghost use Rattle.forms.specs.Modes.{as_mode, mode_in};
 
-#[derive(Clone, Copy)]
+#[derive(Clone, Copy, Debug, PartialEq, Eq)]
 pub enum Mode {
     Strict,
     Permissive,
     Loose,
 }
 
-// The mode that a number means, or none.
-#[derive(Clone, Copy)]
-pub enum KnownMode {
-    Of(Mode),
-    Nothing,
+// A number that is no mode's.
+#[derive(Clone, Copy, Debug, PartialEq, Eq)]
+pub struct UnknownMode;
+
+impl TryFrom<u8> for Mode {
+    type Error = UnknownMode;
+
+    ghost try_from_gives = { λ number result. mode_in result ≡ mode_of number };
+
+    fn try_from(number: u8) -> Result<Mode, UnknownMode> {
+        match number {
+            0 => Ok(Mode::Strict),
+            1 => Ok(Mode::Permissive),
+            2 => Ok(Mode::Loose),
+            _ => Err(UnknownMode),
+        }
+    }
 }
 
 impl Mode {
-    pub const STRICT: u8 = 0;
-
-    pub const PERMISSIVE: u8 = 1;
-
-    pub const LOOSE: u8 = 2;
-
-    // The mode of a number.
-    pub fn from_number(n: u8) -> KnownMode
-        ensures { mode_in result ≡ mode_of n }
-    {
-        match n {
-            Mode::STRICT => KnownMode::Of(Mode::Strict),
-            Mode::PERMISSIVE => KnownMode::Of(Mode::Permissive),
-            Mode::LOOSE => KnownMode::Of(Mode::Loose),
-            _ => KnownMode::Nothing,
-        }
-    }
-
     // Whether the permissive rules hold.
     pub fn is_permissive(self) -> bool
         ensures { result ≡ is_permissive (as_mode self) }
     {
-        match self {
-            Mode::Strict => false,
-            Mode::Permissive => true,
-            Mode::Loose => true,
-        }
+        matches!(self, Mode::Permissive | Mode::Loose)
     }
 
     // Whether sets of elements without a bound are joined.
     pub fn is_loose(self) -> bool
         ensures { result ≡ is_loose (as_mode self) }
     {
-        match self {
-            Mode::Strict => false,
-            Mode::Permissive => false,
-            Mode::Loose => true,
-        }
+        self == Mode::Loose
     }
 }

@@ -8,7 +8,7 @@ ghost use Rattle.validator.specs.Answers.{answer_of};
 
 use crate::answers::{Answer, yes_or_no};
 use forms::limits::Limits;
-use forms::modes::{KnownMode, Mode};
+use forms::modes::Mode;
 use forms::refusals::Refusal;
 use forms::types::whole_type;
 use schemas::whole::{Checked, check_schema};
@@ -26,7 +26,7 @@ fn is_subtype_under(
     requires own_check { check ≡ checked limits schema.now }
     ensures { result ≡ answer_of (subtype_call (as_limits limits) mode schema.now t0.now t1.now) }
 {
-    let KnownMode::Of(m) = Mode::from_number(mode) else {
+    let Ok(m) = Mode::try_from(mode) else {
         return Answer::Refused(Refusal::MODE);
     };
     let Checked::Whole(_) = check else {

@@ -11,7 +11,7 @@ use crate::rooms::answer_fits;
 use bound_lengths::bound_length::bound_length;
 use bounds::bound_writes::write_bound;
 use forms::limits::Limits;
-use forms::modes::{KnownMode, Mode};
+use forms::modes::Mode;
 use forms::refusals::Refusal;
 use forms::types::whole_type;
 use levels::depths::type_levels;
@@ -31,7 +31,7 @@ fn least_upper_bound_under(
     requires own_check { check ≡ checked limits schema.now }
     ensures { Answered (bound_call (as_limits limits) mode schema.now t0.now t1.now (length out.old)) out.old out.new result }
 {
-    let KnownMode::Of(m) = Mode::from_number(mode) else {
+    let Ok(m) = Mode::try_from(mode) else {
         return Answer::Refused(Refusal::MODE);
     };
     let Checked::Whole(_) = check else {

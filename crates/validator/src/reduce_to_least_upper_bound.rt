@@ -12,7 +12,7 @@ use crate::workspaces::clear;
 use folds::lists::fold_types;
 use forms::limits::Limits;
 use forms::lists::whole_list;
-use forms::modes::{KnownMode, Mode};
+use forms::modes::Mode;
 use forms::refusals::Refusal;
 use levels::depths::type_levels;
 use schemas::whole::{Checked, check_schema};
@@ -34,7 +34,7 @@ fn reduced(
     requires last_room { limits.bytes ≤ length last.old }
     ensures { Answered (fold_call (as_limits limits) mode schema.now list.now (length out.old) (length work.old)) out.old out.new result }
 {
-    let KnownMode::Of(m) = Mode::from_number(mode) else {
+    let Ok(m) = Mode::try_from(mode) else {
         return Answer::Refused(Refusal::MODE);
     };
     let Checked::Whole(_) = check else {

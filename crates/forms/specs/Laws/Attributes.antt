@@ -3,20 +3,15 @@ use Rattle.std.specs.Prelude.{◌≡◌, List, [], ◌∷◌, ◌++◌, Bool, tr
 use Rattle.std.proofs.Math.Path.{refl}
 use Rattle.std.proofs.Common.{ap, sym, ◌∙◌, sub-one, arith, leb-true, eq-eqb, ne_eqb}
 use Rattle.std.proofs.Math.Option.{none, some}
-use Rattle.std.proofs.Math.Decide.{dec_lt}
 use Rattle.cedar.specs.Types.{Ty, Attrs, nil, attr, find}
 use Rattle.cedar.specs.TypeForm.{attrs_of}
 use Rattle.forms.specs.Parts.{part, rest, rd}
 use Rattle.forms.specs.Rows.{rows_of, none_left}
 use Rattle.forms.specs.TypeBytes.{attr_row, dec_a, whole, dec, Sound}
-use Rattle.forms.specs.Search.{below, used, low_at, Laid, found_at}
-use Rattle.forms.specs.declared.search.Found.{Found}
-use Rattle.forms.specs.declared.search.Found.TheVariants.{At, Nothing}
-use Rattle.forms.specs.Laws.Parts.{and_l, and_r, length_rest, rest-is}
+use Rattle.forms.specs.Search.{below, used, low_at, Laid}
+use Rattle.forms.specs.Laws.Parts.{and_l, and_r, length_rest}
 use Rattle.forms.specs.Laws.Rows.{first}
 use Rattle.forms.specs.Laws.Skips.{Below, From, Named, below-most, below-stop, used-less, rows-used, rows_cut, rows-skip, rows-below, rows-from}
-use Rattle.forms.specs.Laws.Search.{found-where, found_none}
-use Rattle.forms.specs.Laws.Sure.{rd-drop}
 
 -- The first of n attributes, and the others.
 pub record Entry (l n low : ℕ) (es bs : List ℕ) : Type 0 where
@@ -120,51 +115,8 @@ past {l} {n} {low} {es} {bs} s name k off q u =
           ∙ rw u refl;
     }
 
--- The entry that `find` found.
-pub record Here (l n name : ℕ) (es bs : List ℕ) (i off : ℕ) : Type 0 where
-  pub few : i < n
-  pub past_is : Past l n name es bs i off
-  pub named : rd (rest (5 * i) es) 0 ≡ name
-  pub is : find name (dec_a (dec l) n es bs) ≡ some (eqb (get_or (rest (5 * i) es) 2 0) 1, dec l (part 0 (rd (rest (5 * i) es) 3) (rest off bs)))
-
-rd-rest : (a : ℕ) (b : List ℕ) → rd (rest a b) 0 ≡ rd b a
-rd-rest a b = let e : a + 0 ≡ a = omega arith in ap (λ (z : List ℕ). rd z 0) (rest-is a b) ∙ rd-drop a b 0 ∙ ap (λ (j : ℕ). rd b j) e
 
 -- A name that is the first.
 pub find_first : {l n low : ℕ} {es bs : List ℕ} → Sound l n low es bs → 0 < n → (name : ℕ) → rd es 0 ≡ name →
     find name (dec_a (dec l) n es bs) ≡ some (eqb (get_or es 2 0) 1, dec l (part 0 (rd es 3) bs))
 find_first {l} {n} {low} {es} {bs} s p name q = ap (λ (xs : Attrs). find name xs) (entry s p).is ∙ rw (eq-eqb name (rd es 0) (sym q)) refl
-
-pub found-at : {l n low : ℕ} {es bs : List ℕ} → Sound l n low es bs → (name : ℕ) (r : Found) → r ≡ found_at 5 n name es → (i off : ℕ) → r ≡ At i off →
-    Here l n name es bs i off
-found-at {l} {n} {low} {es} {bs} s name r q i off e =
-    let f = found-where 5 n name es i off (sym e ∙ q) in
-    let p = past s name i off f.0 f.2 in
-    let named : rd (rest (5 * i) es) 0 ≡ name = rd-rest (5 * i) es ∙ f.3 in
-    record {
-      few = f.1;
-      past_is = p;
-      named = named;
-      is = p.later name (omega arith) ∙ find_first p.sound (omega (arith, f.1)) name named;
-    }
-
-pub found-not : {l n low : ℕ} {es bs : List ℕ} → Sound l n low es bs → (name : ℕ) (r : Found) → r ≡ found_at 5 n name es → r ≡ Nothing →
-    find name (dec_a (dec l) n es bs) ≡ none
-found-not {l} {n} {low} {es} {bs} s name r q e =
-    let k = below 5 n name es in
-    let p = past s name k (used 5 k es) refl refl in
-    p.later name (omega arith) ∙ go p (dec_lt k n)
-  where
-    go : (p : Past l n name es bs (below 5 n name es) (used 5 (below 5 n name es) es)) → Dec (below 5 n name es < n) →
-        find name (dec_a (dec l) (n - below 5 n name es) (rest (5 * below 5 n name es) es) (rest (used 5 (below 5 n name es) es) bs)) ≡ none
-    go p (no h) =
-        ap (λ (xs : Attrs). find name xs)
-        (attrs-none (dec l) (n - below 5 n name es) (rest (5 * below 5 n name es) es) (rest (used 5 (below 5 n name es) es) bs) (omega arith))
-    go p (yes h) =
-        let t = entry p.sound (omega arith) in
-        let u : rd (rest (5 * below 5 n name es) es) 0 ≡ name →
-        ⊥ = (λ z. found_none 5 n name es (sym e ∙ q) h (sym (rd-rest (5 * below 5 n name es) es) ∙ z)) in
-        let a = p.above h in
-        let b : name < rd (rest (5 * below 5 n name es) es) 0 = omega arith in
-        ap (λ (xs : Attrs). find name xs) t.is
-        ∙ rw (ne_eqb name (rd (rest (5 * below 5 n name es) es) 0) (λ z. u (sym z))) (find-under t.more name (omega arith))

@@ -8,13 +8,13 @@ use Rattle.validator.proofs.is_subtype.is_subtype_under.Goals as goal
 pub returns-in_default : goal.returns-in_default
 returns-in_default c =
     let args = c.args in
-    let by-mode-none = mode-none args.mode c.from_number.result c.from_number.ensures c.in_default.is in
+    let by-mode-none = mode-none args.mode c.try_from.result c.try_from.ensures c.in_default.is in
     subtype-mode (as_limits args.limits) c.requires.fair args.mode args.schema.now args.t0.now args.t1.now by-mode-none
 
 pub returns-in_default-check : goal.returns-in_default-check
 returns-in_default-check c =
     let args = c.args in
-    let by-mode-known = mode-known args.mode c.from_number.result c.from_number.ensures c.in-Of.m c.in-Of.is in
+    let by-mode-known = mode-known args.mode c.try_from.result c.try_from.ensures c.in-Ok.m c.in-Ok.is in
     let by-checked-missing = checked-missing args.limits args.schema.now args.check c.requires.own_check c.requires.fair c.in_default-check.field-0
     c.in_default-check.is in
     subtype-schema (as_limits args.limits) c.requires.fair args.mode args.schema.now args.t0.now args.t1.now _ by-mode-known by-checked-missing
@@ -22,7 +22,7 @@ returns-in_default-check c =
 pub returns-then-not-whole_type : goal.returns-then-not-whole_type
 returns-then-not-whole_type c =
     let args = c.args in
-    let by-mode-known = mode-known args.mode c.from_number.result c.from_number.ensures c.in-Of.m c.in-Of.is in
+    let by-mode-known = mode-known args.mode c.try_from.result c.try_from.ensures c.in-Ok.m c.in-Ok.is in
     let by-checked-there = checked-there args.limits args.schema.now args.check c.requires.own_check c.in-Whole.field-0
     c.in-Whole.is in
     let by-type-missing = type-missing (as_limits args.limits) args.t0.now c.whole_type.result c.whole_type.ensures
@@ -33,7 +33,7 @@ returns-then-not-whole_type c =
 pub returns-then-not-whole_type-2 : goal.returns-then-not-whole_type-2
 returns-then-not-whole_type-2 c =
     let args = c.args in
-    let by-mode-known = mode-known args.mode c.from_number.result c.from_number.ensures c.in-Of.m c.in-Of.is in
+    let by-mode-known = mode-known args.mode c.try_from.result c.try_from.ensures c.in-Ok.m c.in-Ok.is in
     let by-checked-there = checked-there args.limits args.schema.now args.check c.requires.own_check c.in-Whole.field-0
     c.in-Whole.is in
     let by-type-there = type-there (as_limits args.limits) args.t0.now c.whole_type.result c.whole_type.ensures
@@ -55,7 +55,7 @@ is_subtype-requires c =
 pub returns : goal.returns
 returns c =
     let args = c.args in
-    let by-mode-known = mode-known args.mode c.from_number.result c.from_number.ensures c.in-Of.m c.in-Of.is in
+    let by-mode-known = mode-known args.mode c.try_from.result c.try_from.ensures c.in-Ok.m c.in-Ok.is in
     let by-checked-there = checked-there args.limits args.schema.now args.check c.requires.own_check c.in-Whole.field-0
     c.in-Whole.is in
     let by-type-there = type-there (as_limits args.limits) args.t0.now c.whole_type.result c.whole_type.ensures
