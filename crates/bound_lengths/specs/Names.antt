@@ -1,17 +1,7 @@
--- Lists of ascending names, two bytes each, and their union. Assumes nothing: these are definitions.
-use Rattle.std.specs.Prelude.{ℕ, ◌*◌, ◌/◌, ◌+◌, ◌<◌, ◌≤◌, ◌≡◌, min, List, [], ◌∷◌, Option, Some, None, true, cond, eqb, length}
+-- The union of two lists of ascending names, two bytes each. Assumes nothing: these are definitions.
+use Rattle.std.specs.Prelude.{ℕ, ◌+◌, ◌<◌, ◌≤◌, ◌≡◌, min, List, [], ◌∷◌, Option, Some, None, cond, eqb, length}
 use Rattle.cedar.specs.Bound.{union}
-use Rattle.forms.specs.TypeBytes.{names_up, names_by}
-
--- The names that bytes say.
-abbrev pub names_in : List ℕ → List ℕ
-names_in b = names_by 2 (length b / 2) b
-
--- They ascend from some name on, with no byte over.
-pub record Ascending (b : List ℕ) : Type 0 where
-  pub low : ℕ
-  pub even : length b ≡ 2 * (length b / 2)
-  pub up : names_up (length b / 2) low b ≡ true
+use Rattle.forms.specs.Names.{names_in, Ascending}
 
 -- The lesser of two names, or the one that is there.
 abbrev pub least : Option ℕ → Option ℕ → Option ℕ

@@ -1,7 +1,8 @@
 // Lists of ascending names, two bytes each, and the union of two, name by name.
 ghost use Rattle.std.specs.Prelude.{◌≡◌, ◌+◌, ◌*◌, ◌<◌, ◌≤◌, length, slice_get, IfSome};
 ghost use Rattle.cedar.specs.Bound.{union};
-ghost use Rattle.bound_lengths.specs.Names.{names_in, least, without, Ascending, Merged};
+ghost use Rattle.bound_lengths.specs.Names.{least, without, Merged};
+ghost use Rattle.forms.specs.Names.{names_in, Ascending};
 
 use forms::numbers::u16_at;
 use forms::widths::Width;

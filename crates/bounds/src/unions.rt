@@ -3,7 +3,7 @@ ghost use Rattle.std.specs.Prelude.{◌≤◌, length};
 ghost use Rattle.cedar.specs.Bytes.{enc_names};
 ghost use Rattle.cedar.specs.Bound.{union};
 ghost use Rattle.writing.specs.Written.{Written};
-ghost use Rattle.bound_lengths.specs.Names.{names_in, Ascending};
+ghost use Rattle.forms.specs.Names.{names_in, Ascending};
 
 use bound_lengths::names::Union;
 use forms::widths::Width;

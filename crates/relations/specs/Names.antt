@@ -1,13 +1,7 @@
 -- Lists of names in the borrow checker's terms. Assumes nothing: these are definitions.
-use Rattle.std.specs.Prelude.{ℕ, ◌+◌, ◌*◌, ◌/◌, ◌≤◌, true, List, ◌≡◌, length}
+use Rattle.std.specs.Prelude.{ℕ, ◌+◌, ◌*◌, ◌≤◌, true, List, ◌≡◌, length}
 use Rattle.forms.specs.Parts.{rest, rd}
 use Rattle.forms.specs.TypeBytes.{names_up, names_by}
-
--- Whole names, which ascend strictly from some name on.
-pub record Ascending (b : List ℕ) : Type 0 where
-  pub low : ℕ
-  pub sized : length b ≡ 2 * (length b / 2)
-  pub up : names_up (length b / 2) low b ≡ true
 
 -- An entity form: at least one name, as many as it says, which ascend.
 pub record EntityForm (b : List ℕ) : Type 0 where

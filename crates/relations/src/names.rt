@@ -2,8 +2,7 @@
 ghost use Rattle.std.specs.Prelude.{◌≡◌};
 ghost use Rattle.cedar.specs.Disjoint.{shares};
 ghost use Rattle.cedar.specs.Subtype.{subset};
-ghost use Rattle.forms.specs.Names.{names_in};
-ghost use Rattle.relations.specs.Names.{Ascending};
+ghost use Rattle.forms.specs.Names.{names_in, Ascending};
 
 use forms::numbers::u16_at;
 use forms::widths::Width;

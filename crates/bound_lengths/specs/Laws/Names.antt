@@ -17,7 +17,8 @@ use Rattle.forms.specs.Laws.Parts.{and_r, length_rest}
 use Rattle.forms.specs.Laws.Types.{names-up}
 use Rattle.forms.specs.Laws.Names.{names-first, names-none, names-length}
 use Rattle.cedar.specs.Bytes.{enc_names}
-use Rattle.bound_lengths.specs.Names.{names_in, least, without, Ascending, Next}
+use Rattle.bound_lengths.specs.Names.{least, without, Next}
+use Rattle.forms.specs.Names.{names_in, Ascending}
 
 some-none : {n : ℕ} → ◌≡◌ {A = Option ℕ} (Some n) None → ⊥
 some-none e = let z : ◌≡◌ {A = ℕ} 0 1 = cc in omega arith

@@ -115,7 +115,6 @@ past {l} {n} {low} {es} {bs} s name k off q u =
           ∙ rw u refl;
     }
 
-
 -- A name that is the first.
 pub find_first : {l n low : ℕ} {es bs : List ℕ} → Sound l n low es bs → 0 < n → (name : ℕ) → rd es 0 ≡ name →
     find name (dec_a (dec l) n es bs) ≡ some (eqb (get_or es 2 0) 1, dec l (part 0 (rd es 3) bs))

@@ -1,5 +1,5 @@
 -- The mode that a number means. Assumes nothing.
-use Rattle.std.specs.Prelude.{◌≡◌, refl, ℕ, Result, Ok, Err}
+use Rattle.std.specs.Prelude.{◌≡◌, ℕ, Result, Ok, Err}
 use Rattle.std.proofs.Common.{ap, sym, ◌∙◌}
 use Rattle.std.proofs.Math.Option.{none, some}
 use Rattle.cedar.specs.Calls.{mode_of}

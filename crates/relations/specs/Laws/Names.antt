@@ -7,14 +7,14 @@ use Rattle.cedar.specs.Disjoint.{shares}
 use Rattle.cedar.specs.Subtype.{subset}
 use Rattle.forms.specs.Parts.{part, rest, rd}
 use Rattle.forms.specs.TypeBytes.{names_up, names_by}
-use Rattle.forms.specs.Names.{names_in}
+use Rattle.forms.specs.Names.{names_in, Ascending}
 use Rattle.forms.specs.Laws.Parts.{and_l, and_r, length_part, length_rest, rd-take}
 use Rattle.forms.specs.Laws.Sure.{rd-drop}
 use Rattle.forms.specs.Laws.Types.{names-up}
 use Rattle.forms.specs.Laws.Names.{names-first}
 use Rattle.forms.specs.Laws.NamesIn.{names-over}
 use Rattle.forms.specs.Laws.Views.{IsEntity}
-use Rattle.relations.specs.Names.{Ascending, EntityForm, entity_names}
+use Rattle.relations.specs.Names.{EntityForm, entity_names}
 
 -- A name below all names of a list is not in it.
 pub mem_below : (x low : ℕ) (ks : List ℕ) → Ascend low ks → x < low → mem x ks ≡ false
@@ -48,13 +48,13 @@ pub record FirstName (b : List ℕ) : Type 0 where
 
 pub first-name : {b : List ℕ} → Ascending b → (length b ≡ 0 → ⊥) → FirstName b
 first-name {b} s p =
-    let n : length (rest 2 b) / 2 ≡ length b / 2 - 1 = omega (arith, length_rest 2 b, s.sized) in
-    let some : 0 < length b / 2 = omega (arith, s.sized, pos b p) in
+    let n : length (rest 2 b) / 2 ≡ length b / 2 - 1 = omega (arith, length_rest 2 b, s.even) in
+    let some : 0 < length b / 2 = omega (arith, s.even, pos b p) in
     let u = (names-up (length b / 2) s.low b some s.up).1 in
     record {
       is = names-first 2 (length b / 2) b some ∙ ap (λ (k : ℕ). rd b 0 ∷ names_by 2 k (rest 2 b)) (sym n);
       above = rw n (names-ascend (length b / 2 - 1) (suc (rd b 0)) (rest 2 b) (rw (add-one (rd b 0)) at u));
-      more = record { low = rd b 0 + 1; sized = omega (arith, length_rest 2 b, s.sized); up = rw n u };
+      more = record { low = rd b 0 + 1; even = omega (arith, length_rest 2 b, s.even); up = rw n u };
       some = omega (arith, some);
     }
   where
@@ -71,7 +71,7 @@ module _ {b : List ℕ} (s : EntityForm b) where
   count = omega (arith, length_rest 3 b, s.sized)
 
   pub entity-names : Ascending (rest 3 b)
-  entity-names = record { low = 0; sized = omega (arith, length_rest 3 b, s.sized); up = rw count at s.up }
+  entity-names = record { low = 0; even = omega (arith, length_rest 3 b, s.sized); up = rw count at s.up }
 
   pub names-of-entity : entity_names b ≡ names_in (rest 3 b)
   names-of-entity = ap (λ (n : ℕ). names_by 2 n (rest 3 b)) count
@@ -86,7 +86,7 @@ module _ (a : ℕ) (b : List ℕ) (h : a + 2 ≤ length b) where
   one-name =
       record {
         low = 0;
-        sized = omega (arith, length_part a (a + 2) b h);
+        even = omega (arith, length_part a (a + 2) b h);
         up = rw one (rw (le-leb 0 (rd (part a (a + 2) b) 0) (omega arith)) refl);
       }
 

@@ -2,7 +2,7 @@ use Rattle.std.proofs.Common.{◌+◌, length}
 use Rattle.cedar.specs.Bytes.{enc_names}
 use Rattle.cedar.specs.Bound.{union}
 use Rattle.writing.specs.Laws.Writing.{Writing}
-use Rattle.bound_lengths.specs.Names.{names_in, Ascending}
+use Rattle.forms.specs.Names.{names_in, Ascending}
 use Rattle.bounds.proofs.unions.write_union.Given as goal
 
 abbrev pub invariant-loop-name : goal.invariant-loop-name

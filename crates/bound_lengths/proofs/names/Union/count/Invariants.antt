@@ -1,6 +1,6 @@
 use Rattle.std.proofs.Common.{◌≡◌, ◌+◌, ◌*◌, ◌≤◌, length}
 use Rattle.cedar.specs.Bound.{union}
-use Rattle.bound_lengths.specs.Names.{names_in, Ascending}
+use Rattle.forms.specs.Names.{names_in, Ascending}
 use Rattle.bound_lengths.proofs.names.Union.count.Given as goal
 
 abbrev pub invariant-loop-self : goal.invariant-loop-self
