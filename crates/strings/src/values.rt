@@ -24,10 +24,8 @@ fn bodies_are_textual(v: &[u8], at: usize, width: usize, levels: usize, outermos
     let end = start + width * n;
     let mut e = &v[start..end];
     let mut b = &v[end..];
-    if outermost {
-        if plain(b, 0, b.len()) {
-            return true;
-        }
+    if outermost && plain(b, 0, b.len()) {
+        return true;
     }
     let mut left = n;
     while 0 < left {
@@ -48,14 +46,12 @@ fn body_is_textual(v: &[u8], levels: usize) -> bool
     requires { whole_v levels v.now ≡ true }
     ensures { result ≡ textual (dec_v levels v.now) }
 {
-    let k = v[0];
-    if k < ValueKind::STRING {
-        return true;
+    match ValueKind::of(v) {
+        ValueKind::String | ValueKind::Set | ValueKind::Record | ValueKind::Call => {
+            strings_are_text(v, levels, false)
+        }
+        _ => true,
     }
-    if k == ValueKind::UID {
-        return true;
-    }
-    strings_are_text(v, levels, false)
 }
 
 // Whether every string of v is text, a whole value form of at most so many levels, the outermost one or a body.
@@ -64,18 +60,17 @@ fn strings_are_text(v: &[u8], levels: usize, outermost: bool) -> bool
     requires { whole_v levels v.now ≡ true }
     ensures { result ≡ textual (dec_v levels v.now) }
 {
-    let k = v[0];
-    match k {
-        ValueKind::STRING => is_text(&v[ValueOffset::STRING..]),
-        ValueKind::SET => {
+    match ValueKind::of(v) {
+        ValueKind::String => is_text(&v[ValueOffset::STRING..]),
+        ValueKind::Set => {
             let at = ValueOffset::SET_COUNT;
             bodies_are_textual(&v[0..], at, Width::MEMBER, levels - 1, outermost)
         }
-        ValueKind::RECORD => {
+        ValueKind::Record => {
             let at = ValueOffset::RECORD_COUNT;
             bodies_are_textual(&v[0..], at, Width::PAIR, levels - 1, outermost)
         }
-        ValueKind::CALL => {
+        ValueKind::Call => {
             let at = ValueOffset::CALL_COUNT;
             bodies_are_textual(&v[0..], at, Width::MEMBER, levels - 1, outermost)
         }

@@ -1,4 +1,4 @@
-use mathlib.Core.Path.{ap, ◌∙◌}
+use mathlib.Core.Path.{◌≡◌, ap, sym, ◌∙◌}
 use mathlib.Core.List.{List}
 use Prim.Native.Nat.{◌-◌}
 use native.Mathlib.Omega.{arith}
@@ -8,7 +8,12 @@ use Rattle.forms.specs.ValueBytes.{pair_row, whole_v}
 use Rattle.forms.specs.Laws.Parts.{rest_0}
 use Rattle.forms.specs.Laws.Bodies.{table-bodies}
 use Rattle.forms.specs.Laws.Ahead.{table-count, table-entries, ahead-room, ahead-inside, ahead-body}
-use Rattle.forms.specs.Laws.Values.{value-level, value-first, value_as}
+use Rattle.forms.specs.Kinds.{value_kind_number}
+use Rattle.forms.specs.Parts.{kind}
+use Rattle.forms.specs.declared.kinds.ValueKind.{ValueKind}
+use Rattle.forms.specs.declared.kinds.ValueKind.TheVariants as is_value
+use Rattle.forms.specs.Laws.Kinds.{value-kind-differs}
+use Rattle.forms.specs.Laws.Values.{value-level, value-first, value_as, value-kind}
 use Rattle.strings.specs.Bodies.{bodies_at}
 use Rattle.strings.specs.Laws.Bodies.{bodies-start, bodies-end, bodies-stop, bodies-again}
 use Rattle.strings.specs.Laws.Bodies.{string-room, textual-string, textual-set, textual-record, textual-call, textual-other}
@@ -127,75 +132,80 @@ bodies_are_textual-loop-left-preserved t c =
 pub bodies_are_textual-returns : goal.bodies_are_textual-returns
 bodies_are_textual-returns t c = bodies-end c.loop-left.invariant (omega arith)
 
-pub body_is_textual-bounds-v-0 : goal.body_is_textual-bounds-v-0
-body_is_textual-bounds-v-0 t c = omega (arith, value-first c.args.levels c.args.v.now c.requires)
+pub body_is_textual-of-requires : goal.body_is_textual-of-requires
+body_is_textual-of-requires t c =
+    (value-first c.args.levels c.args.v.now c.requires, omega (arith, value-kind c.args.levels c.args.v.now c.requires))
 
-pub body_is_textual-returns-then-k-lt-STRING : goal.body_is_textual-returns-then-k-lt-STRING
-body_is_textual-returns-then-k-lt-STRING t c =
-    textual-other c.args.levels c.args.v.now c.requires (omega arith) (omega arith) (omega arith) (omega arith)
-
-pub body_is_textual-returns-then-k-eq-UID : goal.body_is_textual-returns-then-k-eq-UID
-body_is_textual-returns-then-k-eq-UID t c =
-    textual-other c.args.levels c.args.v.now c.requires (omega arith) (omega arith) (omega arith) (omega arith)
+pub body_is_textual-returns-in_default : goal.body_is_textual-returns-in_default
+body_is_textual-returns-in_default t c =
+    let d = c.in_default in
+    let differs : (k : ValueKind) → (c.of.result ≡ k → ⊥) → kind c.args.v.now ≡ value_kind_number k → ⊥ =
+    λ k h e. value-kind-differs c.of.result k h (c.of.ensures ∙ e) in
+    textual-other c.args.levels c.args.v.now c.requires (differs is_value.String d.not-String) (differs is_value.Set d.not-Set)
+    (differs is_value.Record d.not-Record) (differs is_value.Call d.not-Call)
 
 pub body_is_textual-strings_are_text-requires : goal.body_is_textual-strings_are_text-requires
 body_is_textual-strings_are_text-requires t c = (omega arith, c.requires)
 
-pub body_is_textual-returns : goal.body_is_textual-returns
-body_is_textual-returns t c = c.strings_are_text.ensures
+pub body_is_textual-returns-in-String : goal.body_is_textual-returns-in-String
+body_is_textual-returns-in-String t c = c.strings_are_text.ensures
 
-pub strings_are_text-bounds-v-0 : goal.strings_are_text-bounds-v-0
-strings_are_text-bounds-v-0 t c = omega (arith, value-first c.args.levels c.args.v.now c.requires)
+pub strings_are_text-of-requires : goal.strings_are_text-of-requires
+strings_are_text-of-requires t c =
+    (value-first c.args.levels c.args.v.now c.requires, omega (arith, value-kind c.args.levels c.args.v.now c.requires))
 
 pub strings_are_text-slice_bounds-is_text-count : goal.strings_are_text-slice_bounds-is_text-count
-strings_are_text-slice_bounds-is_text-count t c = omega (arith, string-room c.args.levels c.args.v.now c.requires c.in-3.is)
+strings_are_text-slice_bounds-is_text-count t c = omega (arith, string-room c.args.levels c.args.v.now c.requires (sym c.in-String.ensures))
 
 pub strings_are_text-slice_bounds-is_text-start : goal.strings_are_text-slice_bounds-is_text-start
-strings_are_text-slice_bounds-is_text-start t c = omega (arith, string-room c.args.levels c.args.v.now c.requires c.in-3.is)
+strings_are_text-slice_bounds-is_text-start t c = omega (arith, string-room c.args.levels c.args.v.now c.requires (sym c.in-String.ensures))
 
 pub strings_are_text-overflow_sub-levels : goal.strings_are_text-overflow_sub-levels
 strings_are_text-overflow_sub-levels t c = omega (arith, value-level c.args.levels c.args.v.now c.requires)
 
 pub strings_are_text-bodies_are_textual-requires : goal.strings_are_text-bodies_are_textual-requires
 strings_are_text-bodies_are_textual-requires t c =
-    let whole = value_as c.args.levels c.args.v.now c.requires 5 c.in-5.is in
+    let whole = value_as c.args.levels c.args.v.now c.requires 5 (sym c.in-Set.ensures) in
     (omega (arith, value-level c.args.levels c.args.v.now c.requires), (omega arith, rw (rest_0 c.args.v.now) (whole)))
 
-pub strings_are_text-overflow_sub-levels-in-6 : goal.strings_are_text-overflow_sub-levels-in-6
-strings_are_text-overflow_sub-levels-in-6 t c = omega (arith, value-level c.args.levels c.args.v.now c.requires)
+pub strings_are_text-overflow_sub-levels-in-Record : goal.strings_are_text-overflow_sub-levels-in-Record
+strings_are_text-overflow_sub-levels-in-Record t c = omega (arith, value-level c.args.levels c.args.v.now c.requires)
 
-pub strings_are_text-bodies_are_textual-requires-in-6 : goal.strings_are_text-bodies_are_textual-requires-in-6
-strings_are_text-bodies_are_textual-requires-in-6 t c =
-    let whole = value_as c.args.levels c.args.v.now c.requires 6 c.in-6.is in
+pub strings_are_text-bodies_are_textual-requires-in-Record : goal.strings_are_text-bodies_are_textual-requires-in-Record
+strings_are_text-bodies_are_textual-requires-in-Record t c =
+    let whole = value_as c.args.levels c.args.v.now c.requires 6 (sym c.in-Record.ensures) in
     (omega (arith, value-level c.args.levels c.args.v.now c.requires), (omega arith, rw (rest_0 c.args.v.now) (table-bodies pair_row (whole_v (c.args.levels - 1)) 0 1 c.args.v.now whole)))
 
-pub strings_are_text-overflow_sub-levels-in-7 : goal.strings_are_text-overflow_sub-levels-in-7
-strings_are_text-overflow_sub-levels-in-7 t c = omega (arith, value-level c.args.levels c.args.v.now c.requires)
+pub strings_are_text-overflow_sub-levels-in-Call : goal.strings_are_text-overflow_sub-levels-in-Call
+strings_are_text-overflow_sub-levels-in-Call t c = omega (arith, value-level c.args.levels c.args.v.now c.requires)
 
-pub strings_are_text-bodies_are_textual-requires-in-7 : goal.strings_are_text-bodies_are_textual-requires-in-7
-strings_are_text-bodies_are_textual-requires-in-7 t c =
-    let whole = value_as c.args.levels c.args.v.now c.requires 7 c.in-7.is in
+pub strings_are_text-bodies_are_textual-requires-in-Call : goal.strings_are_text-bodies_are_textual-requires-in-Call
+strings_are_text-bodies_are_textual-requires-in-Call t c =
+    let whole = value_as c.args.levels c.args.v.now c.requires 7 (sym c.in-Call.ensures) in
     (omega (arith, value-level c.args.levels c.args.v.now c.requires), (omega arith, rw (rest_0 c.args.v.now) (whole)))
 
-pub strings_are_text-returns-in-3 : goal.strings_are_text-returns-in-3
-strings_are_text-returns-in-3 t c = c.is_text.ensures ∙ textual-string c.args.levels c.args.v.now c.requires c.in-3.is
+pub strings_are_text-returns-in-String : goal.strings_are_text-returns-in-String
+strings_are_text-returns-in-String t c = c.is_text.ensures ∙ textual-string c.args.levels c.args.v.now c.requires (sym c.in-String.ensures)
 
-pub strings_are_text-returns-in-5 : goal.strings_are_text-returns-in-5
-strings_are_text-returns-in-5 t c =
+pub strings_are_text-returns-in-Set : goal.strings_are_text-returns-in-Set
+strings_are_text-returns-in-Set t c =
     c.bodies_are_textual.ensures ∙ ap (λ (b : List ℕ). textual_values (bodies_at (c.args.levels - 1) 2 1 b)) (rest_0 c.args.v.now) ∙
-    textual-set c.args.levels c.args.v.now c.requires c.in-5.is
+    textual-set c.args.levels c.args.v.now c.requires (sym c.in-Set.ensures)
 
-pub strings_are_text-returns-in-6 : goal.strings_are_text-returns-in-6
-strings_are_text-returns-in-6 t c =
-    c.bodies_are_textual-in-6.ensures ∙ ap (λ (b : List ℕ). textual_values (bodies_at (c.args.levels - 1) 4 1 b)) (rest_0 c.args.v.now) ∙
-    textual-record c.args.levels c.args.v.now c.requires c.in-6.is
+pub strings_are_text-returns-in-Record : goal.strings_are_text-returns-in-Record
+strings_are_text-returns-in-Record t c =
+    c.bodies_are_textual-in-Record.ensures ∙ ap (λ (b : List ℕ). textual_values (bodies_at (c.args.levels - 1) 4 1 b)) (rest_0 c.args.v.now) ∙
+    textual-record c.args.levels c.args.v.now c.requires (sym c.in-Record.ensures)
 
-pub strings_are_text-returns-in-7 : goal.strings_are_text-returns-in-7
-strings_are_text-returns-in-7 t c =
-    c.bodies_are_textual-in-7.ensures ∙ ap (λ (b : List ℕ). textual_values (bodies_at (c.args.levels - 1) 2 3 b)) (rest_0 c.args.v.now) ∙
-    textual-call c.args.levels c.args.v.now c.requires c.in-7.is
+pub strings_are_text-returns-in-Call : goal.strings_are_text-returns-in-Call
+strings_are_text-returns-in-Call t c =
+    c.bodies_are_textual-in-Call.ensures ∙ ap (λ (b : List ℕ). textual_values (bodies_at (c.args.levels - 1) 2 3 b)) (rest_0 c.args.v.now) ∙
+    textual-call c.args.levels c.args.v.now c.requires (sym c.in-Call.ensures)
 
 pub strings_are_text-returns-in_default : goal.strings_are_text-returns-in_default
 strings_are_text-returns-in_default t c =
-    let m = c.in_default.in_default-own.rest in
-    textual-other c.args.levels c.args.v.now c.requires m.0.0.0.1 m.0.0.1 m.0.1 m.1
+    let others = c.in_default in
+    let differs : (k : ValueKind) → (c.of.result ≡ k → ⊥) → kind c.args.v.now ≡ value_kind_number k → ⊥ =
+    λ k h e. value-kind-differs c.of.result k h (c.of.ensures ∙ e) in
+    textual-other c.args.levels c.args.v.now c.requires (differs is_value.String others.not-String) (differs is_value.Set others.not-Set)
+    (differs is_value.Record others.not-Record) (differs is_value.Call others.not-Call)
