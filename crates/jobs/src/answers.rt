@@ -1,6 +1,8 @@
 // The answer to a question of a job, by the entry that it is put to.
 ghost use Rattle.std.specs.Prelude.{◌≡◌, length};
-ghost use Rattle.cedar.specs.Lines.{job_room, outcome_of};
+ghost use Rattle.cedar.specs.Calls.{fold_call, lookup_call, names_call};
+ghost use Rattle.cedar.specs.Lines.{job_room, job_work, outcome_of};
+ghost use Rattle.forms.specs.Limits.{as_limits};
 ghost use Rattle.schemas.specs.SchemaBytes.{limits_of, checked};
 ghost use Rattle.validator.specs.Answers.{Answered};
 ghost use Rattle.jobs.specs.JobBytes.{job_limits};
@@ -26,6 +28,33 @@ use validator::typecheck_restricted_expr::{
     typecheck_restricted_expr_checked, typecheck_restricted_expr_exact_checked,
 };
 
+// The lookup of an attribute, with a job's workspace. An array is cleared where its function begins, so each stands in one of its own.
+fn lookup(schema: &[u8], check: Checked, attribute: u16, t: &[u8], res: &mut [u8]) -> Answer
+    requires { check ≡ checked (limits_of check) schema.now }
+    ensures { Answered (lookup_call (as_limits (limits_of check)) schema.now attribute t.now (length res.old) job_work) res.old res.new result }
+{
+    let mut work = [0u8; Buffers::WORK];
+    lookup_attribute_type_checked(schema, check, attribute, t, res, &mut work)
+}
+
+// The names of a type's attributes.
+fn names(schema: &[u8], check: Checked, t: &[u8], res: &mut [u8]) -> Answer
+    requires { check ≡ checked (limits_of check) schema.now }
+    ensures { Answered (names_call (as_limits (limits_of check)) schema.now t.now (length res.old) job_work) res.old res.new result }
+{
+    let mut work = [0u8; Buffers::WORK];
+    all_attributes_checked(schema, check, t, res, &mut work)
+}
+
+// The fold of a list.
+fn fold(schema: &[u8], check: Checked, mode: u8, list: &[u8], res: &mut [u8]) -> Answer
+    requires { check ≡ checked (limits_of check) schema.now }
+    ensures { Answered (fold_call (as_limits (limits_of check)) mode schema.now list.now (length res.old) job_work) res.old res.new result }
+{
+    let mut work = [0u8; Buffers::WORK];
+    reduce_to_least_upper_bound_checked(schema, check, mode, list, res, &mut work)
+}
+
 // A question put to its entry, under the check of the schema.
 pub fn ask(q: Question<'_>, schema: &[u8], check: Checked, res: &mut [u8]) -> Answer
     requires own_check { check ≡ checked (limits_of check) schema.now }
@@ -45,22 +74,13 @@ pub fn ask(q: Question<'_>, schema: &[u8], check: Checked, res: &mut [u8]) -> An
         Operation::Subtype => is_subtype_checked(schema, check, mode, first, second),
         Operation::Bound => least_upper_bound_checked(schema, check, mode, first, second, res),
         Operation::Disjoint => are_types_disjoint(limits, first, second),
-        Operation::Lookup => {
-            let work = &mut [0u8; Buffers::WORK];
-            lookup_attribute_type_checked(schema, check, attribute, first, res, work)
-        }
+        Operation::Lookup => lookup(schema, check, attribute, first, res),
         Operation::MayHave => may_have_attr_checked(schema, check, attribute, first),
-        Operation::Names => {
-            let work = &mut [0u8; Buffers::WORK];
-            all_attributes_checked(schema, check, first, res, work)
-        }
+        Operation::Names => names(schema, check, first, res),
         Operation::Consistent => is_consistent_with(limits, first, second),
         Operation::Convert => convert(limits, first, res),
         Operation::Conforms => typecheck_restricted_expr_checked(schema, check, first, second),
-        Operation::Fold => {
-            let work = &mut [0u8; Buffers::WORK];
-            reduce_to_least_upper_bound_checked(schema, check, mode, first, res, work)
-        }
+        Operation::Fold => fold(schema, check, mode, first, res),
         Operation::Literal => euid_literal_checked(schema, check, first, res),
         Operation::Full => typecheck_restricted_expr_exact_checked(schema, check, first, second),
     }

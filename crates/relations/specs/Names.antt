@@ -1,5 +1,5 @@
 -- Lists of names in the borrow checker's terms. Assumes nothing: these are definitions.
-use Rattle.std.specs.Prelude.{ℕ, ◌+◌, ◌*◌, ◌≤◌, true, List, ◌≡◌, length}
+use Rattle.std.specs.Prelude.{ℕ, ◌+◌, ◌*◌, ◌≤◌, true, List, [], ◌∷◌, cond, ltb, ◌≡◌, length}
 use Rattle.forms.specs.Parts.{rest, rd}
 use Rattle.forms.specs.TypeBytes.{names_up, names_by}
 
@@ -12,3 +12,8 @@ pub record EntityForm (b : List ℕ) : Type 0 where
 -- The names of an entity form.
 abbrev pub entity_names : List ℕ → List ℕ
 entity_names b = names_by 2 (rd b 1) (rest 3 b)
+
+-- The names from the first on that is not below a name.
+unfoldable pub from_name : ℕ → List ℕ → List ℕ
+from_name name [] = []
+from_name name (n ∷ ns) = cond (ltb n name) (from_name name ns) (n ∷ ns)

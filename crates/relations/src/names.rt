@@ -3,12 +3,29 @@ ghost use Rattle.std.specs.Prelude.{◌≡◌};
 ghost use Rattle.cedar.specs.Disjoint.{shares};
 ghost use Rattle.cedar.specs.Subtype.{subset};
 ghost use Rattle.forms.specs.Names.{names_in, Ascending};
+ghost use Rattle.relations.specs.Names.{from_name};
 
 use forms::numbers::u16_at;
 use forms::widths::Width;
 
-// Whether two lists have a name in common: the search stops at the first. The lower of two names is passed for good, so each list is gone
-// through once.
+// The names of a list from the first on that is not below a name.
+fn from_name(names: &[u8], name: usize) -> &[u8]
+    requires { Ascending names.now }
+    ensures is { names_in result.now ≡ from_name name (names_in names.now) }
+    ensures up { Ascending result.now }
+{
+    let mut b = names;
+    while !b.is_empty() {
+        if name <= u16_at(b, 0) {
+            return b;
+        }
+        b = &b[Width::NAME..];
+    }
+    b
+}
+
+// Whether two lists have a name in common: the search stops at the first. What is below a name of the first list is passed for good, so each
+// list is gone through once.
 pub fn names_share(first: &[u8], second: &[u8]) -> bool
     requires first_up { Ascending first.now }
     requires second_up { Ascending second.now }
@@ -17,19 +34,15 @@ pub fn names_share(first: &[u8], second: &[u8]) -> bool
     let mut a = first;
     let mut b = second;
     while !a.is_empty() {
+        let x = u16_at(a, 0);
+        b = from_name(b, x);
         if b.is_empty() {
             return false;
         }
-        let x = u16_at(a, 0);
-        let y = u16_at(b, 0);
-        if x == y {
+        if x == u16_at(b, 0) {
             return true;
         }
-        if y < x {
-            b = &b[Width::NAME..];
-        } else {
-            a = &a[Width::NAME..];
-        }
+        a = &a[Width::NAME..];
     }
     false
 }

@@ -101,9 +101,11 @@ pub(crate) fn plain(b: &[u8], at: usize, n: usize) -> bool
     requires { at + n ≤ length b.now }
     ensures { result ≡ true → Plain b.now at n }
 {
-    let mut all = 0;
-    for x in &b[at..at + n] {
-        all |= x;
+    let mut all: u8 = 0;
+    let mut j = 0;
+    while j < n {
+        all |= b[at + j];
+        j += 1;
     }
     all < 128
 }

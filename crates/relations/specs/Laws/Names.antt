@@ -1,6 +1,7 @@
 -- Walks over two ascending lists of names. Assumes nothing.
 use Rattle.std.specs.Prelude.{◌≡◌, refl, List, [], ◌∷◌, Bool, true, false, ◌||◌, ◌&&◌, ℕ, zero, suc, ◌+◌, ◌-◌, ◌/◌, ◌≤◌, ◌<◌, leb, length, drop}
-use Rattle.std.proofs.Common.{ap, ap₂, sym, ◌∙◌, add-one, arith, leb-true, le-leb, eq-eqb, ne_eqb}
+use Rattle.std.proofs.Common.{ap, ap₂, sym, ◌∙◌, add-one, arith, leb-true, le-leb, lt-ltb, le-ltb, eq-eqb, ne_eqb}
+use Rattle.std.proofs.Math.Decide.{dec_lt}
 use Rattle.cedar.specs.Types.{mem}
 use Rattle.cedar.specs.Laws.Shape.{Ascend}
 use Rattle.cedar.specs.Disjoint.{shares}
@@ -14,7 +15,7 @@ use Rattle.forms.specs.Laws.Types.{names-up}
 use Rattle.forms.specs.Laws.Names.{names-first}
 use Rattle.forms.specs.Laws.NamesIn.{names-over}
 use Rattle.forms.specs.Laws.Views.{IsEntity}
-use Rattle.relations.specs.Names.{EntityForm, entity_names}
+use Rattle.relations.specs.Names.{EntityForm, entity_names, from_name}
 
 -- A name below all names of a list is not in it.
 pub mem_below : (x low : ℕ) (ks : List ℕ) → Ascend low ks → x < low → mem x ks ≡ false
@@ -136,6 +137,47 @@ shares-nothing : (ns : List ℕ) → shares ns [] ≡ false
 shares-nothing [] = refl
 shares-nothing (n ∷ ns) = shares-nothing ns
 
+-- What is below the first name of the first list is passed.
+shares-from : (low : ℕ) (ns ks : List ℕ) → Ascend low ns → shares ns (from_name low ks) ≡ shares ns ks
+unfolding from_name
+shares-from low ns [] a = refl
+shares-from low ns (k ∷ ks) a = go (dec_lt k low) (shares-from low ns ks a)
+  where
+    go : Dec (k < low) → shares ns (from_name low ks) ≡ shares ns ks → shares ns (from_name low (k ∷ ks)) ≡ shares ns (k ∷ ks)
+    go (yes h) e = rw (lt-ltb k low h) (e ∙ sym (shares-skip k low ns ks a h))
+    go (no h) e = rw (le-ltb k low (omega arith)) refl
+
+from-above : (low : ℕ) (ks : List ℕ) (k : ℕ) (others : List ℕ) → from_name low ks ≡ k ∷ others → low ≤ k
+unfolding from_name
+from-above low [] k others e = absurd (let z : ◌≡◌ {A = ℕ} 0 1 = cc in omega arith)
+from-above low (n ∷ ks) k others e = go (dec_lt n low) (from-above low ks k others)
+  where
+    go : Dec (n < low) → (from_name low ks ≡ k ∷ others → low ≤ k) → low ≤ k
+    go (yes h) f = f (rw (lt-ltb n low h) at e)
+    go (no h) f =
+        let g : n ∷ ks ≡ k ∷ others = rw (le-ltb n low (omega arith)) at e in
+        let z : n ≡ k = cc in
+        omega arith
+
+-- The loop of `from_name`.
+module _ (name : ℕ) (ns b : List ℕ) (s : Ascending b) (i : from_name name (names_in ns) ≡ from_name name (names_in b)) where
+  pub from-end : length b ≡ 0 → names_in b ≡ from_name name (names_in ns)
+  unfolding from_name
+  from-end h = let e = names-over b (omega (arith, h)) in e ∙ sym (i ∙ ap (from_name name) e)
+
+  module _ (p : length b ≡ 0 → ⊥) where
+    pub from-here : name ≤ rd b 0 → names_in b ≡ from_name name (names_in ns)
+    unfolding from_name
+    from-here h =
+        let u = first-name s p in
+        sym (i ∙ ap (from_name name) u.is ∙ rw (le-ltb (rd b 0) name h) (sym u.is))
+
+    pub from-again : rd b 0 < name → from_name name (names_in ns) ≡ from_name name (names_in (rest 2 b))
+    unfolding from_name
+    from-again h =
+        let u = first-name s p in
+        i ∙ ap (from_name name) u.is ∙ rw (lt-ltb (rd b 0) name h) refl
+
 -- The search for a name in common.
 module _ {ns ks a b : List ℕ} (i : Walk shares ns ks a b) where
   pub share-end : length a ≡ 0 → false ≡ shares (names_in ns) (names_in ks)
@@ -144,20 +186,37 @@ module _ {ns ks a b : List ℕ} (i : Walk shares ns ks a b) where
   pub share-over : length b ≡ 0 → false ≡ shares (names_in ns) (names_in ks)
   share-over h = sym (i.same ∙ ap (shares (names_in a)) (names-over b (omega (arith, h))) ∙ shares-nothing (names_in a))
 
-  module _ (p : length a ≡ 0 → ⊥) (q : length b ≡ 0 → ⊥) where
-    pub share-hit : rd a 0 ≡ rd b 0 → true ≡ shares (names_in ns) (names_in ks)
-    share-hit h = sym (i.same ∙ both i p q ∙ rw (eq-eqb (rd a 0) (rd b 0) h) refl)
-
-    pub share-past : rd a 0 < rd b 0 → Walk shares ns ks (rest 2 a) b
-    share-past h =
+  module _ (p : length a ≡ 0 → ⊥) where
+    pub share-from : (c : List ℕ) → Ascending c → names_in c ≡ from_name (rd a 0) (names_in b) → Walk shares ns ks a c
+    share-from c s e =
         let u = first-name i.first p in
         record {
-          first = u.more;
-          second = i.second;
+          first = i.first;
+          second = s;
           same =
-              i.same ∙ ap (λ (z : List ℕ). shares z (names_in b)) u.is ∙
-              ap (λ (z : Bool). z || shares (names_in (rest 2 a)) (names_in b)) (above-all i p q h);
+              i.same ∙ ap (λ (z : List ℕ). shares z (names_in b)) u.is
+              ∙ sym (shares-from (rd a 0) (rd a 0 ∷ names_in (rest 2 a)) (names_in b) (omega arith, u.above))
+              ∙ ap₂ shares (sym u.is) (sym e);
         }
+
+    module _ (q : length b ≡ 0 → ⊥) where
+      pub share-hit : rd a 0 ≡ rd b 0 → true ≡ shares (names_in ns) (names_in ks)
+      share-hit h = sym (i.same ∙ both i p q ∙ rw (eq-eqb (rd a 0) (rd b 0) h) refl)
+
+      pub share-past : rd a 0 < rd b 0 → Walk shares ns ks (rest 2 a) b
+      share-past h =
+          let u = first-name i.first p in
+          record {
+            first = u.more;
+            second = i.second;
+            same =
+                i.same ∙ ap (λ (z : List ℕ). shares z (names_in b)) u.is ∙
+                ap (λ (z : Bool). z || shares (names_in (rest 2 a)) (names_in b)) (above-all i p q h);
+          }
+
+-- The first name of what is left is not below the name.
+pub from-first : (name : ℕ) (b c : List ℕ) → names_in c ≡ from_name name (names_in b) → Ascending c → (length c ≡ 0 → ⊥) → name ≤ rd c 0
+from-first name b c e s p = let u = first-name s p in from-above name (names_in b) (rd c 0) (names_in (rest 2 c)) (sym e ∙ u.is)
 
 -- Each name of the first list is looked for in the second.
 module _ {ns ks a b : List ℕ} (i : Walk subset ns ks a b) where
