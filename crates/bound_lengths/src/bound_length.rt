@@ -18,7 +18,6 @@ use crate::pairs::{dropped, kept, names_allowed};
 use crate::sets::set_length;
 use forms::kinds::Kind;
 use forms::modes::Mode;
-use forms::names::same_names;
 use forms::numbers::u16_at;
 use forms::offsets::Offset;
 use forms::refusals::Refusal;
@@ -47,9 +46,7 @@ fn entities_length(mode: Mode, a: &[u8], b: &[u8]) -> Result<usize, Refusal>
     if mode.is_permissive() {
         return Ok(longer(Width::NAME * names.count(), Offset::ENTITY_NAMES));
     }
-    let n = u16_at(a, Offset::ENTITY_COUNT);
-    let m = u16_at(b, Offset::ENTITY_COUNT);
-    if same_names(Width::NAME, names.left, n, names.right, m) {
+    if names.left == names.right {
         return Ok(capped(a.len()));
     }
     Err(Refusal::EntityType)

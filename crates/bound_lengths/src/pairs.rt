@@ -4,32 +4,19 @@ ghost use Rattle.cedar.specs.Result.{ok, err};
 ghost use Rattle.cedar.specs.Types.{is_permissive, eq_names, eq_flag};
 ghost use Rattle.forms.specs.Modes.{as_mode};
 ghost use Rattle.forms.specs.Refusals.{number_of};
-ghost use Rattle.forms.specs.TypeBytes.{names_by};
+ghost use Rattle.forms.specs.AttributeRows.{names_of};
 ghost use Rattle.writing.specs.FormLengths.{seen};
 
 use forms::modes::Mode;
-use forms::names::same_names;
 use forms::refusals::Refusal;
-use forms::rows::Rows;
-use forms::widths::Width;
+use forms::rows::Attributes;
 
 // Strict, two attribute lists need the same names.
-pub fn names_allowed(
-    mode: Mode,
-    rows: Rows<{ Width::ATTRIBUTE }>,
-    others: Rows<{ Width::ATTRIBUTE }>,
-) -> bool
+pub fn names_allowed(mode: Mode, rows: Attributes, others: Attributes) -> bool
     requires { (length rows.entries.now ≡ 5 * rows.left) × (length others.entries.now ≡ 5 * others.left) }
-    ensures { result ≡ (is_permissive (as_mode mode) || eq_names (names_by 5 rows.entry.left rows.entry.entries.now) (names_by 5 others.entry.left others.entry.entries.now)) }
+    ensures { result ≡ (is_permissive (as_mode mode) || eq_names (names_of rows.entry) (names_of others.entry)) }
 {
-    mode.is_permissive()
-        || same_names(
-            Width::ATTRIBUTE,
-            rows.entries,
-            rows.left,
-            others.entries,
-            others.left,
-        )
+    mode.is_permissive() || rows.same_names(others)
 }
 
 // No attribute: permissive it is dropped, strict that is a refusal.

@@ -191,7 +191,7 @@ fn write_attributes(
     let mut at = 0;
     let mut pos = Width::ATTRIBUTE * n;
     while let Some(row) = rows.next() {
-        let name = u16_at(row.head, 0);
+        let name = row.name();
         let Some(other) = kept_with(mode, row, others.find(name), levels) else {
             continue;
         };

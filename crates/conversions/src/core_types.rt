@@ -128,7 +128,7 @@ fn write_core_attributes(
     let mut pos = Width::ATTRIBUTE * rows.left;
     while let Some(row) = rows.next() {
         let n = write_core(row.body, levels, &mut out[pos..]);
-        put_attribute(&mut out[at..], u16_at(row.head, 0), row.is_required(), n);
+        put_attribute(&mut out[at..], row.name(), row.is_required(), n);
         at += Width::ATTRIBUTE;
         pos += n;
     }

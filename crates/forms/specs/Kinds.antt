@@ -4,6 +4,10 @@ use Rattle.forms.specs.declared.kinds.Kind.{Kind}
 use Rattle.forms.specs.declared.kinds.Kind.TheVariants as kind
 use Rattle.forms.specs.declared.kinds.ValueKind.{ValueKind}
 use Rattle.forms.specs.declared.kinds.ValueKind.TheVariants as value_kind
+use Rattle.forms.specs.declared.kinds.EntityKind.{EntityKind}
+use Rattle.forms.specs.declared.kinds.EntityKind.TheVariants as entity_kind
+use Rattle.forms.specs.declared.kinds.ArgumentKind.{ArgumentKind}
+use Rattle.forms.specs.declared.kinds.ArgumentKind.TheVariants as argument_kind
 use Rattle.forms.specs.declared.kinds.UnknownKind.{UnknownKind}
 
 -- Kinds of types: 0 to 12.
@@ -46,3 +50,29 @@ value_kind_number value_kind.Call = 7
 -- The kind of this number, or none has it.
 abbrev pub IsValueKind : ℕ → Result ValueKind UnknownKind → Type 0
 IsValueKind number r = MatchResult r (λ k. value_kind_number k ≡ number) (λ e. last_value_kind < number)
+
+-- Kinds of entity types: 0 and 1.
+abbrev pub last_entity_kind : ℕ
+last_entity_kind = 1
+
+abbrev pub entity_kind_number : EntityKind → ℕ
+entity_kind_number entity_kind.Standard = 0
+entity_kind_number entity_kind.Enumerated = 1
+
+-- The kind of this number, or none has it.
+abbrev pub IsEntityKind : ℕ → Result EntityKind UnknownKind → Type 0
+IsEntityKind number r = MatchResult r (λ k. entity_kind_number k ≡ number) (λ e. last_entity_kind < number)
+
+-- Kinds of arguments: 1 to 4.
+abbrev pub last_argument_kind : ℕ
+last_argument_kind = 4
+
+abbrev pub argument_kind_number : ArgumentKind → ℕ
+argument_kind_number argument_kind.Bool = 1
+argument_kind_number argument_kind.Long = 2
+argument_kind_number argument_kind.String = 3
+argument_kind_number argument_kind.Extension = 4
+
+-- The kind of this number, or none has it.
+abbrev pub IsArgumentKind : ℕ → Result ArgumentKind UnknownKind → Type 0
+IsArgumentKind number r = MatchResult r (λ k. argument_kind_number k ≡ number) (λ e. 0 < number → last_argument_kind < number)

@@ -21,6 +21,7 @@ pub mod Values
 pub mod ValueTwin
 pub mod Lists
 pub mod Names
+pub mod SameForm
 pub mod Tables
 pub mod Codes
 pub mod Modes

@@ -2,7 +2,7 @@
 ghost use Rattle.std.specs.Prelude.{◌≡◌, ◌<◌, ◌≤◌, length};
 ghost use Rattle.cedar.specs.Bytes.{flag};
 ghost use Rattle.forms.specs.Parts.{kind};
-ghost use Rattle.forms.specs.Kinds.{last_kind, kind_number, IsKind, last_value_kind, value_kind_number, IsValueKind};
+ghost use Rattle.forms.specs.Kinds.{last_kind, kind_number, IsKind, last_value_kind, value_kind_number, IsValueKind, IsEntityKind, IsArgumentKind};
 
 // Kinds of type forms, in the order of their numbers.
 #[derive(Clone, Copy, Debug, PartialEq, Eq)]
@@ -61,31 +61,11 @@ impl Kind {
         Kind::try_from(t[0]).unwrap()
     }
 
-    pub const NEVER: u8 = 0;
-
-    pub const TRUE: u8 = 1;
-
-    pub const FALSE: u8 = 2;
-
-    pub const BOOL: u8 = 3;
-
     pub const LONG: u8 = 4;
-
-    pub const STRING: u8 = 5;
-
-    pub const ANY_SET: u8 = 6;
 
     pub const SET: u8 = 7;
 
-    pub const RECORD: u8 = 8;
-
-    pub const ANY_ENTITY: u8 = 9;
-
     pub const ENTITY: u8 = 10;
-
-    pub const ACTION: u8 = 11;
-
-    pub const EXTENSION: u8 = 12;
 }
 
 // Kinds of value forms, in the order of their numbers.
@@ -131,45 +111,53 @@ impl ValueKind {
         ValueKind::try_from(v[0]).unwrap()
     }
 
-    pub const FALSE: u8 = 0;
-
-    pub const TRUE: u8 = 1;
-
-    pub const LONG: u8 = 2;
-
-    pub const STRING: u8 = 3;
-
     pub const UID: u8 = 4;
-
-    pub const SET: u8 = 5;
-
-    pub const RECORD: u8 = 6;
-
-    pub const CALL: u8 = 7;
 }
 
-// Kinds of entity entries in a schema.
-#[derive(Clone, Copy)]
-pub struct EntityKind;
-
-impl EntityKind {
-    pub const STANDARD: u8 = 0;
-
-    pub const ENUMERATED: u8 = 1;
+// Kinds of entity types in a schema, in the order of their numbers.
+#[derive(Clone, Copy, Debug, PartialEq, Eq)]
+pub enum EntityKind {
+    Standard,
+    Enumerated,
 }
 
-// Kinds of a function's arguments.
-#[derive(Clone, Copy)]
-pub struct ArgumentKind;
+impl TryFrom<u8> for EntityKind {
+    type Error = UnknownKind;
 
-impl ArgumentKind {
-    pub const BOOL: u8 = 1;
+    ghost try_from_gives = { IsEntityKind };
 
-    pub const LONG: u8 = 2;
+    fn try_from(number: u8) -> Result<EntityKind, UnknownKind> {
+        match number {
+            0 => Ok(EntityKind::Standard),
+            1 => Ok(EntityKind::Enumerated),
+            _ => Err(UnknownKind),
+        }
+    }
+}
 
-    pub const STRING: u8 = 3;
+// Kinds of a function's arguments, in the order of their numbers.
+#[derive(Clone, Copy, Debug, PartialEq, Eq)]
+pub enum ArgumentKind {
+    Bool,
+    Long,
+    String,
+    Extension,
+}
 
-    pub const EXTENSION: u8 = 4;
+impl TryFrom<u8> for ArgumentKind {
+    type Error = UnknownKind;
+
+    ghost try_from_gives = { IsArgumentKind };
+
+    fn try_from(number: u8) -> Result<ArgumentKind, UnknownKind> {
+        match number {
+            1 => Ok(ArgumentKind::Bool),
+            2 => Ok(ArgumentKind::Long),
+            3 => Ok(ArgumentKind::String),
+            4 => Ok(ArgumentKind::Extension),
+            _ => Err(UnknownKind),
+        }
+    }
 }
 
 // The open byte of a record form.

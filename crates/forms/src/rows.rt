@@ -1,7 +1,9 @@
 // Tables of rows: entries of one width, whose last two bytes are the lengths of their bodies, and all bodies behind one another.
 ghost use Rattle.std.specs.Prelude.{◌≡◌, ◌+◌, ◌*◌, ◌<◌, ◌≤◌, eqb, length, get_or};
+ghost use Rattle.cedar.specs.Types.{eq_names};
 ghost use Rattle.forms.specs.Parts.{part, rest, rd};
 ghost use Rattle.forms.specs.Search.{Laid};
+ghost use Rattle.forms.specs.TypeBytes.{names_by};
 ghost use Rattle.forms.specs.RowBytes.{Within, TakenWithin, Taken, Skipped, Sought};
 
 use crate::kinds::Requirement;
@@ -38,7 +40,7 @@ impl<'a> Row<'a> {
     #[inline]
     pub fn name(self) -> usize
         requires { 2 ≤ length self.head.now }
-        ensures { result ≡ rd self.entry.head.now 0 }
+        ensures { (result ≡ rd self.entry.head.now 0) × (result < 65536) }
     {
         u16_at(self.head, 0)
     }
@@ -157,5 +159,23 @@ impl<'a, const WIDTH: usize> Rows<'a, WIDTH> {
             return Some(row);
         }
         None
+    }
+    // Whether its rows have the same names as another table's, one by one.
+    pub fn same_names(self, other: Rows<WIDTH>) -> bool
+        requires wide { 2 ≤ WIDTH }
+        requires sized { (WIDTH * self.left ≤ length self.entries.now) × (WIDTH * other.left ≤ length other.entries.now) }
+        ensures { result ≡ eq_names (names_by WIDTH self.entry.left self.entry.entries.now) (names_by WIDTH other.entry.left other.entry.entries.now) }
+    {
+        if self.left != other.left {
+            return false;
+        }
+        let mut others = other.entries;
+        for entry in self.entries[..WIDTH * self.left].chunks_exact(WIDTH) {
+            if u16_at(entry, 0) != u16_at(others, 0) {
+                return false;
+            }
+            others = &others[WIDTH..];
+        }
+        true
     }
 }

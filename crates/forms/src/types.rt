@@ -77,7 +77,7 @@ fn attributes_within(t: &[u8], at: usize, levels: usize) -> bool
         if !type_within(attribute.body, levels) {
             return false;
         }
-        low = u16_at(attribute.head, 0) + 1;
+        low = attribute.name() + 1;
     }
     ahead.bodies.is_empty()
 }

@@ -53,7 +53,7 @@ fn pairs_within(v: &[u8], levels: usize) -> bool
         if !value_within(pair.body, levels) {
             return false;
         }
-        low = u16_at(pair.head, 0) + 1;
+        low = pair.name() + 1;
     }
     ahead.bodies.is_empty()
 }

@@ -4,14 +4,9 @@ use Rattle.cedar.specs.Bytes.{enc_names}
 use Rattle.cedar.specs.Limits.{most_bytes}
 use Rattle.cedar.specs.Result.{Result, ok, err, step_too_long}
 use Rattle.forms.specs.Search.{Laid}
-use Rattle.forms.specs.TypeBytes.{names_by}
 use Rattle.forms.specs.declared.rows.Rows.{Rows}
 use Rattle.writing.specs.Written.{Written}
 use Rattle.lookups.specs.declared.lookup_attribute_type.TooLong.{TooLong}
-
--- The names of attributes.
-abbrev pub names_of : Rows 5 → List ℕ
-names_of x = names_by 5 x.left x.entries.now
 
 -- Attributes, and room for their names.
 pub record Entered (x : Rows 5) (kept : List ℕ) : Type 0 where

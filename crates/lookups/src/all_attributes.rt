@@ -9,7 +9,8 @@ ghost use Rattle.forms.specs.Names.{names_in};
 ghost use Rattle.schemas.specs.Schema.{limits_in, said_by};
 ghost use Rattle.writing.specs.Written.{Written};
 ghost use Rattle.lookups.specs.Lookup.{Asked};
-ghost use Rattle.lookups.specs.Names.{names_of, Entered, NamedBy};
+ghost use Rattle.forms.specs.AttributeRows.{names_of};
+ghost use Rattle.lookups.specs.Names.{Entered, NamedBy};
 
 use crate::lookup_attribute_type::{TooLong, look_up_types};
 use attributes::entity_attribute::entity_attributes;
@@ -29,7 +30,7 @@ fn write_names(attributes: Rows<{ Width::ATTRIBUTE }>, kept: &mut [u8]) -> usize
     let mut rows = attributes;
     let mut bytes = 0;
     while let Some(row) = rows.next() {
-        put_name(&mut kept[bytes..], u16_at(row.head, 0));
+        put_name(&mut kept[bytes..], row.name());
         bytes += Width::NAME;
     }
     bytes
@@ -51,7 +52,7 @@ fn kept_names(
     let mut rows = attributes;
     let mut bytes = 0;
     while let Some(row) = rows.next() {
-        let name = u16_at(row.head, 0);
+        let name = row.name();
         let Some(_) = look_up_types(schema, types, name, last, work)? else {
             continue;
         };

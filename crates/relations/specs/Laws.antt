@@ -1,7 +1,6 @@
 -- Laws of the definitions, for the proofs here and in the crates above.
 pub mod Names
 pub mod Disjoint
-pub mod Equality
 pub mod Under
 pub mod SameForm
 pub mod Walks

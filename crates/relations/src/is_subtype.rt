@@ -11,10 +11,8 @@ ghost use Rattle.relations.specs.Under.{kind_under, record_under};
 use crate::names::names_subset;
 use forms::kinds::{Kind, Openness};
 use forms::modes::Mode;
-use forms::names::same_names;
 use forms::offsets::Offset;
 use forms::rows::{Attributes, Rows};
-use forms::widths::Width;
 
 // Whether a type of kind j stands under one of another kind k.
 fn kind_under(mode: Mode, j: Kind, k: Kind) -> bool
@@ -71,23 +69,9 @@ fn record_under(
     ensures { result ≡ record_under (as_mode mode) lower_open (names_of lower.entry) upper_open (names_of upper.entry) }
 {
     if upper_open {
-        return mode.is_permissive()
-            || same_names(
-                Width::ATTRIBUTE,
-                lower.entries,
-                lower.left,
-                upper.entries,
-                upper.left,
-            );
+        return mode.is_permissive() || lower.same_names(upper);
     }
-    !lower_open
-        && same_names(
-            Width::ATTRIBUTE,
-            lower.entries,
-            lower.left,
-            upper.entries,
-            upper.left,
-        )
+    !lower_open && lower.same_names(upper)
 }
 
 // Whether each attribute of the upper list is found in the lower one, there with a flag and a type below. Both ascend, so a search goes on

@@ -1,7 +1,7 @@
 -- Lists of ascending names: their union by one merge, and names that rows begin with. Assumes nothing.
-use Rattle.std.specs.Prelude.{◌≡◌, refl, List, [], ◌∷◌, Bool, true, false, ℕ, zero, suc, ◌+◌, ◌*◌, ◌/◌, ◌-◌, ◌≤◌, ◌<◌, Option, Some, None, IfSome, cond, min, eqb, leb, length, slice_get}
+use Rattle.std.specs.Prelude.{◌≡◌, refl, List, [], ◌∷◌, Bool, true, false, ℕ, zero, suc, ◌+◌, ◌*◌, ◌/◌, ◌-◌, ◌≤◌, ◌<◌, Option, Some, None, IfSome, cond, min, eqb, length, slice_get}
 use Rattle.std.specs.Option.{option_eq}
-use Rattle.std.proofs.Common.{ap, sym, ◌∙◌, add-one, arith, lt-ltb, le-ltb, eq-eqb, ne_eqb}
+use Rattle.std.proofs.Common.{ap, sym, ◌∙◌, arith, lt-ltb, le-ltb, eq-eqb, ne_eqb}
 use Rattle.std.proofs.Math.Decide.{dec_lt}
 use Rattle.cedar.specs.Types.{Mode, is_permissive, ent, eq_names}
 use Rattle.cedar.specs.TypeForm.{enc}
@@ -13,10 +13,13 @@ use Rattle.cedar.specs.Bound.{insert, union}
 use Rattle.cedar.proofs.Laws.Names.{union-ascend}
 use Rattle.forms.specs.Parts.{rest, rd}
 use Rattle.forms.specs.TypeBytes.{names_up, names_by}
-use Rattle.forms.specs.Laws.Parts.{and_r, length_rest}
+use Rattle.forms.specs.Laws.Parts.{length_rest, rest-is}
 use Rattle.forms.specs.Laws.Types.{names-up}
-use Rattle.forms.specs.Laws.Names.{names-first, names-none, names-length}
-use Rattle.cedar.specs.Bytes.{enc_names}
+use Rattle.forms.specs.Laws.Names.{names-first, names-none, names-length, names-ascend}
+use Rattle.cedar.specs.Bytes.{Bytes, enc_names}
+use Rattle.cedar.proofs.Laws.Bytes.{Bytes-drop}
+use Rattle.forms.specs.Laws.SameForm.{same-bytes, same-names}
+use lib.Pointwise.{pointwise}
 use Rattle.bound_lengths.specs.Names.{least, without, Next}
 use Rattle.forms.specs.Names.{names_in, Ascending}
 
@@ -143,13 +146,6 @@ past-some [] n h = absurd (let z : ◌≡◌ {A = ℕ} 0 1 = cc in omega arith)
 past-some (m ∷ ms) n h = omega arith
 
 -- Names in bytes.
-up-ascend : (n low : ℕ) (b : List ℕ) → names_up n low b ≡ true → Ascend low (names_by 2 n b)
-unfolding names_up names_by
-up-ascend zero low b h = tt
-up-ascend (suc n) low b h =
-    let u = names-up (suc n) low b (omega arith) (unfold names_up in h) in
-    (u.0, rw (add-one (rd b 0)) at (up-ascend n (rd b 0 + 1) (rest 2 b) (and_r (leb low (rd b 0)) (names_up n (rd b 0 + 1) (rest 2 b)) h)))
-
 pub not-none : (b : List ℕ) → eqb (length b) 0 ≡ false → 0 < length b
 not-none b h = go (length b) h
   where
@@ -165,7 +161,7 @@ no-names b h = names-none 2 (length b / 2) b (omega arith)
 
 module _ {b : List ℕ} (s : Ascending b) where
   pub ascends : Ascend s.low (names_in b)
-  ascends = up-ascend (length b / 2) s.low b s.up
+  ascends = names-ascend (length b / 2) s.low b s.up
 
   pub names-twice : length b ≡ 2 * length (names_in b)
   names-twice = omega (arith, s.even, names-length 2 (length b / 2) b)
@@ -216,6 +212,18 @@ module _ (b : List ℕ) (h : (length b ≡ 3 + 2 * rd b 1) × (names_up (rd b 1)
 
   pub entity-names : names_in (rest 3 b) ≡ names_by 2 (rd b 1) (rest 3 b)
   entity-names = rw count-is refl
+
+  pub entity-up : Ascending (rest 3 b)
+  entity-up = record { low = 0; even = omega (arith, length_rest 3 b, h.0); up = rw (← count-is) at h.1 }
+
+-- The names of two entity forms are equal where their bytes are.
+pub entities-same : (a b : List ℕ) → Bytes a → Bytes b → (length a ≡ 3 + 2 * rd a 1) × (names_up (rd a 1) 0 (rest 3 a) ≡ true) →
+    (length b ≡ 3 + 2 * rd b 1) × (names_up (rd b 1) 0 (rest 3 b) ≡ true) →
+    pointwise eqb (rest 3 a) (rest 3 b) ≡ eq_names (names_by 2 (rd a 1) (rest 3 a)) (names_by 2 (rd b 1) (rest 3 b))
+entities-same a b x y g h =
+    same-bytes (rest 3 a) (rest 3 b)
+    ∙ same-names (rest 3 a) (rest 3 b) (rw (rest-is 3 a) (Bytes-drop 3 a x)) (rw (rest-is 3 b) (Bytes-drop 3 b y)) (entity-up a g) (entity-up b h)
+    ∙ rw (entity-names a g, entity-names b h) refl
 
 -- The bound of two entity forms.
 module _ (M : Mode) (ns ks : List ℕ) where

@@ -1,5 +1,5 @@
 -- Laws of parts and of tests. Assumes nothing.
-use Rattle.std.specs.Prelude.{◌≡◌, refl, List, [], ◌∷◌, Bool, true, false, ◌&&◌, ℕ, zero, suc, ◌+◌, ◌-◌, ◌≤◌, ◌<◌, length, take, drop}
+use Rattle.std.specs.Prelude.{◌≡◌, refl, List, [], ◌∷◌, ◌++◌, Bool, true, false, ◌&&◌, ℕ, zero, suc, ◌+◌, ◌-◌, ◌≤◌, ◌<◌, length, take, drop}
 use Rattle.std.proofs.Common.{sym, ◌∙◌, arith, length-take, length-drop, take_all, drop-drop, get_or-take}
 use Rattle.std.proofs.Math.Seq.{take-nil}
 use Rattle.forms.specs.Parts.{part, rest, rd}
@@ -69,3 +69,18 @@ rd-take k l i h = rw (get_or-take k l i 0 (omega arith), get_or-take k l (i + 1)
 pub pos : (n : ℕ) → (n ≡ 0 → ⊥) → 0 < n
 pos zero h = absurd (h refl)
 pos (suc n) h = omega arith
+
+-- What is appended to a part.
+pub rd-append : (a b : List ℕ) → 2 ≤ length a → rd (a ++ b) 0 ≡ rd a 0
+rd-append [] b h = absurd (omega arith)
+rd-append (x ∷ []) b h = absurd (omega arith)
+rd-append (x ∷ y ∷ a) b h = refl
+
+pub rest-append : (w : ℕ) (a b : List ℕ) → length a ≡ w → rest w (a ++ b) ≡ b
+rest-append w a b h = rest-is w (a ++ b) ∙ go w a h
+  where
+    go : (k : ℕ) (c : List ℕ) → length c ≡ k → drop k (c ++ b) ≡ b
+    go zero [] e = refl
+    go zero (x ∷ c) e = absurd (omega arith)
+    go (suc k) [] e = absurd (omega arith)
+    go (suc k) (x ∷ c) e = go k c (omega arith)

@@ -27,7 +27,8 @@ use Rattle.attributes.specs.EntityAttribute.{HasRows}
 use Rattle.writing.specs.Written.{Written}
 use Rattle.writing.specs.Laws.Writing.{back, length_over, over-at, Writing, writing-at, writing_start, writing-end, writing_more}
 use Rattle.lookups.specs.declared.lookup_attribute_type.TooLong.{TooLong}
-use Rattle.lookups.specs.Names.{names_of, Entered, NamedBy}
+use Rattle.forms.specs.AttributeRows.{names_of}
+use Rattle.lookups.specs.Names.{Entered, NamedBy}
 
 pub entry-bytes : (x : Rows 5) → length (enc_names (names_of x)) ≡ 2 * x.left
 entry-bytes x = length-enc_names (names_of x) ∙ ap (λ (k : ℕ). 2 * k) (names-length 5 x.left x.entries.now)

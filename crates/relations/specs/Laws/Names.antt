@@ -1,6 +1,6 @@
 -- Walks over two ascending lists of names. Assumes nothing.
-use Rattle.std.specs.Prelude.{◌≡◌, refl, List, [], ◌∷◌, Bool, true, false, ◌||◌, ◌&&◌, ℕ, zero, suc, ◌+◌, ◌-◌, ◌/◌, ◌≤◌, ◌<◌, leb, length, drop}
-use Rattle.std.proofs.Common.{ap, ap₂, sym, ◌∙◌, add-one, arith, leb-true, le-leb, lt-ltb, le-ltb, eq-eqb, ne_eqb}
+use Rattle.std.specs.Prelude.{◌≡◌, refl, List, [], ◌∷◌, Bool, true, false, ◌||◌, ◌&&◌, ℕ, suc, ◌+◌, ◌-◌, ◌/◌, ◌≤◌, ◌<◌, length, drop}
+use Rattle.std.proofs.Common.{ap, ap₂, sym, ◌∙◌, add-one, arith, le-leb, lt-ltb, le-ltb, eq-eqb, ne_eqb}
 use Rattle.std.proofs.Math.Decide.{dec_lt}
 use Rattle.cedar.specs.Types.{mem}
 use Rattle.cedar.specs.Laws.Shape.{Ascend}
@@ -9,10 +9,10 @@ use Rattle.cedar.specs.Subtype.{subset}
 use Rattle.forms.specs.Parts.{part, rest, rd}
 use Rattle.forms.specs.TypeBytes.{names_up, names_by}
 use Rattle.forms.specs.Names.{names_in, Ascending}
-use Rattle.forms.specs.Laws.Parts.{and_l, and_r, length_part, length_rest, rd-take}
+use Rattle.forms.specs.Laws.Parts.{length_part, length_rest, rd-take}
 use Rattle.forms.specs.Laws.Sure.{rd-drop}
 use Rattle.forms.specs.Laws.Types.{names-up}
-use Rattle.forms.specs.Laws.Names.{names-first}
+use Rattle.forms.specs.Laws.Names.{names-first, names-ascend}
 use Rattle.forms.specs.Laws.NamesIn.{names-over}
 use Rattle.forms.specs.Laws.Views.{IsEntity}
 use Rattle.relations.specs.Names.{EntityForm, entity_names, from_name}
@@ -32,13 +32,6 @@ pub subset-skip : (y low : ℕ) (ns ks : List ℕ) → Ascend low ns → y < low
 subset-skip y low [] ks a h = refl
 subset-skip y low (n ∷ ns) ks a h =
     rw (ne_eqb n y (λ e. let p = a.0 in omega arith)) (ap (λ (z : Bool). mem n ks && z) (subset-skip y (suc n) ns ks a.1 (let p = a.0 in omega arith)))
-
--- Names of bytes.
-pub names-ascend : (n low : ℕ) (b : List ℕ) → names_up n low b ≡ true → Ascend low (names_by 2 n b)
-unfolding names_up names_by
-names-ascend zero low b h = tt
-names-ascend (suc n) low b h =
-    (leb-true low (rd b 0) (and_l (leb low (rd b 0)) _ h), names-ascend n (suc (rd b 0)) (rest 2 b) (rw (add-one (rd b 0)) at (and_r (leb low (rd b 0)) _ h)))
 
 -- The first name of a list, and the others, which are above it.
 pub record FirstName (b : List ℕ) : Type 0 where

@@ -55,13 +55,13 @@ attributes_length-pair_length-requires t c =
     let took = c.in-Some.ensures in
     let passed = c.find-other.ensures.passed in (
       omega (arith, c.decreases),
-      (walk-whole walk took c.name.ensures passed, walk-other walk took c.name.ensures passed c.find-other.result c.find-other.ensures.sought),
+      (walk-whole walk took c.name.ensures.0 passed, walk-other walk took c.name.ensures.0 passed c.find-other.result c.find-other.ensures.sought),
     )
 
 pub attributes_length-returns-in_err-n : goal.attributes_length-returns-in_err-n
 attributes_length-returns-in_err-n t c =
     let walk = c.loop-row.invariant.0 in
-    let step = walk_step walk c.in-Some.ensures c.name.ensures c.find-other.ensures.passed c.find-other.result c.find-other.ensures.sought
+    let step = walk_step walk c.in-Some.ensures c.name.ensures.0 c.find-other.ensures.passed c.find-other.result c.find-other.ensures.sought
     (as_mode c.args.mode) in
     let refusal = c.in_err-n.field-0.0 in
     seen-err c.from_residual.result refusal c.from_residual.ensures.1 ∙ pair-not c.loop-row.invariant.1 step (number_of refusal) c.in_err-n.ensures
@@ -69,25 +69,25 @@ attributes_length-returns-in_err-n t c =
 pub attributes_length-overflow_add-sum : goal.attributes_length-overflow_add-sum
 attributes_length-overflow_add-sum t c =
     let walk = c.loop-row.invariant.0 in
-    let step = walk_step walk c.in-Some.ensures c.name.ensures c.find-other.ensures.passed c.find-other.result c.find-other.ensures.sought
+    let step = walk_step walk c.in-Some.ensures c.name.ensures.0 c.find-other.ensures.passed c.find-other.result c.find-other.ensures.sought
     (as_mode c.args.mode) in
     omega (arith, pair-small c.loop-row.invariant.1 step c.in-Some-2.n (rw c.in-Some-2.is at c.in_ok-n.ensures))
 
 pub attributes_length-loop-row-preserved-in-Some-2 : goal.attributes_length-loop-row-preserved-in-Some-2
 attributes_length-loop-row-preserved-in-Some-2 t c =
     let walk = c.loop-row.invariant.0 in
-    let step = walk_step walk c.in-Some.ensures c.name.ensures c.find-other.ensures.passed c.find-other.result c.find-other.ensures.sought
+    let step = walk_step walk c.in-Some.ensures c.name.ensures.0 c.find-other.ensures.passed c.find-other.result c.find-other.ensures.sought
     (as_mode c.args.mode) in (
-      walk_more walk c.in-Some.ensures c.name.ensures c.find-other.ensures.passed,
+      walk_more walk c.in-Some.ensures c.name.ensures.0 c.find-other.ensures.passed,
       pair-more c.loop-row.invariant.1 step c.in-Some-2.n (rw c.in-Some-2.is at c.in_ok-n.ensures) _ c.capped-sum.ensures,
     )
 
 pub attributes_length-loop-row-preserved : goal.attributes_length-loop-row-preserved
 attributes_length-loop-row-preserved t c =
     let walk = c.loop-row.invariant.0 in
-    let step = walk_step walk c.in-Some.ensures c.name.ensures c.find-other.ensures.passed c.find-other.result c.find-other.ensures.sought
+    let step = walk_step walk c.in-Some.ensures c.name.ensures.0 c.find-other.ensures.passed c.find-other.result c.find-other.ensures.sought
     (as_mode c.args.mode) in (
-      walk_more walk c.in-Some.ensures c.name.ensures c.find-other.ensures.passed,
+      walk_more walk c.in-Some.ensures c.name.ensures.0 c.find-other.ensures.passed,
       pair-dropped c.loop-row.invariant.1 step (rw c.in_default-2.is at c.in_ok-n.ensures),
     )
 

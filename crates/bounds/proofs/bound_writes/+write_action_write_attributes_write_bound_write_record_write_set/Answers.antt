@@ -463,42 +463,42 @@ write_attributes-find-requires t c = (lit< tt, laid c.loop-row.invariant.walk.se
 
 pub write_attributes-kept_with-requires-clause-row_whole : goal.write_attributes-kept_with-requires-clause-row_whole
 write_attributes-kept_with-requires-clause-row_whole t c =
-    walk-whole c.loop-row.invariant.walk c.in-Some.ensures c.u16_at-name.ensures.0 c.find.ensures.passed
+    walk-whole c.loop-row.invariant.walk c.in-Some.ensures c.name-name.ensures.0 c.find.ensures.passed
 
 pub write_attributes-kept_with-requires-clause-other_whole : goal.write_attributes-kept_with-requires-clause-other_whole
 write_attributes-kept_with-requires-clause-other_whole t c =
-    walk-other c.loop-row.invariant.walk c.in-Some.ensures c.u16_at-name.ensures.0 c.find.ensures.passed c.find.result c.find.ensures.sought
+    walk-other c.loop-row.invariant.walk c.in-Some.ensures c.name-name.ensures.0 c.find.ensures.passed c.find.result c.find.ensures.sought
 
 pub write_attributes-kept_with-requires-clause-bounded : goal.write_attributes-kept_with-requires-clause-bounded
 write_attributes-kept_with-requires-clause-bounded t c =
-    joining-known c.loop-row.invariant c.in-Some.ensures c.u16_at-name.ensures.0 c.find.ensures.passed c.find.result c.find.ensures.sought
+    joining-known c.loop-row.invariant c.in-Some.ensures c.name-name.ensures.0 c.find.ensures.passed c.find.result c.find.ensures.sought
 
 pub write_attributes-loop-row-preserved-in_default-kept_with : goal.write_attributes-loop-row-preserved-in_default-kept_with
 write_attributes-loop-row-preserved-in_default-kept_with t c =
-    joining-none c.loop-row.invariant c.in-Some.ensures c.u16_at-name.ensures.0 c.find.ensures.passed c.find.result c.find.ensures.sought c.in_default-kept_with.ensures
+    joining-none c.loop-row.invariant c.in-Some.ensures c.name-name.ensures.0 c.find.ensures.passed c.find.result c.find.ensures.sought c.in_default-kept_with.ensures
 
 pub write_attributes-is_required-required-requires : goal.write_attributes-is_required-required-requires
 write_attributes-is_required-required-requires t c =
-    let other-whole = walk-other c.loop-row.invariant.walk c.in-Some.ensures c.u16_at-name.ensures.0 c.find.ensures.passed c.find.result c.find.ensures.sought in
+    let other-whole = walk-other c.loop-row.invariant.walk c.in-Some.ensures c.name-name.ensures.0 c.find.ensures.passed c.find.result c.find.ensures.sought in
     omega (arith, (other-whole c.in-Some-kept_with.other c.in-Some-kept_with.ensures.0).sized)
 
 pub write_attributes-write_bound-len-requires : goal.write_attributes-write_bound-len-requires
 write_attributes-write_bound-len-requires t c =
     let w = c.loop-row.invariant in
-    let row-whole = walk-whole w.walk c.in-Some.ensures c.u16_at-name.ensures.0 c.find.ensures.passed in
-    let other-whole = walk-other w.walk c.in-Some.ensures c.u16_at-name.ensures.0 c.find.ensures.passed c.find.result c.find.ensures.sought in
-    let ready = joining-ready c.loop-row.invariant c.in-Some.ensures c.u16_at-name.ensures.0 c.find.ensures.passed c.find.result c.find.ensures.sought c.in-Some-kept_with.other
+    let row-whole = walk-whole w.walk c.in-Some.ensures c.name-name.ensures.0 c.find.ensures.passed in
+    let other-whole = walk-other w.walk c.in-Some.ensures c.name-name.ensures.0 c.find.ensures.passed c.find.result c.find.ensures.sought in
+    let ready = joining-ready c.loop-row.invariant c.in-Some.ensures c.name-name.ensures.0 c.find.ensures.passed c.find.result c.find.ensures.sought c.in-Some-kept_with.other
     c.in-Some-kept_with.ensures in
     (omega (arith, c.decreases), (row-whole.body, ((other-whole c.in-Some-kept_with.other c.in-Some-kept_with.ensures.0).body, (ready, tt))))
 
 pub write_attributes-put_attribute-requires : goal.write_attributes-put_attribute-requires
 write_attributes-put_attribute-requires t c =
     let wrote = c.write_bound-len in
-    let room = joining-room c.loop-row.invariant c.in-Some.ensures c.u16_at-name.ensures.0 c.find.ensures.passed c.find.result c.find.ensures.sought c.in-Some-kept_with.other
+    let room = joining-room c.loop-row.invariant c.in-Some.ensures c.name-name.ensures.0 c.find.ensures.passed c.find.result c.find.ensures.sought c.in-Some-kept_with.other
     c.in-Some-kept_with.ensures wrote.new.out wrote.result wrote.ensures in
-    let small = joining-small c.loop-row.invariant c.in-Some.ensures c.u16_at-name.ensures.0 c.find.ensures.passed c.find.result c.find.ensures.sought c.in-Some-kept_with.other
+    let small = joining-small c.loop-row.invariant c.in-Some.ensures c.name-name.ensures.0 c.find.ensures.passed c.find.result c.find.ensures.sought c.in-Some-kept_with.other
     c.in-Some-kept_with.ensures wrote.new.out wrote.result wrote.ensures in
-    (room, (c.u16_at-name.ensures.1, omega (arith, small)))
+    (room, (c.name-name.ensures.1, omega (arith, small)))
 
 pub write_attributes-loop-row-preserved : goal.write_attributes-loop-row-preserved
 write_attributes-loop-row-preserved t c =
@@ -507,7 +507,7 @@ write_attributes-loop-row-preserved t c =
       | write_attributes-then-is_required w ↦ w.required-is ∙ w.is_required-required.ensures ∙ rw (sym c.is_required.ensures ∙ w.if-is_required.true) refl
       | write_attributes-else-is_required w ↦ w.required-is ∙ w.if-is_required.false ∙ rw (sym c.is_required.ensures ∙ w.if-is_required.false) refl
     ] in
-    joining-some c.loop-row.invariant c.in-Some.ensures c.u16_at-name.ensures.0 c.find.ensures.passed c.find.result c.find.ensures.sought c.in-Some-kept_with.other
+    joining-some c.loop-row.invariant c.in-Some.ensures c.name-name.ensures.0 c.find.ensures.passed c.find.result c.find.ensures.sought c.in-Some-kept_with.other
     c.in-Some-kept_with.ensures wrote.new.out wrote.result wrote.ensures c.if-is_required.required c.put_attribute.new.out flags c.put_attribute.ensures
 
 pub write_attributes-returns : goal.write_attributes-returns

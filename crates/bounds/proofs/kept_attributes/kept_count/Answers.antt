@@ -27,26 +27,26 @@ find-other-requires c = (lit< tt, laid c.loop-row.invariant.walk.second)
 
 pub kept_with-requires-clause-row_whole : goal.kept_with-requires-clause-row_whole
 kept_with-requires-clause-row_whole c =
-    walk-whole c.loop-row.invariant.walk c.in-Some.ensures c.name.ensures c.find-other.ensures.passed
+    walk-whole c.loop-row.invariant.walk c.in-Some.ensures c.name.ensures.0 c.find-other.ensures.passed
 
 pub kept_with-requires-clause-other_whole : goal.kept_with-requires-clause-other_whole
 kept_with-requires-clause-other_whole c =
-    walk-other c.loop-row.invariant.walk c.in-Some.ensures c.name.ensures c.find-other.ensures.passed c.find-other.result c.find-other.ensures.sought
+    walk-other c.loop-row.invariant.walk c.in-Some.ensures c.name.ensures.0 c.find-other.ensures.passed c.find-other.result c.find-other.ensures.sought
 
 pub overflow_add-count : goal.overflow_add-count
 overflow_add-count c =
-    omega (arith, counting-few c.loop-row.invariant c.in-Some.ensures c.name.ensures c.find-other.ensures.passed c.find-other.result c.find-other.ensures.sought)
+    omega (arith, counting-few c.loop-row.invariant c.in-Some.ensures c.name.ensures.0 c.find-other.ensures.passed c.find-other.result c.find-other.ensures.sought)
 
 pub loop-row-preserved-then-is_some : goal.loop-row-preserved-then-is_some
 loop-row-preserved-then-is_some c =
     let is-kept = kept-some (as_mode c.args.mode) c.args.levels c.in-Some.row c.find-other.result c.kept_with.result c.kept_with.ensures ∙ sym c.is_some.ensures ∙ c.if-is_some.true in
-    counting_more c.loop-row.invariant c.in-Some.ensures c.name.ensures c.find-other.ensures.passed c.find-other.result c.find-other.ensures.sought
+    counting_more c.loop-row.invariant c.in-Some.ensures c.name.ensures.0 c.find-other.ensures.passed c.find-other.result c.find-other.ensures.sought
     true _ is-kept refl
 
 pub loop-row-preserved : goal.loop-row-preserved
 loop-row-preserved c =
     let is-kept = kept-some (as_mode c.args.mode) c.args.levels c.in-Some.row c.find-other.result c.kept_with.result c.kept_with.ensures ∙ sym c.is_some.ensures ∙ c.if-is_some.false in
-    counting_more c.loop-row.invariant c.in-Some.ensures c.name.ensures c.find-other.ensures.passed c.find-other.result c.find-other.ensures.sought
+    counting_more c.loop-row.invariant c.in-Some.ensures c.name.ensures.0 c.find-other.ensures.passed c.find-other.result c.find-other.ensures.sought
     false _ is-kept (omega arith)
 
 pub returns : goal.returns

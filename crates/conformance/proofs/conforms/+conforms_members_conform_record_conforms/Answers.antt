@@ -222,28 +222,28 @@ record_conforms-conforms-said-requires t c =
     let row = c.in-Some.ensures in
     let found = c.in-Some-find.ensures in (
       omega (arith, c.decreases),
-      (attribute-whole i row c.name.result c.name.ensures found.passed found.sought, pair-whole i row),
+      (attribute-whole i row c.name.result c.name.ensures.0 found.passed found.sought, pair-whole i row),
     )
 
 pub record_conforms-loop-pair-preserved : goal.record_conforms-loop-pair-preserved
 record_conforms-loop-pair-preserved t c =
-    record-again c.loop-pair.invariant c.in-Some.ensures c.name.result c.name.ensures c.find.ensures.passed c.match-find.said
+    record-again c.loop-pair.invariant c.in-Some.ensures c.name.result c.name.ensures.0 c.find.ensures.passed c.match-find.said
     (elim c.match-find.branch [
       | record_conforms-in-Some-find w ↦ w.said-is ∙ w.conforms-said.ensures
-          ∙ pair-found c.loop-pair.invariant c.in-Some.ensures c.name.result c.name.ensures c.find.ensures.passed w.in-Some-find.ensures.sought
+          ∙ pair-found c.loop-pair.invariant c.in-Some.ensures c.name.result c.name.ensures.0 c.find.ensures.passed w.in-Some-find.ensures.sought
       | record_conforms-in-None w ↦ w.said-is ∙ w.tested-said.ensures
-          ∙ pair-absent c.loop-pair.invariant c.in-Some.ensures c.name.result c.name.ensures c.find.ensures.passed w.in-None.ensures.sought
+          ∙ pair-absent c.loop-pair.invariant c.in-Some.ensures c.name.result c.name.ensures.0 c.find.ensures.passed w.in-None.ensures.sought
     ])
     c.in-Holds.is
 
 pub record_conforms-returns-in_default-said : goal.record_conforms-returns-in_default-said
 record_conforms-returns-in_default-said t c =
-    record-stop c.loop-pair.invariant c.in-Some.ensures c.name.result c.name.ensures c.find.ensures.passed c.match-find.said
+    record-stop c.loop-pair.invariant c.in-Some.ensures c.name.result c.name.ensures.0 c.find.ensures.passed c.match-find.said
     (elim c.match-find.branch [
       | record_conforms-in-Some-find w ↦ w.said-is ∙ w.conforms-said.ensures
-          ∙ pair-found c.loop-pair.invariant c.in-Some.ensures c.name.result c.name.ensures c.find.ensures.passed w.in-Some-find.ensures.sought
+          ∙ pair-found c.loop-pair.invariant c.in-Some.ensures c.name.result c.name.ensures.0 c.find.ensures.passed w.in-Some-find.ensures.sought
       | record_conforms-in-None w ↦ w.said-is ∙ w.tested-said.ensures
-          ∙ pair-absent c.loop-pair.invariant c.in-Some.ensures c.name.result c.name.ensures c.find.ensures.passed w.in-None.ensures.sought
+          ∙ pair-absent c.loop-pair.invariant c.in-Some.ensures c.name.result c.name.ensures.0 c.find.ensures.passed w.in-None.ensures.sought
     ])
     c.in_default-said.not-Holds
 

@@ -35,14 +35,14 @@ loop-attribute-preserved-then-not-is_required c =
 pub returns-then-is_none : goal.returns-then-is_none
 returns-then-is_none c =
     let row = c.in-Some.ensures in
-    required-lacks c.loop-attribute.invariant row c.name.result c.name.ensures c.find.ensures.passed c.is_required.result c.is_required.ensures
+    required-lacks c.loop-attribute.invariant row c.name.result c.name.ensures.0 c.find.ensures.passed c.is_required.result c.is_required.ensures
     c.if-not-is_required.false-raw
     (sought-not 4 c.find.new.self.left c.name.result c.find.new.self.entries.now c.find.new.self.bodies.now c.find.result c.find.ensures.sought c.if-is_none.ensures)
 
 pub loop-attribute-preserved : goal.loop-attribute-preserved
 loop-attribute-preserved c =
     let row = c.in-Some.ensures in
-    required-found c.loop-attribute.invariant row c.name.result c.name.ensures c.find.ensures.passed
+    required-found c.loop-attribute.invariant row c.name.result c.name.ensures.0 c.find.ensures.passed
     (sought-it 4 c.find.new.self.left c.name.result c.find.new.self.entries.now c.find.new.self.bodies.now c.find.result c.find.ensures.sought c.if-is_none.ensures).1
 
 pub returns : goal.returns

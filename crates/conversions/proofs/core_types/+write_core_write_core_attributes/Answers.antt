@@ -155,7 +155,7 @@ write_core_attributes-put_attribute-requires t c =
     let here = taken-attribute c.loop-row.invariant.0.sound c.in-Some.ensures in
     let wrote = c.write_core-n in (
       core-entry here c.loop-row.invariant.1 wrote.new.out wrote.result wrote.ensures,
-      (c.u16_at.ensures.1, omega (arith, core-small here c.loop-row.invariant.1 wrote.new.out wrote.result wrote.ensures)),
+      (c.name.ensures.1, omega (arith, core-small here c.loop-row.invariant.1 wrote.new.out wrote.result wrote.ensures)),
     )
 
 pub write_core_attributes-loop-row-preserved : goal.write_core_attributes-loop-row-preserved
@@ -163,8 +163,8 @@ write_core_attributes-loop-row-preserved t c =
     let here = taken-attribute c.loop-row.invariant.0.sound c.in-Some.ensures in
     let wrote = c.write_core-n in (
       left-start here.more,
-      core-more here c.loop-row.invariant.1 wrote.new.out wrote.result wrote.ensures c.u16_at.result c.is_required.result c.put_attribute.new.out
-          c.u16_at.ensures.0 c.is_required.ensures c.put_attribute.ensures,
+      core-more here c.loop-row.invariant.1 wrote.new.out wrote.result wrote.ensures c.name.result c.is_required.result c.put_attribute.new.out
+          c.name.ensures.0 c.is_required.ensures c.put_attribute.ensures,
     )
 
 pub write_core_attributes-returns : goal.write_core_attributes-returns

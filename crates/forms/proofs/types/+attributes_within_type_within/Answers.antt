@@ -34,7 +34,7 @@ pub attributes_within-loop-ahead-preserved : goal.attributes_within-loop-ahead-p
 attributes_within-loop-ahead-preserved t c =
     within-again c.loop-ahead.invariant attr-local c.in-Some-take.ensures.0 c.attribute_follows.result c.attribute_follows.ensures
     c.if-not-attribute_follows.false c.in-Some-take.ensures.1 c.type_within.result c.type_within.ensures c.if-not-type_within.false
-    (c.u16_at-low.result + 1) (ap (λ (j : ℕ). j + 1) c.u16_at-low.ensures.0)
+    (c.name-low.result + 1) (ap (λ (j : ℕ). j + 1) c.name-low.ensures.0)
 
 pub attributes_within-returns : goal.attributes_within-returns
 attributes_within-returns t c = rows_end c.loop-ahead.invariant c.loop-ahead-test.false c.is_empty.result c.is_empty.ensures ∙ sym (within-rows attr_row (λ _. whole c.args.levels) 0 c.args.at c.args.t.now refl c.in-Some.ensures)

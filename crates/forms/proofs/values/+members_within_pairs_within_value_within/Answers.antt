@@ -42,7 +42,7 @@ pub pairs_within-returns-then-name-low : goal.pairs_within-returns-then-name-low
 pairs_within-returns-then-name-low t c =
     let low = c.loop-ahead.low in
     let name = rd c.in-Some-take.pair.head.now 0 in
-    within-unfit c.loop-ahead.invariant pair-local c.in-Some-take.ensures.0 (leb low name) refl (lt-leb low name (omega (arith, c.name.ensures, c.if-name-low.true)))
+    within-unfit c.loop-ahead.invariant pair-local c.in-Some-take.ensures.0 (leb low name) refl (lt-leb low name (omega (arith, c.name.ensures.0, c.if-name-low.true)))
     ∙ sym (within-rows pair_row (λ _. whole_v c.args.levels) 0 1 c.args.v.now refl c.in-Some.ensures)
 
 pub pairs_within-returns-then-not-value_within : goal.pairs_within-returns-then-not-value_within
@@ -54,8 +54,8 @@ pub pairs_within-loop-ahead-preserved : goal.pairs_within-loop-ahead-preserved
 pairs_within-loop-ahead-preserved t c =
     let low = c.loop-ahead.low in
     let name = rd c.in-Some-take.pair.head.now 0 in
-    within-again c.loop-ahead.invariant pair-local c.in-Some-take.ensures.0 (leb low name) refl (le-leb low name (omega (arith, c.name.ensures, c.if-name-low.false)))
-    c.in-Some-take.ensures.1 c.value_within.result c.value_within.ensures c.if-not-value_within.false (c.u16_at-low.result + 1) (ap (λ (j : ℕ). j + 1) c.u16_at-low.ensures.0)
+    within-again c.loop-ahead.invariant pair-local c.in-Some-take.ensures.0 (leb low name) refl (le-leb low name (omega (arith, c.name.ensures.0, c.if-name-low.false)))
+    c.in-Some-take.ensures.1 c.value_within.result c.value_within.ensures c.if-not-value_within.false (c.name-low.result + 1) (ap (λ (j : ℕ). j + 1) c.name-low.ensures.0)
 
 pub pairs_within-returns : goal.pairs_within-returns
 pairs_within-returns t c = rows_end c.loop-ahead.invariant c.loop-ahead-test.false c.is_empty.result c.is_empty.ensures ∙ sym (within-rows pair_row (λ _. whole_v c.args.levels) 0 1 c.args.v.now refl c.in-Some.ensures)

@@ -3,7 +3,7 @@ use Rattle.cedar.specs.Attribute.{lookup_names, keep_found}
 use Rattle.cedar.specs.Calls.{step_fits}
 use Rattle.forms.specs.Names.{names_in}
 use Rattle.schemas.specs.Schema.{limits_in, said_by}
-use Rattle.lookups.specs.Names.{names_of}
+use Rattle.forms.specs.AttributeRows.{names_of}
 use Rattle.lookups.specs.Laws.Names.{Keeping}
 use Rattle.lookups.proofs.all_attributes.kept_names.Given as goal
 

@@ -9,11 +9,11 @@ loop-row-init c = naming-start c.args.attributes c.args.kept.now c.requires
 pub put_name-requires : goal.put_name-requires
 put_name-requires c =
     let room = naming-room c.loop-row.invariant c.next.new.self c.in-Some.ensures in
-    (omega (arith, length_rest c.loop-row.bytes c.loop-row.kept), c.u16_at.ensures.1)
+    (omega (arith, length_rest c.loop-row.bytes c.loop-row.kept), c.name.ensures.1)
 
 pub loop-row-preserved : goal.loop-row-preserved
 loop-row-preserved c =
-    naming-more c.loop-row.invariant c.next.new.self c.in-Some.ensures c.u16_at.result c.u16_at.ensures.0 c.put_name.new.out c.put_name.ensures
+    naming-more c.loop-row.invariant c.next.new.self c.in-Some.ensures c.name.result c.name.ensures.0 c.put_name.new.out c.put_name.ensures
 
 pub returns : goal.returns
 returns c = naming-end c.loop-row.invariant c.in_default.ensures.none

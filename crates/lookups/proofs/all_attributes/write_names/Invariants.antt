@@ -1,5 +1,5 @@
 use Rattle.cedar.specs.Bytes.{enc_names}
-use Rattle.lookups.specs.Names.{names_of}
+use Rattle.forms.specs.AttributeRows.{names_of}
 use Rattle.lookups.specs.Laws.Names.{Naming}
 use Rattle.lookups.proofs.all_attributes.write_names.Given as goal
 

@@ -9,7 +9,7 @@ use Rattle.forms.specs.Laws.Bytes.{Bytes-index}
 use Rattle.forms.specs.Laws.Kinds.{whole-kind, kind-differs, kinds-alike, kinds-unlike, kinds-agree, kinds-differ}
 use Rattle.forms.specs.Laws.Views.{whole-level, is_set, is-record, is-entity}
 use Rattle.relations.specs.Meets.{plain_kind}
-use Rattle.relations.specs.Laws.Equality.{same-bytes}
+use Rattle.forms.specs.Laws.SameForm.{same-bytes}
 use Rattle.relations.specs.Laws.Names.{entity-form}
 use Rattle.relations.specs.Laws.Meeting.{meeting-end, meeting-whole, meeting-not, meeting-again, alone-not, alone-optional, alone-open}
 use Rattle.relations.specs.Laws.Consistent.{with-entity, unlike-kinds, with-set, with-extension, with-kind, record-not, with-record}
@@ -25,13 +25,13 @@ attributes_consistent-find-requires t c = (omega arith, laid c.loop-attribute.in
 pub attributes_consistent-is_consistent_with-requires : goal.attributes_consistent-is_consistent_with-requires
 attributes_consistent-is_consistent_with-requires t c = (
   omega (arith, c.decreases),
-  meeting-whole c.loop-attribute.invariant c.next.new.self c.in-Some.ensures c.name.result c.name.ensures c.find.new.self c.find.ensures.passed
+  meeting-whole c.loop-attribute.invariant c.next.new.self c.in-Some.ensures c.name.result c.name.ensures.0 c.find.new.self c.find.ensures.passed
       c.in-Some-find.ensures.sought,
 )
 
 pub attributes_consistent-returns-then-not-is_consistent_with : goal.attributes_consistent-returns-then-not-is_consistent_with
 attributes_consistent-returns-then-not-is_consistent_with t c =
-    meeting-not c.loop-attribute.invariant c.next.new.self c.in-Some.ensures c.name.result c.name.ensures c.find.new.self c.find.ensures.passed
+    meeting-not c.loop-attribute.invariant c.next.new.self c.in-Some.ensures c.name.result c.name.ensures.0 c.find.new.self c.find.ensures.passed
     c.in-Some-find.ensures.sought c.is_consistent_with.result c.is_consistent_with.ensures c.if-not-is_consistent_with.true
 
 pub attributes_consistent-returns : goal.attributes_consistent-returns
@@ -39,22 +39,22 @@ attributes_consistent-returns t c = meeting-end c.loop-attribute.invariant c.in_
 
 pub attributes_consistent-loop-attribute-preserved-else-not-is_consistent_with : goal.attributes_consistent-loop-attribute-preserved-else-not-is_consistent_with
 attributes_consistent-loop-attribute-preserved-else-not-is_consistent_with t c =
-    meeting-again c.loop-attribute.invariant c.next.new.self c.in-Some.ensures c.name.result c.name.ensures c.find.new.self c.find.ensures.passed
+    meeting-again c.loop-attribute.invariant c.next.new.self c.in-Some.ensures c.name.result c.name.ensures.0 c.find.new.self c.find.ensures.passed
     c.in-Some-find.ensures.sought c.is_consistent_with.result c.is_consistent_with.ensures c.if-not-is_consistent_with.false
 
 pub attributes_consistent-returns-then-not-is_open : goal.attributes_consistent-returns-then-not-is_open
 attributes_consistent-returns-then-not-is_open t c =
-    alone-not c.loop-attribute.invariant c.next.new.self c.in-Some.ensures c.name.result c.name.ensures c.find.new.self c.find.ensures.passed
+    alone-not c.loop-attribute.invariant c.next.new.self c.in-Some.ensures c.name.result c.name.ensures.0 c.find.new.self c.find.ensures.passed
     c.in-None.ensures.sought (sym c.is_required.ensures ∙ c.if-is_required.true) c.if-not-is_open.true
 
 pub attributes_consistent-loop-attribute-preserved : goal.attributes_consistent-loop-attribute-preserved
 attributes_consistent-loop-attribute-preserved t c =
     elim c.else-is_required.branch [
       | attributes_consistent-else-is_required-via-then-is_required+else-not-is_open w ↦
-          alone-open c.loop-attribute.invariant c.next.new.self c.in-Some.ensures c.name.result c.name.ensures c.find.new.self c.find.ensures.passed
+          alone-open c.loop-attribute.invariant c.next.new.self c.in-Some.ensures c.name.result c.name.ensures.0 c.find.new.self c.find.ensures.passed
           c.in-None.ensures.sought w.if-not-is_open.false
       | attributes_consistent-else-is_required-via-else-is_required w ↦
-          alone-optional c.loop-attribute.invariant c.next.new.self c.in-Some.ensures c.name.result c.name.ensures c.find.new.self c.find.ensures.passed
+          alone-optional c.loop-attribute.invariant c.next.new.self c.in-Some.ensures c.name.result c.name.ensures.0 c.find.new.self c.find.ensures.passed
           c.in-None.ensures.sought (sym c.is_required.ensures ∙ w.if-is_required.false)
     ]
 

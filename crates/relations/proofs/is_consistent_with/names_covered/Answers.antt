@@ -17,13 +17,13 @@ find-requires c = (omega arith, laid c.loop-attribute.invariant.core)
 pub loop-attribute-preserved-in-Some-find : goal.loop-attribute-preserved-in-Some-find
 loop-attribute-preserved-in-Some-find c =
     covering-again c.loop-attribute.invariant c.next.new.self c.in-Some.ensures (sym c.is_required.ensures ∙ c.if-is_required.true) c.name.result
-    c.name.ensures c.find.new.self c.find.ensures.passed c.in-Some-find.ensures.sought
+    c.name.ensures.0 c.find.new.self c.find.ensures.passed c.in-Some-find.ensures.sought
 
 pub returns-in_default-find : goal.returns-in_default-find
 returns-in_default-find c =
     rw c.if-is_open.false
     (covering-not c.loop-attribute.invariant c.next.new.self c.in-Some.ensures (sym c.is_required.ensures ∙ c.if-is_required.true) c.name.result
-    c.name.ensures c.find.new.self c.find.ensures.passed c.in_default-find.ensures.sought)
+    c.name.ensures.0 c.find.new.self c.find.ensures.passed c.in_default-find.ensures.sought)
 
 pub loop-attribute-preserved : goal.loop-attribute-preserved
 loop-attribute-preserved c =

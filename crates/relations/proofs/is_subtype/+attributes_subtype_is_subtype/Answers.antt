@@ -9,7 +9,7 @@ use Rattle.forms.specs.Laws.AttributeRows.{record-rows, rows-sized, rows-names}
 use Rattle.forms.specs.Laws.Bytes.{Bytes-index}
 use Rattle.forms.specs.Laws.Kinds.{whole-kind, kind-differs, kinds-alike, kinds-unlike}
 use Rattle.forms.specs.Laws.Views.{whole-level, is_set, is-record, is-entity}
-use Rattle.relations.specs.Laws.Equality.{same-bytes}
+use Rattle.forms.specs.Laws.SameForm.{same-bytes}
 use Rattle.relations.specs.Laws.Names.{entity-form}
 use Rattle.relations.specs.Laws.Walks.{under-end, under-missing, under-whole, under-flag, under-type, under-again}
 use Rattle.relations.specs.Laws.Subtype.{unlike-kinds, set-under, entity-under, action-under, extension-under, atoms-under, record-not, record-under}
@@ -23,30 +23,30 @@ attributes_subtype-find-requires t c = (omega arith, laid c.loop-attribute.invar
 
 pub attributes_subtype-returns-in_default-find : goal.attributes_subtype-returns-in_default-find
 attributes_subtype-returns-in_default-find t c =
-    under-missing c.loop-attribute.invariant c.next.new.self c.in-Some.ensures c.name.result c.name.ensures c.find.new.self c.find.ensures.passed
+    under-missing c.loop-attribute.invariant c.next.new.self c.in-Some.ensures c.name.result c.name.ensures.0 c.find.new.self c.find.ensures.passed
     c.in_default-find.ensures.sought
 
 pub attributes_subtype-returns-then-not-required_under : goal.attributes_subtype-returns-then-not-required_under
 attributes_subtype-returns-then-not-required_under t c =
-    under-flag c.loop-attribute.invariant c.next.new.self c.in-Some.ensures c.name.result c.name.ensures c.find.new.self c.find.ensures.passed
+    under-flag c.loop-attribute.invariant c.next.new.self c.in-Some.ensures c.name.result c.name.ensures.0 c.find.new.self c.find.ensures.passed
     c.in-Some-find.ensures.sought c.required_under.result (rw (c.is_required.ensures, c.is_required-in-Some.ensures) at c.required_under.ensures)
     c.if-not-required_under.true
 
 pub attributes_subtype-is_subtype-requires : goal.attributes_subtype-is_subtype-requires
 attributes_subtype-is_subtype-requires t c =
-    let wholes = under-whole c.loop-attribute.invariant c.next.new.self c.in-Some.ensures c.name.result c.name.ensures c.find.new.self
+    let wholes = under-whole c.loop-attribute.invariant c.next.new.self c.in-Some.ensures c.name.result c.name.ensures.0 c.find.new.self
     c.find.ensures.passed c.in-Some-find.ensures.sought in
     (omega (arith, c.decreases), wholes)
 
 pub attributes_subtype-returns-then-not-is_subtype : goal.attributes_subtype-returns-then-not-is_subtype
 attributes_subtype-returns-then-not-is_subtype t c =
-    under-type c.loop-attribute.invariant c.next.new.self c.in-Some.ensures c.name.result c.name.ensures c.find.new.self c.find.ensures.passed
+    under-type c.loop-attribute.invariant c.next.new.self c.in-Some.ensures c.name.result c.name.ensures.0 c.find.new.self c.find.ensures.passed
     c.in-Some-find.ensures.sought c.required_under.result (rw (c.is_required.ensures, c.is_required-in-Some.ensures) at c.required_under.ensures)
     c.if-not-required_under.false c.is_subtype.result c.is_subtype.ensures c.if-not-is_subtype.true
 
 pub attributes_subtype-loop-attribute-preserved : goal.attributes_subtype-loop-attribute-preserved
 attributes_subtype-loop-attribute-preserved t c =
-    under-again c.loop-attribute.invariant c.next.new.self c.in-Some.ensures c.name.result c.name.ensures c.find.new.self c.find.ensures.passed
+    under-again c.loop-attribute.invariant c.next.new.self c.in-Some.ensures c.name.result c.name.ensures.0 c.find.new.self c.find.ensures.passed
     c.in-Some-find.ensures.sought c.required_under.result (rw (c.is_required.ensures, c.is_required-in-Some.ensures) at c.required_under.ensures)
     c.if-not-required_under.false c.is_subtype.result c.is_subtype.ensures c.if-not-is_subtype.false
 

@@ -2,7 +2,7 @@ use Rattle.std.proofs.Common.{sym, ◌∙◌}
 use Rattle.forms.specs.Modes.{as_mode}
 use Rattle.forms.specs.Laws.Bytes.{Bytes-index}
 use Rattle.forms.specs.Parts.{rest}
-use Rattle.relations.specs.Laws.Equality.{same-bytes}
+use Rattle.forms.specs.Laws.SameForm.{same-bytes}
 use Rattle.relations.specs.Laws.SameForm.{names-strict}
 use Rattle.relations.proofs.is_subtype.entity_under.Goals as goal
 
