@@ -1,4 +1,5 @@
 pub mod SchemaBytes
+pub mod Returns
 pub mod Offsets
 pub mod Entries
 pub mod Schema

@@ -2,9 +2,8 @@
 ghost use Rattle.std.specs.Prelude.{◌≡◌, ◌≤◌, length};
 ghost use Rattle.schemas.specs.SchemaBytes.{arg_fits, args_fit};
 
-use crate::order::Extension;
+use crate::order::is_blank;
 use forms::kinds::ArgumentKind;
-use forms::numbers::u16_at;
 use forms::offsets::SchemaOffset;
 use forms::widths::Width;
 
@@ -13,12 +12,10 @@ fn argument_within(a: &[u8]) -> bool
     requires { 3 ≤ length a.now }
     ensures { result ≡ arg_fits a.now }
 {
-    match a[0] {
-        ArgumentKind::BOOL | ArgumentKind::LONG | ArgumentKind::STRING => {
-            u16_at(a, SchemaOffset::ARGUMENT_EXTENSION) == Extension::NONE
-        }
-        ArgumentKind::EXTENSION => true,
-        _ => false,
+    match ArgumentKind::try_from(a[0]) {
+        Ok(ArgumentKind::Extension) => true,
+        Ok(_) => is_blank(a, SchemaOffset::ARGUMENT_EXTENSION),
+        Err(_) => false,
     }
 }
 

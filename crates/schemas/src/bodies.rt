@@ -15,7 +15,7 @@ pub fn body_within(b: &[u8], closed: bool, limits: Limits) -> bool
     if !whole_type(b, limits) {
         return false;
     }
-    if b[0] != Kind::RECORD {
+    if Kind::of(b) != Kind::Record {
         return false;
     }
     !closed || b[Offset::OPEN] == Openness::CLOSED

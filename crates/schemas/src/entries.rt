@@ -33,7 +33,7 @@ fn has_key(e: &[u8], key: Key) -> bool
 }
 
 // The row of a key.
-pub fn find_row<'a, const WIDTH: usize>(s: &'a [u8], x: Section, key: Key) -> Option<Row<'a>>
+pub(crate) fn find_row<'a, const WIDTH: usize>(s: &'a [u8], x: Section, key: Key) -> Option<Row<'a>>
     requires laid { LaidIn WIDTH x s.now }
     requires wide { 4 ≤ WIDTH }
     ensures { option_map row_bytes result ≡ entry_at WIDTH key x s.now }

@@ -1,7 +1,6 @@
-// The kinds of section, and where they differ: how wide entries are, which may follow, and what their bodies are.
-ghost use Rattle.std.specs.Prelude.{◌≡◌, ◌≤◌, ◌<◌, length};
+// The kinds of section, and where they differ: which entries may follow, and what their bodies are.
+ghost use Rattle.std.specs.Prelude.{◌≡◌, ◌≤◌, length};
 ghost use Rattle.forms.specs.Limits.{as_limits};
-ghost use Rattle.forms.specs.Rows.{body_length};
 ghost use Rattle.schemas.specs.SchemaBytes.{row_of, body_test, low_in};
 
 use crate::arguments::arguments_within;
@@ -11,7 +10,6 @@ use forms::kinds::EntityKind;
 use forms::limits::Limits;
 use forms::numbers::u16_at;
 use forms::offsets::SchemaOffset;
-use forms::widths::Width;
 
 #[derive(Clone, Copy)]
 pub enum SectionKind {
@@ -21,29 +19,6 @@ pub enum SectionKind {
 }
 
 impl SectionKind {
-    // How many bytes an entry takes.
-    pub fn width(self) -> usize
-        ensures { result ≡ (row_of self).width }
-    {
-        match self {
-            SectionKind::Entities => Width::ENTITY,
-            SectionKind::Actions => Width::ACTION,
-            SectionKind::Functions => Width::FUNCTION,
-        }
-    }
-
-    // How many bytes the body of an entry takes.
-    pub fn body_length(self, e: &[u8]) -> usize
-        requires { (row_of self).width ≤ length e.now }
-        ensures { (result ≡ body_length (row_of self) e.now) × (result < 65536) }
-    {
-        match self {
-            SectionKind::Entities => u16_at(e, SchemaOffset::ENTITY_LENGTH),
-            SectionKind::Actions => u16_at(e, SchemaOffset::ACTION_LENGTH),
-            SectionKind::Functions => u16_at(e, SchemaOffset::FUNCTION_LENGTH),
-        }
-    }
-
     // Whether an entry may follow.
     pub fn follows(self, e: &[u8], low: Low) -> bool
         requires { (row_of self).width ≤ length e.now }
@@ -87,7 +62,8 @@ impl SectionKind {
             SectionKind::Entities => {
                 body_within(
                     b,
-                    e[SchemaOffset::ENTITY_KIND] == EntityKind::ENUMERATED,
+                    EntityKind::try_from(e[SchemaOffset::ENTITY_KIND])
+                        == Ok(EntityKind::Enumerated),
                     limits,
                 )
             }

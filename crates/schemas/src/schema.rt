@@ -42,10 +42,9 @@ impl<'a> Schema<'a> {
             self.sections.functions,
             Key::Name(name),
         )?;
-        let returns = if row.head[SchemaOffset::RETURNS] == Returns::EXTENSION {
-            Some(u16_at(row.head, SchemaOffset::EXTENSION))
-        } else {
-            None
+        let returns = match Returns::try_from(row.head[SchemaOffset::RETURNS]) {
+            Ok(Returns::Extension) => Some(u16_at(row.head, SchemaOffset::EXTENSION)),
+            _ => None,
         };
         Some(Signature {
             returns,

@@ -2,7 +2,6 @@
 ghost use Rattle.std.specs.Prelude.{◌≡◌, ◌+◌, ◌*◌, ◌≤◌, length};
 ghost use Rattle.forms.specs.Limits.{as_limits};
 ghost use Rattle.forms.specs.Parts.{part, rest};
-ghost use Rattle.schemas.specs.Entries.{LaidIn};
 ghost use Rattle.schemas.specs.SchemaBytes.{row_of, Inside, passed_by, entries_end, section_at};
 
 use crate::kinds::SectionKind;
@@ -33,7 +32,7 @@ impl Section {
     // Its rows, each of so many bytes.
     #[inline]
     pub fn rows<'a, const WIDTH: usize>(self, s: &'a [u8]) -> Rows<'a, WIDTH>
-        requires { LaidIn WIDTH self s.now }
+        requires { Inside WIDTH self s.now }
         ensures left { result.left ≡ self.count }
         ensures entries { result.entries.now ≡ part self.entries (self.entries + WIDTH * self.count) s.now }
         ensures bodies { result.bodies.now ≡ rest self.bodies s.now }
@@ -95,32 +94,27 @@ pub fn section_at(s: &[u8], kind: SectionKind, bodies: usize) -> Section
 }
 
 // Where the bodies of a section end whose entries and bodies are whole.
-pub fn section_within(s: &[u8], kind: SectionKind, x: Section, limits: Limits) -> Option<usize>
-    requires { Inside (row_of kind).width x s.now }
+pub fn section_within<const WIDTH: usize>(
+    s: &[u8],
+    kind: SectionKind,
+    x: Section,
+    limits: Limits,
+) -> Option<usize>
+    requires wide { WIDTH ≡ (row_of kind).width }
+    requires inside { Inside WIDTH x s.now }
     ensures { result ≡ passed_by (as_limits limits) kind x s.now }
 {
-    let width = kind.width();
-    let start = x.entries;
-    let bodies = x.bodies;
-    let mut e = &s[start..];
-    let mut b = &s[bodies..];
-    let mut left = x.count;
+    let mut rows: Rows<WIDTH> = x.rows(s);
     let mut low = Low::FIRST;
-    while 0 < left {
-        if !kind.follows(e, low) {
+    while 0 < rows.left {
+        let row = rows.take()?;
+        if !kind.follows(row.head, low) {
             return None;
         }
-        let len = kind.body_length(e);
-        if b.len() < len {
+        if !kind.body_within(row.head, row.body, limits) {
             return None;
         }
-        if !kind.body_within(e, &b[0..len], limits) {
-            return None;
-        }
-        low = kind.next(e);
-        e = &e[width..];
-        b = &b[len..];
-        left -= 1;
+        low = kind.next(row.head);
     }
-    Some(s.len() - b.len())
+    Some(s.len() - rows.bodies.len())
 }

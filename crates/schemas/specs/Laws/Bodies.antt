@@ -1,18 +1,27 @@
 -- The body of an entity type or an action. Assumes nothing.
 use Rattle.std.specs.Prelude.{◌≡◌, List, Bool, true, false, not, ◌&&◌, ℕ, zero, suc, ◌≤◌, ◌<◌, eqb, leb, length, get_or}
+use Rattle.std.specs.Prelude.{Result, Ok, Err}
+use Rattle.std.specs.Result.{result_eq}
 use Rattle.std.proofs.Math.Path.{refl}
-use Rattle.std.proofs.Common.{ap, sym, ◌∙◌, arith}
+use Rattle.std.proofs.Common.{ap, sym, ◌∙◌, arith, ne_eqb}
 use Rattle.std.proofs.Math.Decide.{ℕ_discrete}
 use borrow.Author.Tests.{leb-true, not-true, not-false}
 use Rattle.cedar.specs.Types.{Ty, rec, present, as_rec}
 use Rattle.cedar.specs.Limits.{Limits}
 use Rattle.cedar.specs.Whole.{whole_type}
+use Rattle.forms.specs.Kinds.{IsEntityKind}
+use Rattle.forms.specs.declared.kinds.EntityKind.{EntityKind}
+use Rattle.forms.specs.declared.kinds.EntityKind.TheVariants.{Standard, Enumerated}
+use Rattle.forms.specs.declared.kinds.UnknownKind.{UnknownKind}
+use Rattle.forms.specs.contracts.kinds.EntityKindPartialEq.TheImpl.{eq-value}
+use Rattle.forms.specs.contracts.kinds.UnknownKindPartialEq.TheImpl.{eq-value as eq-error}
 use Rattle.forms.specs.Parts.{kind}
 use Rattle.forms.specs.TypeBytes.{whole, dec}
 use Rattle.forms.specs.Laws.Parts.{and_l, and_r, and-not-l, and-not-r, and_yes}
+use Rattle.forms.specs.Laws.Kinds.{whole-kind}
 use Rattle.forms.specs.Laws.Sure.{sure-present}
 use Rattle.forms.specs.Laws.TypeTwin.{whole-type-twin}
-use Rattle.forms.specs.Laws.Views.{IsRecord, is-record, not-empty, see, seen-set, seen-record, seen-entity, seen-action, seen-extension, seen-atom, Seen}
+use Rattle.forms.specs.Laws.Views.{IsRecord, is-record, see, seen-set, seen-record, seen-entity, seen-action, seen-extension, seen-atom, Seen}
 use Rattle.schemas.specs.SchemaBytes.{type_fits, record_of, body_fits, body_of}
 
 -- A whole form of another kind is no record.
@@ -47,8 +56,9 @@ module _ (lim : Limits) (b : List ℕ) (y : Bool) (q : y ≡ present (whole_type
     is_whole : whole lim.levels b ≡ true
     is_whole = and_r (leb (length b) lim.bytes) (whole lim.levels b) fits
 
-    pub body-some : 0 < length b
-    body-some = not-empty lim.levels b is_whole
+    -- What `Kind::of` asks.
+    pub body-kind : (0 < length b) × (kind b ≤ 12)
+    body-kind = whole-kind lim.levels b is_whole
 
     pub body-other : (closed : Bool) → (kind b ≡ 8 → ⊥) → false ≡ body_fits lim closed b
     unfolding body_fits
@@ -90,3 +100,10 @@ is_body lim closed b h =
     go : whole lim.levels b ≡ true → present (as_rec (dec lim.levels b)) ≡ true → length b ≤ lim.bytes → Dec (kind b ≡ 8) → IsBody lim b
     go w p l (yes k) = let v = is-record lim.levels b w k in record { few = l; good = w; kind-is = k; is = v.is ∙ sym (rw v.is refl) }
     go w p l (no k) = absurd (let z : false ≡ true = sym (not-record lim.levels b w k) ∙ p in let y : ◌≡◌ {A = ℕ} 0 1 = cc in omega arith)
+
+-- The body of an enumerated entity type is closed.
+pub enumerated : (n : ℕ) (r : Result EntityKind UnknownKind) → IsEntityKind n r → (x : Bool) → x ≡ result_eq eq-value.it eq-error.it r (Ok Enumerated) →
+    x ≡ eqb n 1
+enumerated n (Ok Standard) h x q = q ∙ ap (λ (k : ℕ). eqb k 1) h
+enumerated n (Ok Enumerated) h x q = q ∙ ap (λ (k : ℕ). eqb k 1) h
+enumerated n (Err e) h x q = q ∙ sym (ne_eqb n 1 (λ z. omega arith))

@@ -12,14 +12,15 @@ use Rattle.cedar.specs.Bytes.{Bytes}
 use Rattle.forms.specs.Parts.{part, rest, rd}
 use Rattle.forms.specs.Laws.Bytes.{Bytes-part}
 use Rattle.forms.specs.Rows.{Row, body_length, rows_to, rows_of}
-use Rattle.forms.specs.Search.{Laid, used}
+use Rattle.forms.specs.Search.{Laid}
 use Rattle.forms.specs.RowBytes.{TookFirst}
 use Rattle.forms.specs.declared.rows.Row.{Row as FormRow}
-use Rattle.forms.specs.Laws.Parts.{length_rest, length_part, rest-is, part-is, part-rest, drop-take, rd-take}
+use Rattle.forms.specs.Laws.Parts.{length_rest, length_part, part-is, part-rest, rd-take}
 use Rattle.forms.specs.Laws.Rows.{first}
 use Rattle.forms.specs.Laws.RowBytes.{head-length, took-left, laid-more}
 use Rattle.std.proofs.lemmas.List.{take-take}
-use Rattle.schemas.specs.SchemaBytes.{any}
+use Rattle.schemas.specs.SchemaBytes.{any, Inside}
+use Rattle.schemas.specs.Laws.Walks.{rest-take, used-take}
 use Rattle.schemas.specs.Entries.{key_is, entry_from, entry_at, row_bytes, LaidIn}
 use Rattle.schemas.specs.declared.sections.Section.{Section}
 use Rattle.schemas.specs.declared.entries.Key.{Key}
@@ -45,16 +46,6 @@ key-take (Uid t i) k es h = rw (rd-take k es 0 (omega arith), rd-take k es 2 (om
 
 -- Bytes behind the entries do not matter.
 module _ (w : ℕ) (wide : 4 ≤ w) where
-  rest-take : (k : ℕ) (es : List ℕ) → rest w (take k es) ≡ take (k - w) (rest w es)
-  rest-take k es = rest-is w (take k es) ∙ drop-take w k es ∙ ap (take (k - w)) (sym (rest-is w es))
-
-  used-take : (n k : ℕ) (es : List ℕ) → w * n ≤ k → used w n (take k es) ≡ used w n es
-  unfolding used
-  used-take zero k es h = refl
-  used-take (suc n) k es h =
-      let s = mul-suc w n in
-      rw (rd-take k es (w - 2) (omega arith), rest-take k es, used-take n (k - w) (rest w es) (omega arith)) refl
-
   entry-take : (key : Key) (n k : ℕ) (es bs : List ℕ) → w * n ≤ k → entry_from w key n (take k es) bs ≡ entry_from w key n es bs
   unfolding entry_from
   entry-take key zero k es bs h = refl
@@ -66,7 +57,7 @@ module _ (w : ℕ) (wide : 4 ≤ w) where
         take-take w k es (omega arith),
         ← part-is w es,
         rd-take k es (w - 2) (omega arith),
-        rest-take k es,
+        rest-take w k es,
         entry-take key n (k - w) (rest w es) (rest (rd es (w - 2)) bs) (omega arith),
       ) refl
 
@@ -101,9 +92,13 @@ find-start {w} key {x} {b} wide l {n} {es} {bs} q e f =
           record {
             wide = omega arith;
             sized = rw (← part-is k (rest x.entries b)) (length_part 0 k (rest x.entries b) (omega (arith, l.entries, length_rest x.entries b)) ∙ omega arith);
-            room = omega (arith, used-take w wide x.count k (rest x.entries b) (omega arith), l.room, length_rest x.bodies b);
+            room = omega (arith, used-take w (omega arith) x.count k (rest x.entries b) (omega arith), l.room, length_rest x.bodies b);
           };
     })
+
+-- Its rows can be read.
+pub laid-inside : {w : ℕ} {x : Section} {b : List ℕ} → LaidIn w x b → Inside w x b
+laid-inside l = record { entries = l.entries; bodies = omega (arith, l.room) }
 
 module _ {w : ℕ} {key : Key} {x : Section} {b : List ℕ} {left : ℕ} {es bs : List ℕ} (i : FindLeft w key x b left es bs) where
   pub find-end : left ≡ 0 → None ≡ entry_at w key x b

@@ -5,7 +5,7 @@ use Rattle.std.proofs.Common.{sym, ◌∙◌, arith, get_or-take}
 use Rattle.std.proofs.Math.Bool.{Bool, true, false, cond}
 use Rattle.std.proofs.Math.Option.{Option, none, some}
 use Rattle.std.proofs.Math.Dec.{eqb}
-use borrow.Author.Tests.{leb-true, eqb-true, eq-eqb, ne_eqb}
+use borrow.Author.Tests.{leb-true, eqb-true}
 use Rattle.cedar.specs.Bytes.{Bytes}
 use Rattle.cedar.specs.Types.{Attrs, Arg, maybe}
 use Rattle.cedar.specs.Limits.{Limits, allowed, block_bytes}
@@ -308,18 +308,6 @@ module _ {b : List ℕ} {x : Sections} (k : Sectioned b x) where
           go None p v = none-says v
 
 -- The answers of `find_function`.
-module _ (h : List ℕ) (r : Maybe ℕ) where
-  pub returns-some : get_or h 2 0 ≡ 1 → (n : ℕ) → n ≡ rd h 3 → r ≡ Some n → r ≡ cond (eqb (get_or h 2 0) 1) (Some (rd h 3)) None
-  returns-some e n q p = p ∙ rw (eq-eqb (get_or h 2 0) 1 e, q) refl
-
-  pub returns-none : (get_or h 2 0 ≡ 1 → ⊥) → r ≡ None → r ≡ cond (eqb (get_or h 2 0) 1) (Some (rd h 3)) None
-  returns-none e p = p ∙ rw (ne_eqb (get_or h 2 0) 1 e) refl
-
 pub signature-not : (o : Maybe Row) {g : Maybe (List ℕ × List ℕ)} → option_map row_bytes o ≡ g → o ≡ None →
     None ≡ option_map signature_of g
 signature-not o q h = ap (option_map signature_of) (ap (option_map row_bytes) (sym h) ∙ q)
-
-pub signature_at : (o : Maybe Row) {g : Maybe (List ℕ × List ℕ)} → option_map row_bytes o ≡ g → (r : Row) → o ≡ Some r → (returns : Maybe ℕ) →
-    returns ≡ cond (eqb (get_or r.head.now 2 0) 1) (Some (rd r.head.now 3)) None →
-    Some (returns, r.body.now) ≡ option_map signature_of g
-signature_at o q r h returns p = ap (λ (z : Maybe ℕ). Some (z, r.body.now)) p ∙ ap (option_map signature_of) (ap (option_map row_bytes) (sym h) ∙ q)

@@ -1,19 +1,23 @@
 -- The walk over a section, of any kind. Assumes nothing.
 use Rattle.std.proofs.Math.Path.{◌≡◌, refl}
-use Rattle.std.proofs.Common.{ap, ap₂, sym, subst, ◌∙◌, arith, le-leb}
-use Rattle.std.specs.Prelude.{Option, Some, None, List, Bool, not, ◌&&◌, ℕ, zero, suc, ◌+◌, ◌*◌, ◌-◌, ◌≤◌, ◌<◌, leb}
+use Rattle.std.proofs.Common.{ap, sym, ◌∙◌, arith, mul-suc, get_or-take}
+use Rattle.std.specs.Prelude.{Option, Some, None, List, Bool, ℕ, zero, suc, ◌+◌, ◌*◌, ◌-◌, ◌≤◌, ◌<◌, take}
 use Rattle.std.proofs.Math.Bool.{true, false, cond}
 use Rattle.std.proofs.Math.ListN.{length}
-use Rattle.std.proofs.lemmas.Bool.{lt-leb, not-true, not-false}
-use Rattle.forms.specs.Parts.{part, rest}
+use Rattle.forms.specs.Parts.{part, rest, rd}
 use Rattle.cedar.specs.Limits.{Limits}
-use Rattle.forms.specs.Rows.{body_length, rows_to}
+use Rattle.forms.specs.Rows.{Row, body_length, rows_to}
+use Rattle.forms.specs.RowBytes.{TookFirst}
 use Rattle.forms.specs.Search.{used}
-use Rattle.forms.specs.Laws.Parts.{and-not-l, and-not-r, and_yes, length_rest}
-use Rattle.forms.specs.Laws.Rows.{rows_step, rows_none, le-mul, mul-less}
+use Rattle.forms.specs.declared.rows.Row.{Row as FormRow}
+use Rattle.forms.specs.Laws.Parts.{length_rest, length_part, rest-is, part-is, part-rest, drop-take, rd-take}
+use Rattle.forms.specs.Laws.RowBytes.{took-left}
+use Rattle.forms.specs.Laws.Rows.{RowsLeft, rows_start, rows_end, le-mul}
+use Rattle.forms.specs.Laws.RowsTwin.{Local}
+use Rattle.forms.specs.Laws.RowsWithin.{within-short, within-unfit, within-body, within-again}
 use Rattle.forms.specs.Laws.Search.{used_step}
 use Rattle.forms.specs.Laws.Skips.{rows-used}
-use Rattle.schemas.specs.SchemaBytes.{LowOf, low_in, lowest, row_of, body_test, any, section_fits, section_end, Inside, passed_by}
+use Rattle.schemas.specs.SchemaBytes.{low_in, lowest, row_of, body_test, any, section_fits, section_end, Inside, passed_by}
 use Rattle.schemas.specs.declared.kinds.SectionKind.{SectionKind}
 use Rattle.schemas.specs.declared.kinds.SectionKind.TheVariants.{Entities, Actions, Functions}
 use Rattle.schemas.specs.declared.order.Low.{Low}
@@ -37,90 +41,124 @@ section-ends lim k x b h g =
     let r = rows-used (row_of k) (body_test lim k) any (body_test lim k) x.count (low_in k lowest) (rest x.entries b) (rest x.bodies b) h in
     omega (arith, r, length_rest x.bodies b)
 
--- The rows of a section that are left.
-abbrev left-rows : Limits → (k : SectionKind) → ℕ → Low → List ℕ → List ℕ → Bool
-left-rows lim k n low es bs = rows_to (row_of k) (body_test lim k) any n (low_in k low) es bs
+-- An entry of a section stands in its own bytes.
+pub rows-local : (k : SectionKind) → Local (row_of k)
+rows-local Entities =
+    record {
+      ok_at = λ s k es h. rw (get_or-take k es 2 0 (omega arith), rd-take k es 0 (omega arith)) refl;
+      next-at = λ k es h. rw (rd-take k es 0 (omega arith)) refl;
+      head_at = λ k es h. rw (get_or-take k es 2 0 (omega arith), rd-take k es 0 (omega arith)) refl;
+      length_at = λ k es h. rd-take k es 3 (omega arith);
+    }
+rows-local Actions =
+    record {
+      ok_at = λ s k es h. rw (rd-take k es 2 (omega arith), rd-take k es 0 (omega arith)) refl;
+      next-at = λ k es h. rw (rd-take k es 2 (omega arith), rd-take k es 0 (omega arith)) refl;
+      head_at = λ k es h. rw (rd-take k es 2 (omega arith), rd-take k es 0 (omega arith)) refl;
+      length_at = λ k es h. rd-take k es 4 (omega arith);
+    }
+rows-local Functions =
+    record {
+      ok_at = λ s k es h. rw (get_or-take k es 2 0 (omega arith), rd-take k es 0 (omega arith), rd-take k es 3 (omega arith)) refl;
+      next-at = λ k es h. rw (rd-take k es 0 (omega arith)) refl;
+      head_at = λ k es h. rw (get_or-take k es 2 0 (omega arith), rd-take k es 0 (omega arith), rd-take k es 3 (omega arith)) refl;
+      length_at = λ k es h. rd-take k es 5 (omega arith);
+    }
+
+-- Bytes behind the entries do not matter.
+pub rest-take : (w k : ℕ) (es : List ℕ) → rest w (take k es) ≡ take (k - w) (rest w es)
+rest-take w k es = rest-is w (take k es) ∙ drop-take w k es ∙ ap (take (k - w)) (sym (rest-is w es))
+
+pub used-take : (w : ℕ) → 2 ≤ w → (n k : ℕ) (es : List ℕ) → w * n ≤ k → used w n (take k es) ≡ used w n es
+unfolding used
+used-take w wide zero k es h = refl
+used-take w wide (suc n) k es h =
+    let s = mul-suc w n in
+    rw (rd-take k es (w - 2) (omega arith), rest-take w k es, used-take w wide n (k - w) (rest w es) (omega arith)) refl
+
+module _ {S H : Type 0} {r : Row S H} (l : Local r) (w : H → List ℕ → Bool) (e : List ℕ → Bool) where
+  rows-take : (n : ℕ) (s : S) (k : ℕ) (es bs : List ℕ) → r.width * n ≤ k → rows_to r w e n s (take k es) bs ≡ rows_to r w e n s es bs
+  unfolding rows_to
+  rows-take zero s k es bs h = refl
+  rows-take (suc n) s k es bs h =
+      let room : r.width ≤ k = omega (arith, mul-suc r.width n) in
+      rw (l.ok_at s k es room, l.length_at k es room, l.head_at k es room, l.next-at k es room, rest-take r.width k es) (
+        rw (rows-take n (r.next es) (k - r.width) (rest r.width es) (rest (body_length r es) bs) (omega (arith, mul-suc r.width n))) refl
+      )
+
+-- The entries of a section, and its bodies with all that is behind them.
+abbrev entries-of : ℕ → Section → List ℕ → List ℕ
+entries-of w x b = part x.entries (x.entries + w * x.count) b
 
 -- A walk that has come so far: what is left answers for the section, and what was passed are its bodies.
 pub record WalkLeft (lim : Limits) (k : SectionKind) (x : Section) (b : List ℕ) (left : ℕ) (low : Low) (e f : List ℕ) : Type 0 where
-  pub same : section_fits lim k x b ≡ left-rows lim k left low e f
-  pub sized : (row_of k).width * left ≤ length e
+  pub rows :
+      RowsLeft (row_of k) (body_test lim k) any x.count (low_in k lowest) (entries-of (row_of k).width x b) (rest x.bodies b) left (low_in k low) e f
+  pub same : section_fits lim k x b ≡ rows_to (row_of k) (body_test lim k) any x.count (low_in k lowest) (entries-of (row_of k).width x b) (rest x.bodies b)
   pub inside : length f ≤ length b
   pub split : section_end (row_of k).width x b ≡ length b - length f + used (row_of k).width left e
 
-pub walk_start : {lim : Limits} {k : SectionKind} {x : Section} {b : List ℕ} → Inside (row_of k).width x b →
-    WalkLeft lim k x b x.count lowest (rest x.entries b) (rest x.bodies b)
-walk_start {lim} {k} {x} {b} i =
-    record {
-      same = refl;
-      sized = omega (arith, length_rest x.entries b, i.entries);
+pub walk_start : {lim : Limits} {k : SectionKind} {x : Section} {b : List ℕ} {w : ℕ} → w ≡ (row_of k).width → Inside w x b →
+    {n : ℕ} {e f : List ℕ} → n ≡ x.count → e ≡ part x.entries (x.entries + w * x.count) b → f ≡ rest x.bodies b → WalkLeft lim k x b n lowest e f
+walk_start {lim} {k} {x} {b} {w} wq i {n} {e} {f} nq eq fq =
+    let width = (row_of k).width in
+    let many = width * x.count in
+    let cut : entries-of width x b ≡ take many (rest x.entries b) = sym (part-rest x.entries many b) ∙ part-is many (rest x.entries b) in
+    let j = rw wq at i in
+    rw (nq, eq, fq, wq)
+    (record {
+      rows = rows_start (length_part x.entries (x.entries + many) b j.entries ∙ omega arith);
+      same = rw cut (sym (rows-take (rows-local k) (body_test lim k) any x.count (low_in k lowest) many (rest x.entries b) (rest x.bodies b) (omega arith)));
       inside = omega (arith, length_rest x.bodies b);
-      split = omega (arith, length_rest x.bodies b, i.bodies);
-    }
+      split =
+          rw (cut, used-take width (omega (arith, at_least k)) x.count many (rest x.entries b) (omega arith)) (omega (arith, length_rest x.bodies b, j.bodies));
+    })
 
 module _ {lim : Limits} {k : SectionKind} {x : Section} {b : List ℕ} {left : ℕ} {low : Low} {e f : List ℕ} (i : WalkLeft lim k x b left low e f) where
-  broken : left-rows lim k left low e f ≡ false → None ≡ passed_by lim k x b
+  broken : false ≡ rows_to (row_of k) (body_test lim k) any x.count (low_in k lowest) (entries-of (row_of k).width x b) (rest x.bodies b) →
+      None ≡ passed_by lim k x b
   unfolding passed_by
-  broken h = rw (i.same ∙ h) refl
+  broken h = rw (i.same ∙ sym h) refl
 
   pub walk_end : left ≤ 0 → Some (length b - length f) ≡ passed_by lim k x b
   unfolding passed_by
   walk_end h =
       let z : length b - length f ≡ section_end (row_of k).width x b = omega (arith, i.split, used-none (row_of k).width left e h) in
-      rw (i.same ∙ rows_none (row_of k) (body_test lim k) any left (low_in k low) e f h, z) refl
+      rw (i.same ∙ sym (rows_end i.rows h true refl), z) refl
 
-  module _ (p : 0 < left) where
-    pub walk-room : (row_of k).width ≤ length e
-    walk-room = omega (arith, i.sized, le-mul (row_of k).width left p)
+  module _ {w : ℕ} (wq : w ≡ (row_of k).width) where
+    pub walk-sized : length e ≡ w * left
+    walk-sized = rw wq i.rows.sized
 
-    -- The first entry may follow, its body has room and is whole; the others.
-    abbrev fits : Bool
-    fits = (row_of k).ok (low_in k low) e
+    pub walk-short : 0 < left → length f < rd e (w - 2) → None ≡ passed_by lim k x b
+    walk-short p h = broken (within-short i.rows p (rw wq at h))
 
-    abbrev long : ℕ
-    long = body_length (row_of k) e
+    module _ {more : ℕ} {g d : List ℕ} {row : FormRow} (t : TookFirst w left e f more g d row) where
+      pub walk-head : (row_of k).width ≤ length row.head.now
+      walk-head =
+          let n = le-mul w left t.first.some in
+          omega (arith, wq, walk-sized, ap (λ (z : List ℕ). length z) t.first.head, length_part 0 w e (omega (arith, walk-sized, n)))
 
-    abbrev room : Bool
-    room = leb long (length f)
+      pub walk-unfit : (y : Bool) → y ≡ (row_of k).ok (low_in k low) row.head.now → y ≡ false → None ≡ passed_by lim k x b
+      walk-unfit y q h = broken (within-unfit i.rows (rows-local k) (rw wq at t) y q h)
 
-    abbrev whole : ℕ → Bool
-    whole j = body_test lim k ((row_of k).head e) (part 0 j f)
+      pub walk-body : (y : Bool) → y ≡ body_test lim k ((row_of k).head row.head.now) row.body.now → y ≡ false → None ≡ passed_by lim k x b
+      walk-body y q h = broken (within-body i.rows (rows-local k) (rw wq at t) y q h)
 
-    abbrev others : LowOf k → ℕ → Bool
-    others t j = rows_to (row_of k) (body_test lim k) any (left - 1) t (rest (row_of k).width e) (rest j f)
-
-    step : left-rows lim k left low e f ≡ (fits && (room && (whole long && others ((row_of k).next e) long)))
-    step = rows_step (row_of k) (body_test lim k) any left (low_in k low) e f p
-
-    pub walk-unfit : (y : Bool) → y ≡ fits → not y ≡ true → None ≡ passed_by lim k x b
-    walk-unfit y q h = broken (step ∙ sym (and-not-l fits _ (sym q ∙ not-true y h)))
-
-    module _ (n : ℕ) (q : n ≡ long) where
-      pub walk-short : length f < n → None ≡ passed_by lim k x b
-      walk-short h = broken (step ∙ sym (and-not-r fits _ (sym (and-not-l room _ (lt-leb long (length f) (omega arith))))))
-
-      module _ (y : Bool) (z : y ≡ whole n) where
-        pub walk-body : not y ≡ true → None ≡ passed_by lim k x b
-        walk-body h =
-            let no : whole long ≡ false = ap whole (sym q) ∙ sym z ∙ not-true y h in
-            broken (step ∙ sym (and-not-r fits _ (sym (and-not-r room _ (sym (and-not-l (whole long) _ no))))))
-
-        pub walk-again : not y ≡ false → (o : Bool) → o ≡ fits → not o ≡ false → n ≤ length f → (w : ℕ) → w ≡ (row_of k).width → (u : Low) →
-            low_in k u ≡ (row_of k).next e →
-            WalkLeft lim k x b (left - 1) u (rest w e) (rest n f)
-        walk-again yh o oq oh h w wq u uq =
-            subst (λ (j : ℕ). WalkLeft lim k x b (left - 1) u (rest j e) (rest n f)) (sym wq)
-            (record {
-              same =
-                  i.same ∙ step
-                  ∙ and_yes fits _ (sym oq ∙ not-false o oh)
-                  ∙ and_yes room _ (le-leb long (length f) (omega arith))
-                  ∙ and_yes (whole long) _ (ap whole (sym q) ∙ sym z ∙ not-false y yh)
-                  ∙ ap₂ others (sym uq) (sym q);
-              sized = omega (arith, length_rest (row_of k).width e, i.sized, mul-less (row_of k).width left p);
-              inside = omega (arith, length_rest n f, i.inside);
-              split = omega (arith, i.split, i.inside, length_rest n f, used_step (row_of k).width left e p);
-            })
+      pub walk-again : rd e (w - 2) ≤ length f → (o : Bool) → o ≡ (row_of k).ok (low_in k low) row.head.now → o ≡ true →
+          (y : Bool) → y ≡ body_test lim k ((row_of k).head row.head.now) row.body.now → y ≡ true → (u : Low) →
+          low_in k u ≡ (row_of k).next row.head.now → WalkLeft lim k x b more u g d
+      walk-again fit o oq oh y yq yh u uq =
+          let t₁ = rw wq at t in
+          let fit₁ = rw wq at fit in
+          record {
+            rows = within-again i.rows (rows-local k) t₁ o oq oh fit₁ y yq yh (low_in k u) uq;
+            same = i.same;
+            inside = omega (arith, ap (λ (z : List ℕ). length z) t₁.bodies, length_rest (rd e ((row_of k).width - 2)) f, i.inside);
+            split =
+                rw (t₁.entries, t₁.bodies, ← took-left t₁)
+                (omega (arith, i.split, i.inside, fit₁, length_rest (rd e ((row_of k).width - 2)) f, used_step (row_of k).width left e t.first.some));
+          }
 
 -- What an answer says.
 module _ (lim : Limits) (k : SectionKind) (x : Section) (b : List ℕ) (y : Option ℕ) (q : y ≡ passed_by lim k x b) where

@@ -1,6 +1,9 @@
 use Rattle.std.proofs.Common.{arith}
-use Rattle.schemas.specs.Laws.Entries.{find-start, find-head, find-here, find-again, find-end}
+use Rattle.schemas.specs.Laws.Entries.{laid-inside, find-start, find-head, find-here, find-again, find-end}
 use Rattle.schemas.proofs.entries.find_row.Goals as goal
+
+pub rows-rows-requires : goal.rows-rows-requires
+rows-rows-requires g c = (omega arith, laid-inside c.requires.laid)
 
 pub loop-row-init : goal.loop-row-init
 loop-row-init g c =

@@ -2,9 +2,8 @@ use Rattle.forms.specs.Limits.{as_limits}
 use Rattle.schemas.specs.Laws.Walks.{WalkLeft}
 use Rattle.schemas.proofs.sections.section_within.Given as goal
 
-abbrev pub invariant-loop-left : goal.invariant-loop-left
-invariant-loop-left l = WalkLeft (as_limits l.limits) l.kind
-    (record { count = l.initial.left; entries = l.start; bodies = l.bodies }) l.s l.left l.low l.e l.b
+abbrev pub invariant-loop-rows : goal.invariant-loop-rows
+invariant-loop-rows g l = WalkLeft (as_limits l.limits) l.kind l.fn.x l.s l.rows.left l.low l.rows.entries.now l.rows.bodies.now
 
-abbrev pub decreases-loop-left : goal.decreases-loop-left
-decreases-loop-left l = l.left
+abbrev pub decreases-loop-rows : goal.decreases-loop-rows
+decreases-loop-rows g l = l.rows.left
