@@ -11,8 +11,9 @@ ghost use Rattle.conformance.specs.Counts.{counts_of};
 ghost use Rattle.conformance.specs.Verdicts.{verdict_of};
 
 use crate::counts::{Under, left_over};
+use crate::kinds::takes_kind;
 use crate::verdicts::{Verdict, inside, tested};
-use forms::kinds::{ArgumentKind, ValueKind};
+use forms::kinds::{ArgumentKind, Kind, ValueKind};
 use forms::numbers::u16_at;
 use forms::offsets::{SchemaOffset, ValueOffset};
 use forms::rows::Rows;
@@ -69,14 +70,13 @@ fn argument_fits(under: &Under, asked: &[u8], v: &[u8], levels: usize) -> Verdic
     requires v_whole { whole_v levels v.now ≡ true }
     ensures { result ≡ verdict_of (of_argument (counts_of under.now.counts) (said_by under.now.schema) (dec_v levels v.now) (arg_at asked.now)) }
 {
-    let k = asked[0];
-    let j = v[0];
-    match k {
-        ArgumentKind::BOOL => tested(j <= ValueKind::TRUE),
-        ArgumentKind::LONG => tested(j == ValueKind::LONG),
-        ArgumentKind::STRING => tested(j == ValueKind::STRING),
-        _ => {
-            if j != ValueKind::CALL {
+    let kind = ValueKind::of(v);
+    match ArgumentKind::of(asked) {
+        ArgumentKind::Bool => tested(takes_kind(Kind::Bool, kind)),
+        ArgumentKind::Long => tested(takes_kind(Kind::Long, kind)),
+        ArgumentKind::String => tested(takes_kind(Kind::String, kind)),
+        ArgumentKind::Extension => {
+            if !takes_kind(Kind::Extension, kind) {
                 return Verdict::Fails;
             }
             let name = u16_at(asked, SchemaOffset::ARGUMENT_EXTENSION);

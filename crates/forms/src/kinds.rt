@@ -2,7 +2,7 @@
 ghost use Rattle.std.specs.Prelude.{◌≡◌, ◌<◌, ◌≤◌, length};
 ghost use Rattle.cedar.specs.Bytes.{flag};
 ghost use Rattle.forms.specs.Parts.{kind};
-ghost use Rattle.forms.specs.Kinds.{last_kind, kind_number, IsKind, last_value_kind, value_kind_number, IsValueKind, IsEntityKind, IsArgumentKind};
+ghost use Rattle.forms.specs.Kinds.{last_kind, kind_number, IsKind, last_value_kind, value_kind_number, IsValueKind, IsEntityKind, last_argument_kind, argument_kind_number, IsArgumentKind};
 
 // Kinds of type forms, in the order of their numbers.
 #[derive(Clone, Copy, Debug, PartialEq, Eq)]
@@ -157,6 +157,17 @@ impl TryFrom<u8> for ArgumentKind {
             4 => Ok(ArgumentKind::Extension),
             _ => Err(UnknownKind),
         }
+    }
+}
+
+impl ArgumentKind {
+    // The kind of a whole argument.
+    #[inline]
+    pub fn of(a: &[u8]) -> ArgumentKind
+        requires { (0 < length a.now) × ((0 < kind a.now) × (kind a.now ≤ last_argument_kind)) }
+        ensures { argument_kind_number result ≡ kind a.now }
+    {
+        ArgumentKind::try_from(a[0]).unwrap()
     }
 }
 

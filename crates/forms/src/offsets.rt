@@ -34,13 +34,8 @@ impl Offset {
 
     pub const EXTENSION_END: usize = 3;
 
-    // An attribute's entry: whether it is required, and the length of its body.
+    // An attribute's entry: whether it is required.
     pub const REQUIRED: usize = 2;
-
-    pub const BODY_LENGTH: usize = 3;
-
-    // A list of types: their lengths.
-    pub const LIST_ENTRIES: usize = 2;
 }
 
 // A value form.
@@ -65,24 +60,16 @@ impl ValueOffset {
 
     pub const UID_END: usize = 5;
 
-    // A set: its count of members, and their lengths.
+    // A set: its count of members.
     pub const SET_COUNT: usize = 1;
 
-    pub const SET_ENTRIES: usize = 3;
-
-    // A record: its count of pairs, and their entries; in an entry, the length of the value.
+    // A record: its count of pairs.
     pub const RECORD_COUNT: usize = 1;
 
-    pub const RECORD_ENTRIES: usize = 3;
-
-    pub const PAIR_LENGTH: usize = 2;
-
-    // A call: its function, its count of arguments, and their lengths.
+    // A call: its function, and its count of arguments.
     pub const FUNCTION: usize = 1;
 
     pub const CALL_COUNT: usize = 3;
-
-    pub const CALL_ENTRIES: usize = 5;
 }
 
 // A schema's counts, and the fields of its entries after the name.
@@ -98,17 +85,11 @@ impl SchemaOffset {
 
     pub const ENTITY_KIND: usize = 2;
 
-    pub const ENTITY_LENGTH: usize = 3;
-
     pub const ACTION_ID: usize = 2;
-
-    pub const ACTION_LENGTH: usize = 4;
 
     pub const RETURNS: usize = 2;
 
     pub const EXTENSION: usize = 3;
-
-    pub const FUNCTION_LENGTH: usize = 5;
 
     // An argument of a function: its extension.
     pub const ARGUMENT_EXTENSION: usize = 1;

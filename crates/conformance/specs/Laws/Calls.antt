@@ -1,6 +1,6 @@
 -- A value as an argument, and a call as a value of an extension. Assumes nothing.
 use Rattle.std.specs.Prelude.{◌≡◌, refl, List, true, false, ℕ, ◌-◌, eqb, leb, Option as Maybe, Some, None}
-use Rattle.std.proofs.Common.{ap, ap₂, sym, ◌∙◌, arith, eq-eqb, ne_eqb}
+use Rattle.std.proofs.Common.{ap, ap₂, sym, ◌∙◌, eq-eqb, ne_eqb}
 use Rattle.std.proofs.Math.Option.{none, some}
 use Rattle.cedar.specs.Types.{Arg, arg_bool, arg_long, arg_string, arg_ext, Value, Values, Schema, maybe}
 use Rattle.cedar.specs.ValueForm.{value_kind}
@@ -8,7 +8,7 @@ use Rattle.cedar.specs.Conformance.{verdict, and_then, unknown, fails, Counts, o
 use Rattle.forms.specs.Parts.{rd, kind}
 use Rattle.schemas.specs.Entries.{returns_of}
 use Rattle.schemas.specs.SchemaBytes.{arg_fits, arg_at}
-use Rattle.schemas.specs.Laws.Arguments.{arg-kind, arg-is-bool, arg-is-long, arg-is-string, arg-is-extension}
+use Rattle.schemas.specs.Laws.Arguments.{arg-is-bool, arg-is-long, arg-is-string, arg-is-extension}
 use Rattle.conformance.specs.declared.verdicts.Verdict.{Verdict}
 use Rattle.conformance.specs.declared.verdicts.Verdict.TheVariants.{Fails, Unknown}
 use Rattle.conformance.specs.Verdicts.{verdict_of, inside_of}
@@ -31,9 +31,9 @@ module _ (rule : Counts) (s : Schema) (k : List ℕ) (l : ℕ) (v : List ℕ) (a
   pub fit-string : kind k ≡ 3 → verdict_of (verdict (eqb (kind v) 3)) ≡ verdict_of (of_argument rule s (dec_v l v) (arg_at k))
   fit-string q = ap verdict_of (sym (opened arg_string (arg-is-string k a q) ∙ fits-string rule s (dec_v (l - 1)) v (kind v) (value-kind l v h)))
 
-  module _ (p1 : kind k ≡ 1 → ⊥) (p2 : kind k ≡ 2 → ⊥) (p3 : kind k ≡ 3 → ⊥) where
+  module _ (p : kind k ≡ 4) where
     extension : arg_at k ≡ arg_ext (rd k 1)
-    extension = let u = arg-kind k a in arg-is-extension k (omega (arith, u.0, u.1))
+    extension = arg-is-extension k p
 
     pub fit-not : (kind v ≡ 7 → ⊥) → Fails ≡ verdict_of (of_argument rule s (dec_v l v) (arg_at k))
     fit-not p = ap verdict_of (sym (opened (arg_ext (rd k 1)) extension ∙ fits-other rule s (dec_v (l - 1)) v (kind v) (value-kind l v h) (rd k 1) p))

@@ -1,4 +1,10 @@
-use Rattle.forms.specs.Parts.{rd}
+use Rattle.cedar.specs.Conformance.{verdict}
+use Rattle.forms.specs.Kinds.{argument_kind_number}
+use Rattle.forms.specs.Parts.{rd, kind}
+use Rattle.schemas.specs.Laws.Arguments.{arg-kind}
+use Rattle.conformance.specs.Kinds.{takes}
+use Rattle.conformance.specs.Verdicts.{verdict_of}
+use Rattle.std.proofs.lemmas.Bool.{eqb-false}
 use Rattle.schemas.specs.Laws.Finders.{function-at, function-not}
 use Rattle.conformance.specs.Laws.Calls.{call-unknown, call_none, call-other, call-arguments, fit-bool, fit-long, fit-string, fit-not, fit-call}
 use Rattle.schemas.specs.Schema.{said_by}
@@ -8,24 +14,51 @@ use Rattle.forms.specs.ValueBytes.{member_row, whole_v}
 use Rattle.conformance.specs.Laws.Arguments.{arguments-start, arguments-laid, arguments-end, arguments-few, arguments-over, argument-whole, argument-asked, arguments-stop}
 use Rattle.conformance.specs.Laws.Arguments.{arguments-again}
 use Rattle.forms.specs.Laws.Ahead.{table-count, table-entries}
-use Rattle.forms.specs.Laws.Values.{value-level, value-first, value_as}
+use Rattle.forms.specs.Laws.Values.{value-level, value-first, value-kind, value_as}
 use mathlib.Core.Path.{refl, ap, sym, ◌∙◌}
 use Rattle.std.proofs.Common.{ℕ, eqb, eqb-true}
 use Rattle.forms.specs.Laws.Views.{false-not}
 use native.Mathlib.Omega.{arith}
 use Rattle.conformance.proofs.calls.+argument_fits_arguments_fit_call_returns.Goals as goal
 
-pub argument_fits-bounds-asked-0 : goal.argument_fits-bounds-asked-0
-argument_fits-bounds-asked-0 t c = omega (arith, c.requires.in_bounds.0)
-
-pub argument_fits-bounds-v-0 : goal.argument_fits-bounds-v-0
-argument_fits-bounds-v-0 t c = value-first c.args.levels c.args.v.now c.requires.v_whole
-
-pub argument_fits-returns-then-j-ne-CALL : goal.argument_fits-returns-then-j-ne-CALL
-argument_fits-returns-then-j-ne-CALL t c =
-    let m = c.in_default.in_default-own.rest in
+pub argument_fits-of-kind-requires : goal.argument_fits-of-kind-requires
+argument_fits-of-kind-requires t c =
     let args = c.args in
-    fit-not _ _ args.asked.now args.levels args.v.now c.requires.in_bounds.1 c.requires.v_whole m.0.0.1 m.0.1 m.1 c.if-j-ne-CALL.true
+    (value-first args.levels args.v.now c.requires.v_whole, omega (arith, value-kind args.levels args.v.now c.requires.v_whole))
+
+pub argument_fits-of-requires : goal.argument_fits-of-requires
+argument_fits-of-requires t c =
+    let known = arg-kind c.args.asked.now c.requires.in_bounds.1 in
+    (omega (arith, c.requires.in_bounds.0), (omega (arith, known.0), omega (arith, known.1)))
+
+pub argument_fits-returns-in-Bool : goal.argument_fits-returns-in-Bool
+argument_fits-returns-in-Bool t c =
+    let args = c.args in
+    let asked = sym c.of.ensures ∙ ap argument_kind_number c.in-Bool.is in
+    c.tested.ensures ∙ ap (λ x. verdict_of (verdict x)) (c.takes_kind.ensures ∙ ap (takes 3) c.of-kind.ensures)
+    ∙ fit-bool _ _ args.asked.now args.levels args.v.now c.requires.in_bounds.1 c.requires.v_whole asked
+
+pub argument_fits-returns-in-Long : goal.argument_fits-returns-in-Long
+argument_fits-returns-in-Long t c =
+    let args = c.args in
+    let asked = sym c.of.ensures ∙ ap argument_kind_number c.in-Long.is in
+    c.tested-in-Long.ensures ∙ ap (λ x. verdict_of (verdict x)) (c.takes_kind-in-Long.ensures ∙ ap (takes 4) c.of-kind.ensures)
+    ∙ fit-long _ _ args.asked.now args.levels args.v.now c.requires.in_bounds.1 c.requires.v_whole asked
+
+pub argument_fits-returns-in-String : goal.argument_fits-returns-in-String
+argument_fits-returns-in-String t c =
+    let args = c.args in
+    let asked = sym c.of.ensures ∙ ap argument_kind_number c.in-String.is in
+    c.tested-in-String.ensures ∙ ap (λ x. verdict_of (verdict x)) (c.takes_kind-in-String.ensures ∙ ap (takes 5) c.of-kind.ensures)
+    ∙ fit-string _ _ args.asked.now args.levels args.v.now c.requires.in_bounds.1 c.requires.v_whole asked
+
+pub argument_fits-returns-then-not-takes_kind : goal.argument_fits-returns-then-not-takes_kind
+argument_fits-returns-then-not-takes_kind t c =
+    let args = c.args in
+    let asked = sym c.of.ensures ∙ ap argument_kind_number c.in-Extension.is in
+    let taken = c.takes_kind-in-Extension.ensures ∙ ap (takes 12) c.of-kind.ensures in
+    fit-not _ _ args.asked.now args.levels args.v.now c.requires.in_bounds.1 c.requires.v_whole asked
+    (eqb-false (kind args.v.now) 7 (sym taken ∙ c.if-not-takes_kind.true))
 
 pub argument_fits-u16_at-name-requires : goal.argument_fits-u16_at-name-requires
 argument_fits-u16_at-name-requires t c = omega (arith, c.requires.in_bounds.0)
@@ -35,35 +68,20 @@ argument_fits-overflow_sub-levels t c = omega (arith, value-level c.args.levels 
 
 pub argument_fits-call_returns-requires : goal.argument_fits-call_returns-requires
 argument_fits-call_returns-requires t c =
-    let args = c.args in (
+    let args = c.args in
+    let taken = c.takes_kind-in-Extension.ensures ∙ ap (takes 12) c.of-kind.ensures in (
       omega (arith, c.decreases, value-level args.levels args.v.now c.requires.v_whole),
-      (value_as args.levels args.v.now c.requires.v_whole 7 c.if-j-ne-CALL.false),
+      (value_as args.levels args.v.now c.requires.v_whole 7 (eqb-true (kind args.v.now) 7 (sym taken ∙ c.if-not-takes_kind.false))),
     )
 
-pub argument_fits-returns-in-1 : goal.argument_fits-returns-in-1
-argument_fits-returns-in-1 t c =
+pub argument_fits-returns-else-not-takes_kind : goal.argument_fits-returns-else-not-takes_kind
+argument_fits-returns-else-not-takes_kind t c =
     let args = c.args in
-    c.tested.ensures ∙ fit-bool _ _ args.asked.now args.levels args.v.now c.requires.in_bounds.1 c.requires.v_whole c.in-1.is
-
-pub argument_fits-returns-in-2 : goal.argument_fits-returns-in-2
-argument_fits-returns-in-2 t c =
-    let args = c.args in
-    c.tested-in-2.ensures ∙ fit-long _ _ args.asked.now args.levels args.v.now c.requires.in_bounds.1 c.requires.v_whole c.in-2.is
-
-pub argument_fits-returns-in-3 : goal.argument_fits-returns-in-3
-argument_fits-returns-in-3 t c =
-    let args = c.args in
-    c.tested-in-3.ensures ∙ fit-string _ _ args.asked.now args.levels args.v.now c.requires.in_bounds.1 c.requires.v_whole c.in-3.is
-
-pub argument_fits-returns-else-j-ne-CALL : goal.argument_fits-returns-else-j-ne-CALL
-argument_fits-returns-else-j-ne-CALL t c =
-    let call-returns-step = c.call_returns in
-    let u16-at = c.u16_at-name in
-    let if1 = c.if-j-ne-CALL in
-    let m = c.in_default.in_default-own.rest in
-    let args = c.args in
-    c.inside.ensures ∙ fit-call _ _ args.asked.now args.levels args.v.now c.requires.in_bounds.1 c.requires.v_whole m.0.0.1 m.0.1 m.1
-    if1.false u16-at.result u16-at.ensures.0 call-returns-step.result call-returns-step.ensures
+    let name = c.u16_at-name in
+    let asked = sym c.of.ensures ∙ ap argument_kind_number c.in-Extension.is in
+    let taken = c.takes_kind-in-Extension.ensures ∙ ap (takes 12) c.of-kind.ensures in
+    c.inside.ensures ∙ fit-call _ _ args.asked.now args.levels args.v.now c.requires.in_bounds.1 c.requires.v_whole asked
+    (eqb-true (kind args.v.now) 7 (sym taken ∙ c.if-not-takes_kind.false)) name.result name.ensures.0 c.call_returns.result c.call_returns.ensures
 
 pub arguments_fit-at-arguments-requires : goal.arguments_fit-at-arguments-requires
 arguments_fit-at-arguments-requires t c =
