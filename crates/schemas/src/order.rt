@@ -63,9 +63,7 @@ pub fn entity_follows(e: &[u8], low: usize) -> bool
     ensures { result ≡ entity_row.ok low e.now }
 {
     let name = u16_at(e, 0);
-    !is_action(name)
-        && EntityKind::try_from(e[SchemaOffset::ENTITY_KIND]).is_ok()
-        && low <= name
+    !is_action(name) && EntityKind::try_from(e[SchemaOffset::ENTITY_KIND]).is_ok() && low <= name
 }
 
 // Whether an action entry has an odd type above low, or low itself and an id of at least id.

@@ -36,14 +36,14 @@ names-of-entries d (suc n) es bs = ap (λ (ns : List ℕ). rd es 0 ∷ ns) (name
 pub unlike-lengths : (xs ys : List ℕ) → (length xs ≡ length ys → ⊥) → false ≡ eq_names xs ys
 unlike-lengths xs ys h = sym (not-T→false (eq_names xs ys) (λ t. h (ap length (eq_names→eq xs ys t))))
 
-pub names-more : (w n : ℕ) (b : List ℕ) → 2 ≤ w → names_by w n (take (w * n) b) ≡ names_by w n b
+names-cut : (w n : ℕ) (b : List ℕ) → 2 ≤ w → names_by w n (take (w * n) b) ≡ names_by w n b
 unfolding names_by
-names-more w zero b h = refl
-names-more w (suc n) b h =
+names-cut w zero b h = refl
+names-cut w (suc n) b h =
     let s : w * suc n ≡ w + w * n = mul-suc w n ∙ omega arith in
     let r : w * suc n - w ≡ w * n = omega (arith, s) in
     ap₂ (λ (x : ℕ) (xs : List ℕ). x ∷ xs) (rd-take (w * suc n) b 0 (omega (arith, s)))
-    (ap (names_by w n) (rest-is w (take (w * suc n) b) ∙ drop-take w (w * suc n) b ∙ rw r refl) ∙ names-more w n (drop w b) h ∙
+    (ap (names_by w n) (rest-is w (take (w * suc n) b) ∙ drop-take w (w * suc n) b ∙ rw r refl) ∙ names-cut w n (drop w b) h ∙
     ap (names_by w n) (sym (rest-is w b)))
 
 -- Names that ascend.
@@ -70,7 +70,7 @@ same_start w n m es fs h e p q {items} {left} l r s =
     let now = ap (λ (c : ChunksExact ℕ). c.rest.now) l ∙ r in
     record {
       many = n;
-      same = rw (now, names-more w n es h, e) refl;
+      same = rw (now, names-cut w n es h, e) refl;
       size = ap (λ (c : ChunksExact ℕ). c.size) l ∙ s;
       first = ap (λ (b : List ℕ). length b) now ∙ length-take (w * n) es ∙ omega (arith, p);
       second = rw e q;

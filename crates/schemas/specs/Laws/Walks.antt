@@ -83,7 +83,7 @@ module _ {S H : Type 0} {r : Row S H} (l : Local r) (w : H → List ℕ → Bool
   rows-take (suc n) s k es bs h =
       let room : r.width ≤ k = omega (arith, mul-suc r.width n) in
       rw (l.ok_at s k es room, l.length_at k es room, l.head_at k es room, l.next-at k es room, rest-take r.width k es) (
-        rw (rows-take n (r.next es) (k - r.width) (rest r.width es) (rest (body_length r es) bs) (omega (arith, mul-suc r.width n))) refl
+      rw (rows-take n (r.next es) (k - r.width) (rest r.width es) (rest (body_length r es) bs) (omega (arith, mul-suc r.width n))) refl
       )
 
 -- The entries of a section, and its bodies with all that is behind them.

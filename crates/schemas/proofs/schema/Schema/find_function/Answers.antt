@@ -16,4 +16,3 @@ u16_at-requires c = omega (arith, function-room c.args.self.now.sectioned c.args
 pub returns-in_err-row : goal.returns-in_err-row
 returns-in_err-row c =
     ap (option_map signature_bytes) c.from_residual.ensures ∙ signature-not c.find_row.result c.find_row.ensures c.in_err-row.was
-
