@@ -161,6 +161,7 @@ impl<'a, const WIDTH: usize> Rows<'a, WIDTH> {
         None
     }
     // Whether its rows have the same names as another table's, one by one.
+    #[inline]
     pub fn same_names(self, other: Rows<WIDTH>) -> bool
         requires wide { 2 ≤ WIDTH }
         requires sized { (WIDTH * self.left ≤ length self.entries.now) × (WIDTH * other.left ≤ length other.entries.now) }
