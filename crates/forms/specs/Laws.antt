@@ -25,3 +25,4 @@ pub mod SameForm
 pub mod Tables
 pub mod Codes
 pub mod Modes
+pub mod TypeForms

@@ -14,3 +14,4 @@ pub mod Names
 pub mod Codes
 pub mod Search
 pub mod Laws
+pub mod TypeForms

@@ -9,6 +9,8 @@ pub mod numbers;
 pub mod offsets;
 pub mod refusals;
 pub mod rows;
+pub mod shapes;
+pub mod type_forms;
 pub mod types;
 pub mod values;
 pub mod widths;

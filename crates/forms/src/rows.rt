@@ -61,6 +61,7 @@ impl<'a, const WIDTH: usize> Rows<'a, WIDTH> {
     pub fn at(t: &'a [u8], at: usize) -> Rows<'a, WIDTH>
         requires { at + 2 + WIDTH * rd t.now at ≤ length t.now }
         ensures left { result.left ≡ rd t.now at }
+        ensures few { result.left < 65536 }
         ensures entries { result.entries.now ≡ part (at + 2) (at + 2 + WIDTH * rd t.now at) t.now }
         ensures bodies { result.bodies.now ≡ rest (at + 2 + WIDTH * rd t.now at) t.now }
     {

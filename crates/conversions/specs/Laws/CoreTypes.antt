@@ -1,5 +1,5 @@
--- The core type of a form, by its kind. Assumes nothing.
-use Rattle.std.specs.Prelude.{◌≡◌, Bool, true, ℕ, suc, ◌+◌, ◌*◌, ◌-◌, ◌≤◌, eqb, length, get_or}
+-- The core type of a type, by what it is made of. Assumes nothing.
+use Rattle.std.specs.Prelude.{◌≡◌, Bool, ℕ, suc, ◌+◌, ◌*◌, ◌/◌, ◌≤◌, length}
 use Rattle.std.proofs.Math.Path.{refl, ap}
 use Rattle.std.proofs.Common.{sym, ◌∙◌}
 use mathlib.Core.List.{List, [], ◌∷◌, ◌++◌}
@@ -7,31 +7,31 @@ use Rattle.std.proofs.Math.Option.{Option, none, some}
 use native.Mathlib.Omega.{arith}
 use Rattle.std.proofs.Math.Decide.{ℕ_discrete}
 use borrow.Author.Tests.{ne_eqb}
-use Rattle.cedar.specs.Types.{Atom, never, true', false', bool, long, string, anyset, anyent, Ty, atom, set, rec, ent, ext, Attrs, nil, attr}
+use Rattle.cedar.specs.Types.{Atom, never, true', false', bool, long, string, anyset, anyent, Ty, atom, set, rec, act, ent, ext, Attrs, nil, attr}
 use Rattle.cedar.specs.Bytes.{u16, flag, ◌>>=◌}
-use Rattle.cedar.specs.TypeForm.{atom_code, count, enc}
+use Rattle.cedar.specs.TypeForm.{atom_code, count, enc, one}
 use Rattle.cedar.specs.Conversion.{convert, convert_attrs}
 use Rattle.cedar.specs.Result.{Result, ok, err, bind}
-use Rattle.forms.specs.Parts.{rest, rd, kind}
-use Rattle.forms.specs.TypeBytes.{names_by, dec_a, whole, dec, Sound}
-use Rattle.forms.specs.Laws.Parts.{rest-is}
-use Rattle.forms.specs.Laws.Sure.{rd-drop}
 use Rattle.cedar.specs.Outcome.{over}
 use Rattle.cedar.specs.Limits.{most_bytes}
+use Rattle.forms.specs.Kinds.{kind_number}
+use Rattle.forms.specs.Names.{names_in, Ascending}
+use Rattle.forms.specs.Parts.{rest, rd}
+use Rattle.forms.specs.TypeForms.{type_of, listed, IsPlain, TookFirstAttribute}
+use Rattle.forms.specs.declared.kinds.Kind.{Kind}
+use Rattle.forms.specs.declared.kinds.Kind.TheVariants as kinds
+use Rattle.forms.specs.declared.type_forms.AttributeForm.{AttributeForm}
+use Rattle.forms.specs.declared.type_forms.AttributeForms.{AttributeForms}
+use Rattle.forms.specs.TypeBytes.{names_by}
+use Rattle.forms.specs.Laws.Kinds.{kind-same}
+use Rattle.forms.specs.Laws.Names.{names-length}
+use Rattle.forms.specs.Laws.TypeForms.{plain-code}
 use Rattle.writing.specs.Written.{Written}
 use Rattle.writing.specs.FormLengths.{cap, table, form_length_of, form_of, Ready, or_refuse}
 use Rattle.writing.specs.Laws.Writing.{back}
 use Rattle.writing.specs.Laws.FormLengths.{Cut, before, Summing, summing-not, summing-more}
-use Rattle.forms.specs.Laws.Views.{is_set, is-entity, is-action, is-extension, is-atom}
-use Rattle.forms.specs.Laws.Attributes.{attrs-none}
-use Rattle.writing.specs.Laws.Laying.{behind-front, ready-room, written_known, Laying, laying-start, laying-end, laying-ready, laying-pos, laying-at}
+use Rattle.writing.specs.Laws.Laying.{ready-room, written_known, Laying, laying-start, laying-end, laying-ready}
 use Rattle.writing.specs.Laws.Laying.{laying-entry, laying-small, laying-more}
-use Rattle.forms.specs.Laws.Names.{names-length}
-use Rattle.forms.specs.Laws.Tables.{Split, split, record_is, attrs-count}
-use Rattle.forms.specs.Tables.{Left}
-use Rattle.forms.specs.declared.rows.Row.{Row}
-use Rattle.forms.specs.Laws.AttributeRows.{Attribute}
-use Rattle.forms.specs.Laws.Codes.{atom-code, atom-at}
 use Rattle.conversions.specs.CoreTypes.{core, core_attrs, bool_or}
 
 -- A step after another, with the refusal.
@@ -52,25 +52,43 @@ core-nil : core_attrs nil ≡ ok nil
 unfolding core_attrs convert
 core-nil = refl
 
-pub attrs-end : (l n : ℕ) (es bs : List ℕ) → n ≤ 0 → core_attrs (dec_a (dec l) n es bs) ≡ ok nil
-attrs-end l n es bs p = ap core_attrs (attrs-none (dec l) n es bs p) ∙ core-nil
+pub attrs-end : {xs : Attrs} → xs ≡ nil → core_attrs xs ≡ ok nil
+attrs-end e = ap core_attrs e ∙ core-nil
 
 -- An attribute that was taken from a list, and the others.
-module _ {l low m : ℕ} {xs : Attrs} {fs cs : List ℕ} {r : Row} (a : Attribute l low xs m fs cs r) where
-  core-step : core_attrs xs ≡ before (rd r.head.now 0) (eqb (get_or r.head.now 2 0) 1) (core (dec l r.body.now)) (core_attrs (dec_a (dec l) m fs cs))
-  core-step =
-      ap core_attrs a.is ∙ core-before (rd r.head.now 0) (eqb (get_or r.head.now 2 0) 1) (dec l r.body.now) (dec_a (dec l) m fs cs)
+module _ {xs ys : AttributeForms} {a : AttributeForm} (t : TookFirstAttribute xs ys a) where
+  abbrev Type' : Result Ty
+  Type' = core (type_of a.form)
+
+  abbrev Rest : Result Attrs
+  Rest = core_attrs (listed ys)
+
+  core-step : core_attrs (listed xs) ≡ before a.name a.required Type' Rest
+  core-step = ap core_attrs t.all ∙ core-before a.name a.required (type_of a.form) (listed ys)
 
   -- The loop of the length pass, where its type's length was asked.
-  module _ {all : Result Attrs} {sum : ℕ} (i : Summing all (core_attrs xs) sum) (x : Result ℕ) (told : x ≡ form_length_of enc (core (dec l r.body.now))) where
+  module _ {all : Result Attrs} {sum : ℕ} (i : Summing all (core_attrs (listed xs)) sum) (x : Result ℕ) (told : x ≡ form_length_of enc Type') where
     pub attrs-not : (d : ℕ) → x ≡ err d → err d ≡ form_length_of table all
-    attrs-not d q =
-        summing-not i (rd r.head.now 0) (eqb (get_or r.head.now 2 0) 1) (core (dec l r.body.now)) (core_attrs (dec_a (dec l) m fs cs)) core-step x told d q
+    attrs-not d q = summing-not i a.name a.required Type' Rest core-step x told d q
 
-    pub attrs-more : (k z : ℕ) → x ≡ ok k → z ≡ cap (sum + k + 5) → Summing all (core_attrs (dec_a (dec l) m fs cs)) z
-    attrs-more k z q g =
-        summing-more i (rd r.head.now 0) (eqb (get_or r.head.now 2 0) 1) (core (dec l r.body.now)) (core_attrs (dec_a (dec l) m fs cs)) core-step x told k z
-        q g
+    pub attrs-more : (k z : ℕ) → x ≡ ok k → z ≡ cap (sum + k + 5) → Summing all Rest z
+    attrs-more k z q g = summing-more i a.name a.required Type' Rest core-step x told k z q g
+
+  -- The loop of the write pass.
+  module _ {all : Result Attrs} {o : List ℕ} {at pos : ℕ} {out : List ℕ} (i : Laying all (core_attrs (listed xs)) o at pos out) where
+    pub core-ready : Ready enc Type' (rest pos out)
+    core-ready = laying-ready i a.name a.required Type' Rest core-step
+
+    module _ (zs : List ℕ) (x : ℕ) (w : Written (form_of enc Type') (rest pos out) zs x) where
+      pub core-entry : 5 ≤ length (rest at (back pos out zs))
+      core-entry = laying-entry i a.name a.required Type' Rest core-step zs x w
+
+      pub core-small : (x ≤ most_bytes) × ((pos + x ≤ most_bytes) × (at + 5 ≤ most_bytes))
+      core-small = laying-small i a.name a.required Type' Rest core-step zs x w
+
+      pub core-more : (vs : List ℕ) → vs ≡ over (u16 a.name ++ (flag a.required ∷ u16 x)) (rest at (back pos out zs)) →
+          Laying all Rest o (at + 5) (pos + x) (back at (back pos out zs) vs)
+      core-more vs h = laying-more i a.name a.required Type' Rest core-step zs x w vs h
 
 core-atom : (a : Atom) (k : ℕ) → atom_code a ≡ k → (k ≡ 0 → ⊥) → (k ≡ 9 → ⊥) → (c : Ty) × ((core (atom a) ≡ ok c) × (enc c ≡ bool_or k ∷ []))
 unfolding core convert enc
@@ -105,162 +123,109 @@ pub extension-long : (n : ℕ) → length (enc (ext n)) ≡ 3
 unfolding enc
 extension-long n = refl
 
-module _ (l : ℕ) (b : List ℕ) (h : whole l b ≡ true) where
-  pub never-core : kind b ≡ 0 → core (dec l b) ≡ err 8
-  unfolding core convert
-  never-core e = rw (atom-at l b h 0 e never refl) refl
+-- What is written is not refused.
+refused-not : {r : Result Ty} {d : ℕ} {o : List ℕ} → Ready enc r o → r ≡ err d → ⊥
+refused-not g e = let k = g.is in let z : ◌≡◌ {A = ℕ} 0 1 = cc in omega arith
 
-  pub any-core : kind b ≡ 9 → core (dec l b) ≡ err 8
-  unfolding core convert
-  any-core e = rw (atom-at l b h 9 e anyent refl) refl
-
-  pub set-cut : kind b ≡ 7 → Cut enc enc (7 ∷ []) (core (dec (l - 1) (rest 1 b))) (core (dec l b))
+-- The core type by what a type is made of.
+module _ (t : Ty) where
+  pub set-cut : {x : Ty} → t ≡ set x → Cut enc enc (7 ∷ []) (core x) (core t)
   unfolding core convert enc
-  set-cut e = record { make = set; is = rw (is_set l b h e).is (refuse-map 8 (convert (dec (l - 1) (rest 1 b))) set); cut = λ a q. refl }
+  set-cut {x} e = record { make = set; is = ap core e ∙ refuse-map 8 (convert x) set; cut = λ a q. refl }
 
-  pub record-cut : {n : ℕ} {es bs : List ℕ} → kind b ≡ 8 → Split 2 b n es bs →
-      Cut table enc (8 ∷ flag (eqb (get_or b 1 0) 1) ∷ u16 n) (core_attrs (dec_a (dec (l - 1)) n es bs)) (core (dec l b))
+  pub record-cut : {o : Bool} {xs : Attrs} {n : ℕ} → t ≡ rec o xs → n ≡ count xs → Cut table enc (8 ∷ flag o ∷ u16 n) (core_attrs xs) (core t)
   unfolding core core_attrs convert enc
-  record-cut {n} {es} {bs} e s =
-      let xs = dec_a (dec (l - 1)) n es bs in
+  record-cut {o} {xs} {n} e c =
       record {
-        make = λ cs. rec (eqb (get_or b 1 0) 1) cs;
-        is = rw (record_is l b h e s) (refuse-map 8 (convert_attrs xs) (λ cs. rec (eqb (get_or b 1 0) 1) cs));
-        cut = λ cs q. rw (core-count xs cs q ∙ attrs-count (dec (l - 1)) n es bs) refl;
+        make = λ cs. rec o cs;
+        is = ap core e ∙ refuse-map 8 (convert_attrs xs) (λ cs. rec o cs);
+        cut = λ cs q. rw (core-count xs cs q, ← c) refl;
       }
 
-  pub entity-core : kind b ≡ 10 → (n : ℕ) → n ≡ rd b 1 → n ≡ 1 → core (dec l b) ≡ ok (ent (rd b 3 ∷ []))
+  pub action-core : {n : ℕ} {xs : Attrs} → t ≡ act n xs → core t ≡ ok (ent (n ∷ []))
   unfolding core convert
-  entity-core e n q g =
-      let o : rd b 1 ≡ 1 = omega arith in
-      let d : rd (rest 3 b) 0 ≡ rd b 3 = ap (λ (z : List ℕ). rd z 0) (rest-is 3 b) ∙ rd-drop 3 b 0 in
-      rw ((is-entity l b h e).is, o, names-one (rest 3 b), d) refl
+  action-core e = ap core e
 
-  pub entities-core : kind b ≡ 10 → (n : ℕ) → n ≡ rd b 1 → (n ≡ 1 → ⊥) → core (dec l b) ≡ err 8
+  pub extension-core : {n : ℕ} → t ≡ ext n → core t ≡ ok (ext n)
   unfolding core convert
-  entities-core e n q g = rw ((is-entity l b h e).is, names-length 2 (rd b 1) (rest 3 b), ne_eqb (rd b 1) 1 (λ z. g (q ∙ z))) refl
+  extension-core e = ap core e
 
-  pub action-core : kind b ≡ 11 → core (dec l b) ≡ ok (ent (rd b 1 ∷ []))
-  unfolding core convert
-  action-core e = rw (is-action l b h e).is refl
+  -- Of an entity: one name or more.
+  module _ (ns : List ℕ) (e : t ≡ ent (names_in ns)) where
+    pub entity-core : length ns ≡ 2 → core t ≡ ok (ent (rd ns 0 ∷ []))
+    unfolding core convert
+    entity-core q = ap core (e ∙ ap ent one)
+      where
+        one : names_in ns ≡ rd ns 0 ∷ []
+        one = ap (λ (j : ℕ). names_by 2 j ns) (omega arith) ∙ names-one ns
 
-  pub extension-core : kind b ≡ 12 → core (dec l b) ≡ ok (ext (rd b 1))
-  unfolding core convert
-  extension-core e = rw (is-extension l b h e).is refl
+    pub entities-core : Ascending ns → (length ns ≡ 2 → ⊥) → core t ≡ err 8
+    unfolding core convert
+    entities-core a q = rw (e, names-length 2 (length ns / 2) ns, ne_eqb (length ns / 2) 1 (λ z. q (omega (arith, a.even, z)))) refl
 
   -- The length pass.
-  pub known-length : (c : Ty) (k : ℕ) → core (dec l b) ≡ ok c → length (enc c) ≡ k → k ≤ 5 → ok k ≡ form_length_of enc (core (dec l b))
+  pub known-length : (c : Ty) (k : ℕ) → core t ≡ ok c → length (enc c) ≡ k → k ≤ 5 → ok k ≡ form_length_of enc (core t)
   known-length c k e q p = rw (e, q) (ap ok (omega arith))
 
-  pub refused-length : core (dec l b) ≡ err 8 → err 8 ≡ form_length_of enc (core (dec l b))
+  pub refused-length : core t ≡ err 8 → err 8 ≡ form_length_of enc (core t)
   refused-length e = rw e refl
 
   -- A form of one byte.
-  module _ (p7 : kind b ≡ 7 → ⊥) (p8 : kind b ≡ 8 → ⊥) (p10 : kind b ≡ 10 → ⊥) (p11 : kind b ≡ 11 → ⊥) (p12 : kind b ≡ 12 → ⊥) (p0 : kind b ≡ 0 → ⊥)
-      (p9 : kind b ≡ 9 → ⊥) where
-    single : (c : Ty) × ((core (dec l b) ≡ ok c) × (enc c ≡ bool_or (kind b) ∷ []))
-    single =
-        let a = is-atom l b h p7 p8 p10 p11 p12 in
-        let s = core-atom a.kind-of (kind b) (atom-code a) p0 p9 in
-        (s.0, (ap core a.is ∙ s.1.0, s.1.1))
+  module _ {k : Kind} (p : IsPlain t k) where
+    pub never-core : k ≡ kinds.Never → core t ≡ err 8
+    unfolding core convert
+    never-core e = let z : one never ≡ one p.which = rw e at p.kind in let y : never ≡ p.which = cc in ap core p.is ∙ rw (← y) refl
 
-    pub atom-length : ok 1 ≡ form_length_of enc (core (dec l b))
-    atom-length = known-length single.0 1 single.1.0 (ap length single.1.1) (omega arith)
+    pub any-core : k ≡ kinds.AnyEntity → core t ≡ err 8
+    unfolding core convert
+    any-core e = let z : one anyent ≡ one p.which = rw e at p.kind in let y : anyent ≡ p.which = cc in ap core p.is ∙ rw (← y) refl
 
-    pub atom-written : {o : List ℕ} (g : Ready enc (core (dec l b)) o) →
-        (1 ≤ length o) × ((k : ℕ) (xs : List ℕ) → k ≡ bool_or (kind b) → xs ≡ over (k ∷ []) o → Written (form_of enc (core (dec l b))) o xs 1)
-    atom-written {o} g = (
-      omega (arith, ready-room g single.0 single.1.0, ap length single.1.1),
-      λ k xs q f. written_known g single.0 single.1.0 (k ∷ []) xs 1 (single.1.1 ∙ rw q refl) f refl,
-    )
+    single : (k ≡ kinds.Never → ⊥) → (k ≡ kinds.AnyEntity → ⊥) → (c : Ty) × ((core t ≡ ok c) × (enc c ≡ bool_or (kind_number k) ∷ []))
+    single p0 p9 =
+        let s = core-atom p.which (kind_number k) (plain-code p) (λ z. p0 (kind-same k kinds.Never z)) (λ z. p9 (kind-same k kinds.AnyEntity z)) in
+        (s.0, (ap core p.is ∙ s.1.0, s.1.1))
+
+    pub atom-length : (k ≡ kinds.Never → ⊥) → (k ≡ kinds.AnyEntity → ⊥) → ok 1 ≡ form_length_of enc (core t)
+    atom-length p0 p9 = let s = single p0 p9 in known-length s.0 1 s.1.0 (ap length s.1.1) (omega arith)
+
+    -- Where it is written, it is no kind that is refused.
+    module _ {o : List ℕ} (g : Ready enc (core t) o) where
+      ready-single : (c : Ty) × ((core t ≡ ok c) × (enc c ≡ bool_or (kind_number k) ∷ []))
+      ready-single = single (λ e. refused-not g (never-core e)) (λ e. refused-not g (any-core e))
+
+      pub atom-room : 1 ≤ length o
+      atom-room = omega (arith, ready-room g ready-single.0 ready-single.1.0, ap length ready-single.1.1)
+
+      pub atom-written : (j : ℕ) (xs : List ℕ) → j ≡ bool_or (kind_number k) → xs ≡ over (j ∷ []) o → Written (form_of enc (core t)) o xs 1
+      atom-written j xs q f = let s = ready-single in written_known g s.0 s.1.0 (j ∷ []) xs 1 (s.1.1 ∙ rw q refl) f refl
 
   -- The write pass, where the form is written at once.
-  module _ {o : List ℕ} (g : Ready enc (core (dec l b)) o) where
-    pub entity-room : (n : ℕ) → core (dec l b) ≡ ok (ent (n ∷ [])) → 5 ≤ length o
-    entity-room n e = omega (arith, ready-room g _ e, entity-long n)
+  module _ {o : List ℕ} (g : Ready enc (core t) o) where
+    pub entity-room : {n : ℕ} → core t ≡ ok (ent (n ∷ [])) → 5 ≤ length o
+    entity-room {n} e = omega (arith, ready-room g _ e, entity-long n)
 
-    pub entity-written : (n k : ℕ) (xs : List ℕ) → core (dec l b) ≡ ok (ent (n ∷ [])) → k ≡ n → xs ≡ over (10 ∷ u16 1 ++ u16 k) o →
-        Written (form_of enc (core (dec l b))) o xs 5
+    pub entity-written : {n : ℕ} (k : ℕ) (xs : List ℕ) → core t ≡ ok (ent (n ∷ [])) → k ≡ n → xs ≡ over (10 ∷ u16 1 ++ u16 k) o → Written (form_of enc (core t)) o xs 5
     unfolding enc
-    entity-written n k xs e q f = written_known g (ent (n ∷ [])) e (10 ∷ u16 1 ++ u16 k) xs 5 (rw q refl) f refl
+    entity-written {n} k xs e q f = written_known g (ent (n ∷ [])) e (10 ∷ u16 1 ++ u16 k) xs 5 (rw q refl) f refl
 
-    pub extension-room : kind b ≡ 12 → 3 ≤ length o
-    extension-room e = omega (arith, ready-room g _ (extension-core e), extension-long (rd b 1))
+    pub extension-room : {n : ℕ} → t ≡ ext n → 3 ≤ length o
+    extension-room {n} e = omega (arith, ready-room g _ (extension-core e), extension-long n)
 
-    pub extension-written : kind b ≡ 12 → (k : ℕ) (xs : List ℕ) → k ≡ rd b 1 → xs ≡ over (12 ∷ u16 k) o → Written (form_of enc (core (dec l b))) o xs 3
+    pub extension-written : {n : ℕ} (xs : List ℕ) → t ≡ ext n → xs ≡ over (12 ∷ u16 n) o → Written (form_of enc (core t)) o xs 3
     unfolding enc
-    extension-written e k xs q f = written_known g (ext (rd b 1)) (extension-core e) (12 ∷ u16 k) xs 3 (rw q refl) f refl
+    extension-written {n} xs e f = written_known g (ext n) (extension-core e) (12 ∷ u16 n) xs 3 refl f refl
 
-    -- Never, any entity and several names are refused.
-    pub never-not : kind b ≡ 0 → ⊥
-    never-not e =
-        let f = never-core e in
-        let k = g.is in
-        let z : ◌≡◌ {A = ℕ} 0 1 = cc in
-        omega arith
-
-    pub any-not : kind b ≡ 9 → ⊥
-    any-not e =
-        let f = any-core e in
-        let k = g.is in
-        let z : ◌≡◌ {A = ℕ} 0 1 = cc in
-        omega arith
-
-    pub record-front : kind b ≡ 8 → 4 ≤ length o
-    record-front e = behind-front (record-cut e (split refl refl refl)) g
-
-    pub one_name : kind b ≡ 10 → core (dec l b) ≡ ok (ent (rd b 3 ∷ []))
-    one_name e = go (ℕ_discrete (rd b 1) 1)
+    pub one_name : (ns : List ℕ) → t ≡ ent (names_in ns) → Ascending ns → (length ns ≡ 2) × (core t ≡ ok (ent (rd ns 0 ∷ [])))
+    one_name ns e a = go (ℕ_discrete (length ns) 2)
       where
-        go : Dec (rd b 1 ≡ 1) → core (dec l b) ≡ ok (ent (rd b 3 ∷ []))
-        go (yes p) = entity-core e (rd b 1) refl p
-        go (no p) =
-            let f = entities-core e (rd b 1) refl p in
-            let k = g.is in
-            let z : ◌≡◌ {A = ℕ} 0 1 = cc in
-            absurd (omega arith)
+        go : Dec (length ns ≡ 2) → (length ns ≡ 2) × (core t ≡ ok (ent (rd ns 0 ∷ [])))
+        go (yes p) = (p, entity-core ns e p)
+        go (no p) = absurd (refused-not g (entities-core ns e a p))
 
 -- The write pass over an attribute list.
-pub core-laying : {l n low : ℕ} {es bs o : List ℕ} → Sound l n low es bs → Ready table (core_attrs (dec_a (dec l) n es bs)) o →
-    Laying (core_attrs (dec_a (dec l) n es bs)) (core_attrs (dec_a (dec l) n es bs)) o 0 (5 * n) o
-core-laying {l} {n} {low} {es} {bs} s g = laying-start n g (λ xs e. core-count (dec_a (dec l) n es bs) xs e ∙ attrs-count (dec l) n es bs)
+pub core-laying : (xs : Attrs) (n : ℕ) {o : List ℕ} → n ≡ count xs → Ready table (core_attrs xs) o → Laying (core_attrs xs) (core_attrs xs) o 0 (5 * n) o
+core-laying xs n c g = laying-start n g (λ ys e. core-count xs ys e ∙ sym c)
 
-module _ {all : Result Attrs} {l n : ℕ} {es bs o : List ℕ} {at pos : ℕ} {out : List ℕ} (i : Laying all (core_attrs (dec_a (dec l) n es bs)) o at pos out)
-    (s : Left l n es bs) where
-  pub core-end : n ≤ 0 → Written (form_of table all) o out pos
-  core-end p = laying-end i (attrs-end l n es bs p)
-
--- An attribute that was taken, and the others.
-module _ {l low m : ℕ} {xs : Attrs} {fs cs : List ℕ} {r : Row} (a : Attribute l low xs m fs cs r) {all : Result Attrs} {o : List ℕ} {at pos : ℕ} {out : List ℕ}
-    (i : Laying all (core_attrs xs) o at pos out) where
-  abbrev name : ℕ
-  name = rd r.head.now 0
-
-  abbrev required : Bool
-  required = eqb (get_or r.head.now 2 0) 1
-
-  abbrev Type' : Result Ty
-  Type' = core (dec l r.body.now)
-
-  abbrev Rest : Result Attrs
-  Rest = core_attrs (dec_a (dec l) m fs cs)
-
-  pub core-pos : pos ≤ length out
-  core-pos = laying-pos i name required Type' Rest (core-step a)
-
-  pub core-ready : Ready enc Type' (rest pos out)
-  core-ready = laying-ready i name required Type' Rest (core-step a)
-
-  module _ (ys : List ℕ) (x : ℕ) (t : Written (form_of enc Type') (rest pos out) ys x) where
-    pub core_at : at + 5 ≤ length (back pos out ys)
-    core_at = laying-at i name required Type' Rest (core-step a) ys x t
-
-    pub core-entry : 5 ≤ length (rest at (back pos out ys))
-    core-entry = laying-entry i name required Type' Rest (core-step a) ys x t
-
-    pub core-small : (x ≤ most_bytes) × ((pos + x ≤ most_bytes) × (at + 5 ≤ most_bytes))
-    core-small = laying-small i name required Type' Rest (core-step a) ys x t
-
-    pub core-more : (k : ℕ) (f : Bool) (zs : List ℕ) → k ≡ name → f ≡ required → zs ≡ over (u16 k ++ (flag f ∷ u16 x)) (rest at (back pos out ys)) →
-        Laying all Rest o (at + 5) (pos + x) (back at (back pos out ys) zs)
-    core-more k f zs e g h = laying-more i name required Type' Rest (core-step a) ys x t zs (h ∙ rw (e, g) refl)
+pub core-end : {all : Result Attrs} {xs : Attrs} {o : List ℕ} {at pos : ℕ} {out : List ℕ} → Laying all (core_attrs xs) o at pos out → xs ≡ nil →
+    Written (form_of table all) o out pos
+core-end i e = laying-end i (attrs-end e)

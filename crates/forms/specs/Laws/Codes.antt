@@ -35,9 +35,12 @@ code-kind (suc (suc (suc (suc (suc (suc (suc (suc (suc (suc (suc zero)))))))))))
 code-kind (suc (suc (suc (suc (suc (suc (suc (suc (suc (suc (suc (suc zero)))))))))))) = refl
 code-kind (suc (suc (suc (suc (suc (suc (suc (suc (suc (suc (suc (suc (suc k))))))))))))) = refl
 
-pub atom-code : {l : ℕ} {b : List ℕ} (i : IsAtom l b) → atom_code i.kind-of ≡ kind b
+pub kind-code : (n : ℕ) (a : Atom) → kind_of n ≡ one a → atom_code a ≡ n
 unfolding code_of
-atom-code {l} {b} i = ap (λ (k : Kind). code_of k (kind b)) (sym i.kind-is) ∙ code-kind (kind b)
+kind-code n a e = ap (λ (k : Kind). code_of k n) (sym e) ∙ code-kind n
+
+pub atom-code : {l : ℕ} {b : List ℕ} (i : IsAtom l b) → atom_code i.kind-of ≡ kind b
+atom-code {l} {b} i = kind-code (kind b) i.kind-of i.kind-is
 
 pub code-dec : (l : ℕ) (b : List ℕ) → whole l b ≡ true → code (dec l b) ≡ kind b
 code-dec l b h = go (see l b h)

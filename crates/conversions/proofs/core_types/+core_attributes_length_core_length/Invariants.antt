@@ -1,21 +1,19 @@
 use Prim.Native.Nat.{◌+◌}
-use Rattle.forms.specs.TypeBytes.{dec, dec_a}
-use Rattle.forms.specs.Tables.{Left}
+use Rattle.std.specs.Prelude.{◌≡◌}
+use Rattle.forms.specs.TypeForms.{listed}
 use Rattle.writing.specs.Laws.FormLengths.{Summing}
 use Rattle.conversions.specs.CoreTypes.{core_attrs}
 use Rattle.conversions.proofs.core_types.+core_attributes_length_core_length.Given as goal
 
 abbrev pub decreases-core_attributes_length : goal.decreases-core_attributes_length
-decreases-core_attributes_length l = l.levels + l.levels + 1
+decreases-core_attributes_length l = l.attributes.levels + l.attributes.levels + 1
 
 abbrev pub decreases-core_length : goal.decreases-core_length
-decreases-core_length l = l.levels + l.levels
+decreases-core_length l = l.t.levels + l.t.levels
 
-abbrev pub invariant-core_attributes_length-loop-row : goal.invariant-core_attributes_length-loop-row
-invariant-core_attributes_length-loop-row l =
-    Left l.levels l.rows.left l.rows.entries.now l.rows.bodies.now
-    × Summing (core_attrs (dec_a (dec l.levels) l.fn.rows.left l.fn.rows.entries.now l.fn.rows.bodies.now))
-    (core_attrs (dec_a (dec l.levels) l.rows.left l.rows.entries.now l.rows.bodies.now)) l.sum
+abbrev pub invariant-core_attributes_length-loop-attribute : goal.invariant-core_attributes_length-loop-attribute
+invariant-core_attributes_length-loop-attribute l =
+    (l.attributes.levels ≡ l.fn.attributes.levels) × Summing (core_attrs (listed l.fn.attributes)) (core_attrs (listed l.attributes)) l.sum
 
-abbrev pub decreases-core_attributes_length-loop-row : goal.decreases-core_attributes_length-loop-row
-decreases-core_attributes_length-loop-row l = l.rows.left
+abbrev pub decreases-core_attributes_length-loop-attribute : goal.decreases-core_attributes_length-loop-attribute
+decreases-core_attributes_length-loop-attribute l = l.attributes.rows.left

@@ -1,0 +1,75 @@
+// What a type's form is made of, and the attributes of a list one by one.
+ghost use Rattle.forms.specs.Limits.{as_limits};
+ghost use Rattle.forms.specs.TypeForms.{TypeWithin, Shaped, TookAttribute};
+
+use crate::kinds::{Kind, Openness};
+use crate::limits::Limits;
+use crate::numbers::u16_at;
+use crate::offsets::Offset;
+use crate::rows::Rows;
+use crate::type_forms::{AttributeForm, AttributeForms, Shape, TypeForm};
+use crate::types::whole_type;
+
+impl<'a> TypeForm<'a> {
+    // Bytes that are a whole type form within limits.
+    pub fn within(bytes: &'a [u8], limits: Limits) -> Option<TypeForm<'a>>
+        ensures { TypeWithin (as_limits limits) bytes.entry result }
+    {
+        if !whole_type(bytes, limits) {
+            return None;
+        }
+        Some(TypeForm {
+            bytes,
+            levels: limits.levels,
+        })
+    }
+
+    // What it is made of.
+    #[inline]
+    pub fn shape(self) -> Shape<'a>
+        ensures { Shaped self.entry result }
+    {
+        let b = self.bytes;
+        match Kind::of(b) {
+            Kind::Set => Shape::Set(TypeForm {
+                bytes: &b[Offset::ELEMENT..],
+                levels: self.levels - 1,
+            }),
+            Kind::Record => {
+                let attributes = AttributeForms {
+                    rows: Rows::at(b, Offset::RECORD_COUNT),
+                    levels: self.levels - 1,
+                };
+                Shape::Record(b[Offset::OPEN] == Openness::OPEN, attributes)
+            }
+            Kind::Entity => Shape::Entity(&b[Offset::ENTITY_NAMES..]),
+            Kind::Action => {
+                let attributes = AttributeForms {
+                    rows: Rows::at(b, Offset::ACTION_COUNT),
+                    levels: self.levels - 1,
+                };
+                Shape::Action(u16_at(b, Offset::ACTION_NAME), attributes)
+            }
+            Kind::Extension => Shape::Extension(u16_at(b, Offset::EXTENSION_NAME)),
+            kind => Shape::Plain(kind),
+        }
+    }
+}
+
+impl<'a> AttributeForms<'a> {
+    // Takes the first attribute.
+    #[inline]
+    pub fn next(&mut self) -> Option<AttributeForm<'a>>
+        ensures { TookAttribute self.old self.new result }
+    {
+        let row = self.rows.next()?;
+        Some(AttributeForm {
+            name: row.name(),
+            required: row.is_required(),
+            form: TypeForm {
+                bytes: row.body,
+                levels: self.levels,
+            },
+        })
+    }
+}
