@@ -4,7 +4,7 @@ use Rattle.std.proofs.Math.Option.{none, some}
 use Rattle.std.specs.Borrow.{Bor}
 use Rattle.cedar.specs.Limits.{Limits}
 use Rattle.cedar.specs.Whole.{whole_type}
-use Rattle.cedar.specs.Types.{Atom, Ty, Attrs, atom, set, rec, act, ent, ext, nil, attr}
+use Rattle.cedar.specs.Types.{Atom, Ty, Attrs, atom, set, rec, act, ent, ext, nil, attr, find}
 use Rattle.cedar.specs.TypeForm.{one, kind_of}
 use Rattle.forms.specs.Kinds.{kind_number}
 use Rattle.forms.specs.Names.{names_in, Ascending}
@@ -56,3 +56,23 @@ pub record TookFirstAttribute (old new : AttributeForms) (x : AttributeForm) : T
 abbrev pub TookAttribute : AttributeForms → AttributeForms → Option AttributeForm → Type 0
 TookAttribute old new (Some x) = TookFirstAttribute old new x
 TookAttribute old new None = listed old ≡ nil
+
+-- Lower attributes were passed for good: later names are found in what is left.
+pub record PassedAttributes (old : AttributeForms) (name : ℕ) (new : AttributeForms) : Type 0 where
+  pub later : (k : ℕ) → name ≤ k → find k (listed old) ≡ find k (listed new)
+  pub levels : new.levels ≡ old.levels
+
+-- An attribute is the one of a name.
+pub record IsAttribute (xs : AttributeForms) (name : ℕ) (x : AttributeForm) : Type 0 where
+  pub found : find name (listed xs) ≡ some (x.required, type_of x.form)
+  pub named : x.name ≡ name
+  pub below : x.form.levels ≡ xs.levels
+
+-- The attribute of a name, or none has it.
+abbrev pub AttributeNamed : AttributeForms → ℕ → Option AttributeForm → Type 0
+AttributeNamed xs name (Some x) = IsAttribute xs name x
+AttributeNamed xs name None = find name (listed xs) ≡ none
+
+-- It was searched, and what is below it passed.
+abbrev pub SoughtAttribute : AttributeForms → ℕ → AttributeForms → Option AttributeForm → Type 0
+SoughtAttribute old name new r = PassedAttributes old name new × AttributeNamed old name r

@@ -1,6 +1,8 @@
 // What a type's form is made of, and the attributes of a list one by one.
+ghost use Rattle.std.specs.Prelude.{◌≡◌};
+ghost use Rattle.cedar.specs.Types.{names, eq_names};
 ghost use Rattle.forms.specs.Limits.{as_limits};
-ghost use Rattle.forms.specs.TypeForms.{TypeWithin, Shaped, TookAttribute};
+ghost use Rattle.forms.specs.TypeForms.{TypeWithin, listed, Shaped, TookAttribute, SoughtAttribute};
 
 use crate::kinds::{Kind, Openness};
 use crate::limits::Limits;
@@ -71,5 +73,29 @@ impl<'a> AttributeForms<'a> {
                 levels: self.levels,
             },
         })
+    }
+
+    // The attribute of a name, where the attributes below the name end, which are passed for good.
+    #[inline]
+    pub fn find(&mut self, name: usize) -> Option<AttributeForm<'a>>
+        ensures { SoughtAttribute self.old name self.new result }
+    {
+        let row = self.rows.find(name)?;
+        Some(AttributeForm {
+            name,
+            required: row.is_required(),
+            form: TypeForm {
+                levels: self.levels,
+                bytes: row.body,
+            },
+        })
+    }
+
+    // Whether two lists have the same names.
+    #[inline]
+    pub fn same_names(self, other: AttributeForms) -> bool
+        ensures { result ≡ eq_names (names (listed self.entry)) (names (listed other.entry)) }
+    {
+        self.rows.same_names(other.rows)
     }
 }

@@ -11,10 +11,10 @@ use Rattle.forms.specs.Names.{names_in, Ascending}
 use Rattle.forms.specs.Parts.{part, rest, rd, kind}
 use Rattle.forms.specs.Rows.{none_left, rows_to}
 use Rattle.forms.specs.TypeBytes.{names_up, attr_row, whole_a, whole, dec, Sound}
-use Rattle.forms.specs.RowBytes.{Taken}
+use Rattle.forms.specs.RowBytes.{Taken, Skipped}
 use Rattle.forms.specs.declared.rows.Row.{Row}
-use Rattle.forms.specs.Laws.AttributeRows.{taken-attribute}
-use Rattle.forms.specs.TypeForms.{type_of, listed, IsPlain}
+use Rattle.forms.specs.Laws.AttributeRows.{taken-attribute, ahead}
+use Rattle.forms.specs.TypeForms.{type_of, listed, IsPlain, PassedAttributes}
 use Rattle.forms.specs.declared.kinds.Kind.{Kind}
 use Rattle.forms.specs.declared.kinds.Kind.TheVariants as kinds
 use Rattle.forms.specs.declared.type_forms.AttributeForms.{AttributeForms}
@@ -85,6 +85,14 @@ sound-low {l} {n} {low} {es} {bs} s = record { sized = s.sized; good = go n s.go
 pub sound-taken : {l n m : ℕ} {es bs fs cs : List ℕ} (r : Option Row) → Sound l n 0 es bs → Taken 5 n es bs m fs cs r → Sound l m 0 fs cs
 sound-taken (Some x) s t = sound-low (taken-attribute s t).more
 sound-taken None s t = let e : _ ≡ _ = t.none ∙ sym t.left in rw (← e, t.entries, t.bodies) s
+
+-- What is left of a list where lower names were passed.
+module _ (xs : AttributeForms) (name : ℕ) {m : ℕ} {fs cs : List ℕ} (p : Skipped 5 xs.rows.left name xs.rows.entries.now xs.rows.bodies.now m fs cs) where
+  pub sound-ahead : Sound xs.levels m 0 fs cs
+  sound-ahead = sound-low (ahead xs.sound p).sound
+
+  pub passed-ahead : (ys : AttributeForms) → ys.levels ≡ xs.levels → ys.rows.left ≡ m → ys.rows.entries.now ≡ fs → ys.rows.bodies.now ≡ cs → PassedAttributes xs name ys
+  passed-ahead ys l n e b = record { later = λ k h. rw (l, n, e, b) ((ahead xs.sound p).later k h); levels = l }
 
 -- A list has as many attributes as rows.
 pub listed-count : (xs : AttributeForms) → count (listed xs) ≡ xs.rows.left
