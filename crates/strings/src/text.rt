@@ -1,5 +1,5 @@
 // Whether bytes are text: UTF-8 as in RFC 3629.
-ghost use Rattle.std.specs.Prelude.{◌≡◌, true, ◌+◌, ◌<◌, ◌≤◌, length, get_or};
+ghost use Rattle.std.specs.Prelude.{◌≡◌, true, ◌+◌, ◌-◌, ◌%◌, ◌<◌, ◌≤◌, length, get_or};
 ghost use Rattle.cedar.specs.Text.{tail, is_text};
 ghost use Rattle.strings.specs.Steps.{is_in, second_range, Width, Plain, Passes, PassesWide};
 
@@ -96,18 +96,29 @@ fn width(b: &[u8], at: usize) -> Option<usize>
     }
 }
 
-// Are the n bytes at `at` all below 128?
+// Of an odd number of bytes the last one, which is in no pair; else 0.
+fn odd_byte(b: &[u8], at: usize, n: usize) -> u16
+    requires { at + n ≤ length b.now }
+    ensures { n % 2 ≡ 1 → result ≡ get_or b.now (at + n - 1) 0 }
+{
+    if n % 2 == 0 {
+        return 0;
+    }
+    u16::from(b[at + n - 1])
+}
+
+// Are the n bytes at `at` all below 128? They are taken in pairs, and both bytes of all pairs together are tested.
 pub(crate) fn plain(b: &[u8], at: usize, n: usize) -> bool
     requires { at + n ≤ length b.now }
     ensures { result ≡ true → Plain b.now at n }
 {
-    let mut all: u8 = 0;
-    let mut j = 0;
-    while j < n {
-        all |= b[at + j];
-        j += 1;
+    let mut all = odd_byte(b, at, n);
+    for j in 0..n / 2 {
+        let i = at + 2 * j;
+        all |= u16::from_le_bytes([b[i], b[i + 1]]);
     }
-    all < 128
+    let [first, second] = all.to_le_bytes();
+    first < 128 && second < 128
 }
 
 // Past the blocks of n bytes from `at` on that are all below 128.

@@ -1,12 +1,12 @@
 -- What each step of the code says of the text from an index on. Assumes nothing.
-use Rattle.std.specs.Prelude.{ℕ, zero, suc, ◌+◌, ◌-◌, ◌<◌, ◌≤◌, Bool, true, false, ◌&&◌, ◌≡◌, T, Option, leb, ltb, length, get_or, take, drop}
-use Rattle.std.proofs.Common.{add-zero, add-one, arith, ap, ◌∙◌, subst, inl, inr, ltb→lt, length-drop, length-take, get_or-take, get_or-drop, drop_of_length-le, drop-cons, le-leb, ne_eqb}
+use Rattle.std.specs.Prelude.{ℕ, zero, suc, ◌+◌, ◌*◌, ◌/◌, ◌%◌, ◌-◌, ◌<◌, ◌≤◌, Bool, true, false, ◌&&◌, ◌≡◌, Option, leb, length, get_or, drop}
+use Rattle.std.proofs.Common.{add-zero, add-one, arith, ap, ◌∙◌, subst, inl, inr, length-drop, drop_of_length-le, drop-cons, le-leb, ne_eqb}
 use mathlib.Core.List.{List, [], ◌∷◌}
 use Rattle.std.proofs.Math.Path.{refl, sym}
 use Rattle.std.proofs.Math.Option.{none, some}
 use Rattle.std.specs.Bool.{then_some}
 use Rattle.std.specs.Int.Bits.{bit_or, or_add_and}
-use Rattle.std.proofs.lemmas.Nat.{and_le_l, and_le_r}
+use Rattle.std.proofs.lemmas.Nat.{and_le_l, and_le_r, or_mod, or_shr}
 use Rattle.std.proofs.lemmas.Bool.{lt-leb}
 use Rattle.cedar.specs.Types.{maybe}
 use Rattle.cedar.specs.Text.{Range, tail, text_rows, followed, goes_on, is_text}
@@ -271,24 +271,52 @@ module _ (b : List ℕ) (at : ℕ) (h : at < length b) where
 
 -- ---- Passing over characters
 
--- A byte of the n bytes at `at`.
-pub byte-of : (b : List ℕ) (at n j : ℕ) → j < length (take (at + n - at) (drop at b)) → get_or (take (at + n - at) (drop at b)) j 0 ≡ get_or b (at + j) 0
-byte-of b at n j h = get_or-take (at + n - at) (drop at b) j 0 (omega (arith, length-take (at + n - at) (drop at b))) ∙ get_or-drop at b j 0
+-- Two numbers, taken bit by bit together, are below 128 only if both are; so are their lower bytes, and what is above these.
+below_both : (x y : ℕ) → bit_or x y < 128 → (x < 128) × (y < 128)
+below_both x y h = omega (arith, or_add_and x y, and_le_l x y, and_le_r x y)
 
--- One byte more in a block, by all bits together.
-pub plain_more : (b : List ℕ) (at j all x : ℕ) → x ≡ get_or b (at + j) 0 → (all < 128 → Plain b at j) → bit_or all x < 128 → Plain b at (j + 1)
-plain_more b at j all x q f h =
-    let low : (all < 128) × (x < 128) = omega (arith, or_add_and all x, and_le_l all x, and_le_r all x) in
-    record {
-      each = λ k l. split k j (λ i. (f low.0).each k i)
-          (λ i. let e : j ≡ k = omega arith in subst (λ (m : ℕ). get_or b (at + m) 0 < 128) e (omega (arith, q, low.1)));
-    }
+low_both : (a w : ℕ) → bit_or a w % 256 < 128 → (a % 256 < 128) × (w % 256 < 128)
+low_both a w h =
+    let e : bit_or a w % 256 ≡ bit_or (a % 256) (w % 256) = or_mod a w 8 in
+    below_both (a % 256) (w % 256) (omega (arith, e, h))
+
+high_both : (a w : ℕ) → bit_or a w / 256 < 128 → (a / 256 < 128) × (w / 256 < 128)
+high_both a w h =
+    let e : bit_or a w / 256 ≡ bit_or (a / 256) (w / 256) = or_shr a w 8 in
+    below_both (a / 256) (w / 256) (omega (arith, e, h))
+
+-- Of a block of n bytes the first j pairs are below 128, and the byte that is in no pair.
+pub record Pairs (b : List ℕ) (at n j : ℕ) : Type 0 where
+  pub pairs : Plain b at (2 * j)
+  pub odd : n % 2 ≡ 1 → get_or b (at + n - 1) 0 < 128
 
 pub plain-none : (b : List ℕ) (at : ℕ) → Plain b at 0
 plain-none b at = record { each = λ k l. absurd (omega arith) }
 
-pub plain_end : (b : List ℕ) (at n j all : ℕ) → j ≤ n → n ≤ j → (all < 128 → Plain b at j) → ltb all 128 ≡ true → Plain b at n
-plain_end b at n j all p q f t = let e : j ≡ n = omega arith in subst (Plain b at) e (f (ltb→lt all 128 (subst T (sym t) tt)))
+pub pairs-none : (b : List ℕ) (at n all : ℕ) → (n % 2 ≡ 1 → all ≡ get_or b (at + n - 1) 0) → get_or b (at + n - 1) 0 < 256 → all % 256 < 128 → Pairs b at n 0
+pairs-none b at n all e byte low = record { pairs = plain-none b at; odd = λ h. omega (arith, e h, byte, low) }
+
+-- A pair more, by all bits together.
+pub pairs-more : (b : List ℕ) (at n j all w : ℕ) → (all % 256 < 128 → all / 256 < 128 → Pairs b at n j) → get_or b (at + 2 * j) 0 < 256 →
+    w ≡ get_or b (at + 2 * j) 0 + get_or b (at + 2 * j + 1) 0 * 256 → bit_or all w % 256 < 128 → bit_or all w / 256 < 128 → Pairs b at n (j + 1)
+pairs-more b at n j all w f byte e low high =
+    let before = f (low_both all w low).0 (high_both all w high).0 in
+    let first : get_or b (at + 2 * j) 0 < 128 = omega (arith, byte, e, (low_both all w low).1) in
+    let second : get_or b (at + 2 * j + 1) 0 < 128 = omega (arith, byte, e, (high_both all w high).1) in
+    record {
+      pairs = record {
+        each = λ k l. split k (2 * j) (λ i. before.pairs.each k i) (λ i. split k (2 * j + 1)
+            (λ i₂. let q : at + 2 * j ≡ at + k = omega arith in subst (λ (m : ℕ). get_or b m 0 < 128) q first)
+            (λ i₂. let q : at + 2 * j + 1 ≡ at + k = omega arith in subst (λ (m : ℕ). get_or b m 0 < 128) q second));
+      };
+      odd = before.odd;
+    }
+
+pub pairs-all : (b : List ℕ) (at n j : ℕ) → j ≤ n / 2 → n / 2 ≤ j → Pairs b at n j → Plain b at n
+pairs-all b at n j p q f = record {
+  each = λ k l. split k (2 * j) (λ i. f.pairs.each k i)
+      (λ i. let e : at + n - 1 ≡ at + k = omega arith in subst (λ (m : ℕ). get_or b m 0 < 128) e (f.odd (omega arith)));
+}
 
 -- A pass that has not begun, and one after another.
 pub passes_none : (b : List ℕ) (at : ℕ) → at ≤ length b → Passes b at at
