@@ -1,5 +1,5 @@
 -- The fold of an attribute over entity types, and the lookup of any type. Assumes nothing.
-use Rattle.std.specs.Prelude.{ℕ, ◌-◌, ◌≤◌, ◌<◌, List, ◌∷◌, ◌++◌, Bool, true, ◌&&◌, ◌≡◌, refl, length, take, drop, Option as Maybe, Some, None, Result as Outcome, Ok, Err}
+use Rattle.std.specs.Prelude.{ℕ, ◌-◌, ◌≤◌, ◌<◌, List, ◌∷◌, ◌++◌, Bool, true, ◌&&◌, ◌≡◌, refl, length, take, drop, Option as Maybe, Some, None, Result as RustResult, Ok, Err}
 use Rattle.std.specs.declared.slice.ChunksExact.{ChunksExact}
 use Rattle.std.proofs.Common.{arith, ap, sym, subst, ◌∙◌}
 use Rattle.std.proofs.Math.Option.{Option, none, some}
@@ -78,7 +78,7 @@ module _ {lim : Limits} {work : ℕ} {s : Said} {a : ℕ} {all : Result (Option 
     folding-lacks f = first-is ∙ rw f refl
 
     module _ (y : Bool) (t : List ℕ) (f : attr_of s a k ≡ some (y, dec (lim.levels - 1) t)) (last' : List ℕ) where
-      abbrev stepped : Outcome ℕ NoStep → Type 0
+      abbrev stepped : RustResult ℕ NoStep → Type 0
       stepped r = Stepped (below lim) (bound permissive (dec (lim.levels - 1) (part 0 x.bytes last)) (dec (lim.levels - 1) t)) work last' r
 
       pub folding-unbounded : (r : Refusal) → stepped (Err (Unbounded r)) → all ≡ ok none

@@ -1,5 +1,5 @@
 -- Name lists: the names of attributes, and those that are kept. Assumes nothing.
-use Rattle.std.specs.Prelude.{ℕ, ◌+◌, ◌*◌, ◌-◌, ◌≤◌, ◌<◌, List, [], ◌∷◌, ◌++◌, Bool, true, ◌≡◌, refl, length, Result as Outcome, Ok, Err, IsErr}
+use Rattle.std.specs.Prelude.{ℕ, ◌+◌, ◌*◌, ◌-◌, ◌≤◌, ◌<◌, List, [], ◌∷◌, ◌++◌, Bool, true, ◌≡◌, refl, length, Result as RustResult, Ok, Err, IsErr}
 use Rattle.std.proofs.Common.{arith, append_assoc, append-nil, ap, sym, ◌∙◌, length-append}
 use Rattle.std.proofs.Math.Option.{Option, none, some}
 use Rattle.cedar.specs.Types.{Ty, Schema as Said, maybe, names}
@@ -16,7 +16,7 @@ use Rattle.forms.specs.TypeBytes.{whole, dec}
 use Rattle.forms.specs.declared.rows.Row.{Row}
 use Rattle.forms.specs.declared.rows.Rows.{Rows}
 use Rattle.forms.specs.Laws.Attributes.{laid}
-use Rattle.forms.specs.Laws.RowBytes.{head-rd, head-length, laid-more, took-left}
+use Rattle.forms.specs.Laws.RowBytes.{head-rd, laid-more, took-left}
 use Rattle.forms.specs.Laws.Names.{names-first, names-none, names-length, names-of-entries}
 use Rattle.forms.specs.Laws.Views.{false-not, is-record, is-action, see, seen-set, seen-record, seen-entity, seen-action, seen-extension, seen-atom}
 use Rattle.forms.specs.Names.{names_in}
@@ -41,9 +41,6 @@ module _ (x y : Rows 5) {r : Row} (t : TookFirst 5 x.left x.entries.now x.bodies
   took-name k q =
       names-first 5 x.left x.entries.now t.first.some
       ∙ rw (q, head-rd t.first 0 (omega arith), took-left t, ← t.entries) refl
-
-  pub took-head : Laid 5 x.left x.entries.now x.bodies.now → length r.head.now ≡ 5
-  took-head l = head-length t.first l
 
 -- The loop that writes all names.
 pub record Naming (all o : List ℕ) (x : Rows 5) (pos : ℕ) (out : List ℕ) : Type 0 where
@@ -148,7 +145,7 @@ module _ {look : ℕ → Result (Option (Bool × Ty))} {all : Result (List ℕ)}
           go (ok ks) = ap ok (sym (append_assoc i.done (a ∷ []) ks))
           go (err e) = refl
 
-pub named-err : (o : Result (List ℕ)) (before after : List ℕ) (r : Outcome ℕ TooLong) → IsErr r → o ≡ err 9 → NamedBy o before after r
+pub named-err : (o : Result (List ℕ)) (before after : List ℕ) (r : RustResult ℕ TooLong) → IsErr r → o ≡ err 9 → NamedBy o before after r
 named-err o before after (Ok n) h e = false-not h
 named-err o before after (Err x) h e = e
 
