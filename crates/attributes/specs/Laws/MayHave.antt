@@ -1,9 +1,8 @@
 -- Whether a type may have an attribute, by the first byte of its form and by the entries of its entity types. Assumes nothing.
-use Rattle.std.specs.Prelude.{ℕ, zero, suc, ◌<◌, List, ◌++◌, Bool, true, false, ◌||◌, ◌≡◌, refl, is_some, length, get_or, Option as Maybe, Some, None}
+use Rattle.std.specs.Prelude.{ℕ, zero, suc, ◌<◌, List, ◌++◌, Bool, true, false, ◌||◌, ◌≡◌, refl, length, get_or}
 use Rattle.std.specs.declared.slice.ChunksExact.{ChunksExact}
 use Rattle.std.proofs.Common.{arith, ap, sym, ◌∙◌, eq-eqb, ne_eqb}
-use Rattle.std.proofs.Math.Option.{Option}
-use Rattle.cedar.specs.Types.{Atom, never, anyent, Ty, atom, Schema as Said, present, is}
+use Rattle.cedar.specs.Types.{Atom, never, anyent, atom, Schema as Said, present, is}
 use Rattle.cedar.specs.TypeForm.{Kind, one, set_kind, rec_kind, ent_kind, act_kind, ext_kind, no_kind, kind_of}
 use Rattle.cedar.specs.Attribute.{own_attr, may_have_type, may_have_names, may_have}
 use Rattle.forms.specs.Parts.{rest, rd, kind}
@@ -16,7 +15,6 @@ use Rattle.schemas.specs.declared.schema.Schema.{Schema}
 use Rattle.attributes.specs.declared.own_attribute.Attribute.{Attribute}
 use Rattle.attributes.specs.declared.entity_attribute.EntityAttribute.{EntityAttribute}
 use Rattle.attributes.specs.declared.entity_attribute.EntityAttribute.TheVariants.{Found, Absent, Missing}
-use Rattle.attributes.specs.Place.{Placed}
 use Rattle.attributes.specs.MayHave.{record_may_have}
 use Rattle.attributes.specs.EntityAttribute.{AttributeIn}
 use Rattle.attributes.specs.Laws.EntityAttribute.{attribute-found, attribute-absent, attribute-missing}
@@ -28,11 +26,6 @@ module _ (name l : ℕ) (b : List ℕ) (w : whole l b ≡ true) (k : kind b ≡ 
 
   pub closed-may-have : (r : Bool) → (get_or b 1 0 ≡ 1 → ⊥) → r ≡ present (own_attr name (dec l b)) → r ≡ record_may_have name (dec l b)
   closed-may-have r e q = q ∙ rw ((is-record l b w k).is, ne_eqb (get_or b 1 0) 1 e) refl
-
--- A place by its cases.
-pub placed-present : (l : ℕ) (b : List ℕ) (o : Option (Bool × Ty)) (r : Maybe Attribute) → Placed l b o r → is_some r ≡ present o
-placed-present l b o (Some x) p = rw p.is refl
-placed-present l b o None p = rw p refl
 
 -- An entity type, by what is found of it.
 module _ (s : Schema) (n name : ℕ) (r : EntityAttribute) (p : AttributeIn s n name r) where

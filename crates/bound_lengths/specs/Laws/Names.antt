@@ -6,7 +6,7 @@ use Rattle.std.proofs.Math.Decide.{dec_lt}
 use Rattle.cedar.specs.Types.{Mode, is_permissive, ent, eq_names}
 use Rattle.cedar.specs.TypeForm.{enc}
 use Rattle.cedar.specs.Laws.DirectBound.{direct_names}
-use Rattle.cedar.specs.Result.{ok, err}
+use Rattle.cedar.specs.Result.{ok}
 use Rattle.writing.specs.FormLengths.{cap, form_length_of}
 use Rattle.cedar.specs.Laws.Shape.{Ascend}
 use Rattle.cedar.specs.Bound.{insert, union}
@@ -99,11 +99,6 @@ step-both (n ∷ ns) (k ∷ ks) low low' p q a b e f = rw (y, z) (go (dec_lt n k
         let m : min n k ≡ n = omega arith in
         let v : k ≡ n = omega arith in
         rw (m, v) record { fewer = rw (here n ns, here n ks) (omega arith); is = rw (here n ns, here n ks) (union-same n ns ks a.1) }
-
-step-none : (ns ks : List ℕ) → slice_get ns 0 ≡ None → slice_get ks 0 ≡ None → union ns ks ≡ []
-step-none [] [] e f = refl
-step-none (n ∷ ns) ks e f = absurd (some-none e)
-step-none [] (k ∷ ks) e f = absurd (some-none f)
 
 -- The least of two first names comes next.
 pub step-first : (ns ks : List ℕ) (low low' n : ℕ) → Ascend low ns → Ascend low' ks → Some n ≡ least (slice_get ns 0) (slice_get ks 0) → Step ns ks n
@@ -223,8 +218,5 @@ module _ (M : Mode) (ns ks : List ℕ) where
   permissive-names e c x k h = rw (e, names-long (union ns ks)) (ap ok (omega arith))
 
   module _ (e : is_permissive M ≡ false) (r : Bool) (told : r ≡ eq_names ns ks) where
-    pub strict-not : r ≡ false → err 13 ≡ form_length_of enc (direct_names M ns ks)
-    strict-not h = rw (e, sym told ∙ h) refl
-
     pub strict-length : r ≡ true → (n x : ℕ) → n ≡ 3 + 2 * length ns → x ≡ cap n → ok x ≡ form_length_of enc (direct_names M ns ks)
     strict-length h n x l g = rw (e, sym told ∙ h, names-long ns) (ap ok (omega arith))

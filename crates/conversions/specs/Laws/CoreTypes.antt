@@ -24,7 +24,7 @@ use Rattle.writing.specs.Laws.Writing.{back}
 use Rattle.writing.specs.Laws.FormLengths.{Cut, before, Summing, summing-not, summing-more}
 use Rattle.forms.specs.Laws.Views.{is_set, is-entity, is-action, is-extension, is-atom}
 use Rattle.forms.specs.Laws.Attributes.{attrs-none}
-use Rattle.writing.specs.Laws.Laying.{behind-front, ready-room, written_known, Laying, laying-start, laying-end, laying-ready, laying-pos, laying-at}
+use Rattle.writing.specs.Laws.Laying.{behind-front, ready-room, written_known, Laying, laying-start, laying-end, laying-ready}
 use Rattle.writing.specs.Laws.Laying.{laying-entry, laying-small, laying-more}
 use Rattle.forms.specs.Laws.Names.{names-length}
 use Rattle.forms.specs.Laws.Tables.{Split, split, record_is, attrs-count}
@@ -245,16 +245,10 @@ module _ {l low m : ℕ} {xs : Attrs} {fs cs : List ℕ} {r : Row} (a : Attribut
   abbrev Rest : Result Attrs
   Rest = core_attrs (dec_a (dec l) m fs cs)
 
-  pub core-pos : pos ≤ length out
-  core-pos = laying-pos i name required Type' Rest (core-step a)
-
   pub core-ready : Ready enc Type' (rest pos out)
   core-ready = laying-ready i name required Type' Rest (core-step a)
 
   module _ (ys : List ℕ) (x : ℕ) (t : Written (form_of enc Type') (rest pos out) ys x) where
-    pub core_at : at + 5 ≤ length (back pos out ys)
-    core_at = laying-at i name required Type' Rest (core-step a) ys x t
-
     pub core-entry : 5 ≤ length (rest at (back pos out ys))
     core-entry = laying-entry i name required Type' Rest (core-step a) ys x t
 
