@@ -10,13 +10,13 @@ use Rattle.cedar.specs.Bound.{absent, join_equal, join_kept, join_one, join_reco
 use Rattle.cedar.specs.Laws.DirectBound.{direct, direct_attrs}
 use Rattle.forms.specs.Parts.{rest, rd, kind}
 use Rattle.forms.specs.RowBytes.{TookFirst, Skipped, Sought}
-use Rattle.forms.specs.Tables.{Tabled, attrs_at}
+use Rattle.forms.specs.Tables.{attrs_at}
 use Rattle.forms.specs.TypeBytes.{whole, dec, dec_a}
 use Rattle.forms.specs.declared.rows.Row.{Row}
-use Rattle.forms.specs.Laws.Tables.{Split, attrs-count}
+use Rattle.forms.specs.Laws.Tables.{attrs-count}
 use Rattle.writing.specs.Laws.FormLengths.{before}
 use Rattle.bound_lengths.specs.Pairs.{joined_attrs, joined_to, row_flag, joined_row}
-use Rattle.bound_lengths.specs.Laws.Pairs.{after, Joins, Walk, walk_end, walk_more, walk_step, start-walk}
+use Rattle.bound_lengths.specs.Laws.Pairs.{after, Joins, Walk, walk_end, walk_more, walk_step}
 use Rattle.bound_lengths.specs.Laws.Bounds.{set-join, record-join, entity-join, atoms-join}
 use Rattle.bounds.specs.Joins.{count_of, is_ok, is_kept, KeptWith}
 use Rattle.bounds.specs.Laws.UntypedSets.{loose-known, joined-known}
@@ -164,20 +164,6 @@ pub record Counting (d : Mode) (all : Result Attrs) (n l left : ℕ) (es bs : Li
   pub known : is_ok (direct_attrs d (dec_a (dec l) left es bs) (dec_a (dec l) m fs cs)) ≡ true
   pub same : count_of all ≡ num + count_of (direct_attrs d (dec_a (dec l) left es bs) (dec_a (dec l) m fs cs))
 
-pub counting-start : {l at : ℕ} {a b : List ℕ} → Tabled l at a → Tabled l at b → {left m : ℕ} {es bs fs cs : List ℕ} → Split at a left es bs → Split at b m fs cs →
-    left < 65536 → (d : Mode) →
-    is_ok (joined_attrs d (attrs_at l at a) (attrs_at l at b)) ≡ true → Counting d (joined_attrs d (attrs_at l at a) (attrs_at l at b)) left l left es bs m fs cs 0
-counting-start {l} {at} {a} {b} p q u v h d g =
-    let k = ok-known (joined_attrs d (attrs_at l at a) (attrs_at l at b)) g in
-    let j = joined-direct d (attrs_at l at a) (attrs_at l at b) k.0 k.1 in
-    record {
-      walk = start-walk d l at a b p q u v;
-      few = h;
-      most = omega arith;
-      known = rw (u.n-is, u.es-is, u.bs-is, v.n-is, v.es-is, v.bs-is) (ap is_ok (sym j) ∙ g);
-      same = rw (u.n-is, u.es-is, u.bs-is, v.n-is, v.es-is, v.bs-is) (ap count_of j ∙ omega arith);
-    }
-
 module _ {d : Mode} {all : Result Attrs} {n l left : ℕ} {es bs : List ℕ} {m : ℕ} {fs cs : List ℕ} {num : ℕ} (w : Counting d all n l left es bs m fs cs num) where
   pub counting-end : left ≤ 0 → num ≡ count_of all
   counting-end h = sym (w.same ∙ ap (λ (r : Result Attrs). num + count_of r) (walk_end d l left es bs (dec_a (dec l) m fs cs) h) ∙ omega arith)
@@ -191,9 +177,6 @@ module _ {d : Mode} {all : Result Attrs} {n l left : ℕ} {es bs : List ℕ} {m 
 
     after-is : is_ok (after (rd r.head.now 0) (joined_row d l r o) (direct_attrs d (dec_a (dec l) left' es' bs') (dec_a (dec l) m' fs' cs'))) ≡ true
     after-is = ap is_ok (sym step.is) ∙ w.known
-
-    pub counting-few : num + 1 < 65536
-    counting-few = omega (arith, w.few, w.most, t.left)
 
     pub counting_more : (x : Bool) (num' : ℕ) → is_kept (joined_row d l r o) ≡ x → num' ≡ num + cond x 1 0 →
         Counting d all n l left' es' bs' m' fs' cs' num'

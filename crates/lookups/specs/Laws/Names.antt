@@ -20,7 +20,7 @@ use Rattle.forms.specs.Laws.RowBytes.{head-rd, laid-more, took-left}
 use Rattle.forms.specs.Laws.Names.{names-first, names-none, names-length, names-of-entries}
 use Rattle.forms.specs.Laws.Views.{false-not, is-record, is-action, see, seen-set, seen-record, seen-entity, seen-action, seen-extension, seen-atom}
 use Rattle.forms.specs.Names.{names_in}
-use Rattle.schemas.specs.Schema.{limits_in, said_by}
+use Rattle.schemas.specs.Schema.{said_by}
 use Rattle.forms.specs.Laws.NamesIn.{names-of-entity, names-over, names-front}
 use Rattle.schemas.specs.declared.schema.Schema.{Schema}
 use Rattle.attributes.specs.EntityAttribute.{HasRows}
@@ -70,10 +70,6 @@ names-append : (ns ks : List ℕ) → enc_names (ns ++ ks) ≡ enc_names ns ++ e
 names-append [] ks = refl
 names-append (n ∷ ns) ks = ap (λ (l : List ℕ). u16 n ++ l) (names-append ns ks)
 
-bind-same : (r : Result (List ℕ)) → r ≡ bind r (λ ks. ok ([] ++ ks))
-bind-same (ok ks) = refl
-bind-same (err e) = refl
-
 -- The loop that keeps names: `all` is what it is to end with, `done` is kept.
 pub record Keeping (look : ℕ → Result (Option (Bool × Ty))) (all : Result (List ℕ)) (x : Rows 5) (o : List ℕ) (pos : ℕ) (out : List ℕ) : Type 0 where
   pub done : List ℕ
@@ -82,10 +78,6 @@ pub record Keeping (look : ℕ → Result (Option (Bool × Ty))) (all : Result (
   pub pos-is : pos ≡ length (enc_names done)
   pub out-is : out ≡ over (enc_names done) o
   pub room : pos + 2 * x.left ≤ length o
-
-pub keeping_start : (look : ℕ → Result (Option (Bool × Ty))) (x : Rows 5) (o : List ℕ) → Entered x o → Keeping look (keep_found look (names_of x)) x o 0 o
-keeping_start look x o h =
-    record { done = []; same = bind-same (keep_found look (names_of x)); laid = h.laid; pos-is = refl; out-is = refl; room = omega (arith, h.room) }
 
 module _ {look : ℕ → Result (Option (Bool × Ty))} {all : Result (List ℕ)} {x : Rows 5} {o : List ℕ} {pos : ℕ} {out : List ℕ}
     (i : Keeping look all x o pos out) where
@@ -162,9 +154,6 @@ module _ (s : Schema) (fits : Ty → Bool) (ns o : List ℕ) where
     no-entry h = ([], (ap (entity_names fits (said_by s)) types_are ∙ rw h refl, record { bytes = refl; many = refl }))
 
     module _ (x : Rows 5) (v : HasRows s k x) where
-      pub rows-entered : (limits_in s).bytes ≤ length o → length o ≤ most_bytes → Entered x o
-      rows-entered r l = record { laid = v.laid; room = omega (arith, r, v.few); size = l }
-
       pub rows-keep : keep_found (λ a. lookup_names fits (said_by s) a (names_in ns)) (names_of x) ≡ entity_names fits (said_by s) (names_in ns)
       rows-keep =
           ap (λ (l : List ℕ). keep_found (λ a. lookup_names fits (said_by s) a (names_in ns)) l) (sym v.is) ∙ sym (go (names_in ns) types_are)
