@@ -1,15 +1,15 @@
 -- The stand-in for arguments, and the loop of `arguments_fit`. Assumes nothing.
-use Rattle.std.specs.Prelude.{◌≡◌, List, [], ◌∷◌, Bool, true, false, ℕ, ◌≤◌, ◌<◌, eqb, leb, length, take, drop}
+use Rattle.std.specs.Prelude.{◌≡◌, List, [], ◌∷◌, Bool, true, false, ℕ, ◌+◌, ◌*◌, ◌≤◌, ◌<◌, eqb, leb, length, take, drop}
 use Rattle.std.proofs.Math.Path.{refl}
 use Rattle.std.proofs.Common.{ap, ap₂, sym, ◌∙◌, arith, ne_eqb}
 use Rattle.std.proofs.Math.Bool.{cond}
 use Rattle.std.proofs.Math.Option.{Option, none, some}
 use Rattle.cedar.specs.Types.{Arg, arg_bool, arg_long, arg_string, arg_ext, Value, boolean, number, text, uid, set_of, record_of, call, Values, end, value, Schema}
 use Rattle.cedar.specs.Types.{Function, maybe}
-use Rattle.cedar.specs.ValueForm.{value_kind, values_from}
+use Rattle.cedar.specs.ValueForm.{value_kind, call_kind, values_from}
 use Rattle.cedar.specs.Conformance.{Verdict as Said, holds, fails, fails_inside, unknown, verdict, and_then, Counts, shorter, exact, left_over, of_argument, of_arguments, is_extension}
 use Rattle.cedar.specs.Conformance.{function_of, returns_ext, is_arg, arg_extension}
-use Rattle.forms.specs.Parts.{rest}
+use Rattle.forms.specs.Parts.{part, rest, rd}
 use Rattle.forms.specs.Rows.{rows_of}
 use Rattle.std.proofs.Math.Decide.{dec_lt}
 use Rattle.forms.specs.Search.{Laid}
@@ -22,10 +22,11 @@ use Rattle.schemas.specs.Laws.Arguments.{arg-own, ArgFirst, args-first, args_non
 use Rattle.conformance.specs.declared.verdicts.Verdict.{Verdict}
 use Rattle.conformance.specs.declared.verdicts.Verdict.TheVariants.{Holds}
 use Rattle.conformance.specs.Verdicts.{verdict_of, inside_of}
-use Rattle.forms.specs.ValueBytes.{member_row, whole_v, dec_v, dec_v_as}
+use Rattle.forms.specs.ValueBytes.{member_row, whole_v, whole_v_as, dec_v, dec_v_as}
+use Rattle.conformance.specs.Walks.{arguments_of}
 use Rattle.conformance.specs.Laws.Verdicts.{Then, then-stop, then-on}
 use Rattle.conformance.specs.Laws.Tables.{by-table}
-use Rattle.forms.specs.Laws.Ahead.{Ahead, decoded-none}
+use Rattle.forms.specs.Laws.Ahead.{Ahead, decoded-none, table-ahead, table-decoded}
 
 -- Arguments that are no call, by the kind of value.
 module _ (rule : Counts) (s : Schema) (d : List ℕ → Value) (b : List ℕ) (j : ℕ) (h : j < 8) where
@@ -109,6 +110,17 @@ pub record ArgumentsAhead (l : ℕ) (rule : Counts) (s : Schema) (all : Said) (l
   pub rows : Ahead member_row (λ _. whole_v l) left tt e b
   pub asked : args_fit k ≡ true
   pub same : all ≡ of_arguments rule s (values_from (rows_of member_row (λ _. dec_v l) left e b)) (args_of k)
+
+pub arguments-start : (l : ℕ) (rule : Counts) (s : Schema) (v k : List ℕ) → whole_v_as (whole_v l) call_kind v ≡ true → args_fit k ≡ true →
+    {n : ℕ} {e b : List ℕ} → n ≡ rd v 3 → e ≡ part 5 (5 + 2 * rd v 3) v → b ≡ rest (5 + 2 * rd v 3) v →
+    ArgumentsAhead l rule s (of_arguments rule s (arguments_of l v) (args_of k)) n e b k
+arguments-start l rule s v k h a q x y =
+    rw (q, x, y)
+    (record {
+      rows = table-ahead member_row (λ _. whole_v l) tt 3 v h (rd v 3) refl;
+      asked = a;
+      same = ap (λ xs. of_arguments rule s (values_from xs) (args_of k)) (table-decoded member_row (λ _. whole_v l) tt 3 v h (rd v 3) refl (λ _. dec_v l));
+    })
 
 no_more : (rule : Counts) (s : Schema) → of_arguments rule s end [] ≡ holds
 unfolding of_arguments

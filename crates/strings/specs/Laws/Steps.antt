@@ -1,18 +1,27 @@
 -- What each step of the code says of the text from an index on. Assumes nothing.
-use Rattle.std.specs.Prelude.{ℕ, zero, suc, ◌+◌, ◌<◌, ◌≤◌, Bool, true, false, ◌&&◌, ◌≡◌, T, Option, ltb, length, get_or, drop}
-use Rattle.std.proofs.Common.{add-zero, add-one, arith, ap, ◌∙◌, subst, inl, inr, ltb→lt, length-drop, drop_of_length-le, drop-cons, ne_eqb}
+use Rattle.std.specs.Prelude.{ℕ, zero, suc, ◌+◌, ◌-◌, ◌<◌, ◌≤◌, Bool, true, false, ◌&&◌, ◌≡◌, T, Option, leb, ltb, length, get_or, take, drop}
+use Rattle.std.proofs.Common.{add-zero, add-one, arith, ap, ◌∙◌, subst, inl, inr, ltb→lt, length-drop, length-take, get_or-take, get_or-drop, drop_of_length-le, drop-cons, le-leb, ne_eqb}
 use mathlib.Core.List.{List, [], ◌∷◌}
 use Rattle.std.proofs.Math.Path.{refl, sym}
 use Rattle.std.proofs.Math.Option.{none, some}
 use Rattle.std.specs.Bool.{then_some}
 use Rattle.std.specs.Int.Bits.{bit_or, or_add_and}
 use Rattle.std.proofs.lemmas.Nat.{and_le_l, and_le_r}
+use Rattle.std.proofs.lemmas.Bool.{lt-leb}
 use Rattle.cedar.specs.Types.{maybe}
 use Rattle.cedar.specs.Text.{Range, tail, text_rows, followed, goes_on, is_text}
 use Rattle.cedar.proofs.Laws.Text.{split, rows-rise, followed-row, followed-none}
 use Rattle.strings.specs.Steps.{text_from, is_in, second_range, Character, Width, Passes, Plain}
 
 -- ---- Bytes in ranges
+
+pub in-below : (low high x : ℕ) → x < low → false ≡ is_in (low, high) x
+unfolding is_in
+in-below low high x h = sym (rw (lt-leb low x h))
+
+pub in_rest : (low high x : ℕ) → low ≤ x → leb x high ≡ is_in (low, high) x
+unfolding is_in
+in_rest low high x h = sym (rw (le-leb low x h))
 
 -- The range of a second byte, by the first.
 module _ (x y : ℕ) (t : Bool) where
@@ -262,6 +271,10 @@ module _ (b : List ℕ) (at : ℕ) (h : at < length b) where
 
 -- ---- Passing over characters
 
+-- A byte of the n bytes at `at`.
+pub byte-of : (b : List ℕ) (at n j : ℕ) → j < length (take (at + n - at) (drop at b)) → get_or (take (at + n - at) (drop at b)) j 0 ≡ get_or b (at + j) 0
+byte-of b at n j h = get_or-take (at + n - at) (drop at b) j 0 (omega (arith, length-take (at + n - at) (drop at b))) ∙ get_or-drop at b j 0
+
 -- One byte more in a block, by all bits together.
 pub plain_more : (b : List ℕ) (at j all x : ℕ) → x ≡ get_or b (at + j) 0 → (all < 128 → Plain b at j) → bit_or all x < 128 → Plain b at (j + 1)
 plain_more b at j all x q f h =
@@ -306,6 +319,11 @@ passes-block {b} {at} {i} (suc n) p h f =
     let before = passes-block {b = b} {at = at} {i = i} n p (omega arith) (record { each = λ k l. f.each k (omega arith) }) in
     let e : i + n + 1 ≡ i + suc n = omega arith in
     subst (Passes b at) e (passes-plain before (omega arith) (f.each n (omega arith)))
+
+-- Where plain bytes go on, a pass over wide characters is past its start.
+pub wide-stop : {b : List ℕ} {at i : ℕ} → Passes b at i → 128 ≤ get_or b at 0 → get_or b i 0 < 128 → at < i
+wide-stop {b} {at} {i} p l h = split at i (λ k. k)
+    (λ k. let e : at ≡ i = omega (arith, p.from) in let q = subst (λ (j : ℕ). 128 ≤ get_or b j 0) e l in absurd (omega arith))
 
 -- The ways out of the whole test.
 text-start : (b : List ℕ) → text_from b 0 ≡ is_text b

@@ -4,14 +4,19 @@ use Rattle.conformance.specs.Laws.Calls.{call-unknown, call_none, call-other, ca
 use Rattle.schemas.specs.Schema.{said_by}
 use Rattle.conformance.specs.Walks.{arguments_of}
 use Rattle.conformance.specs.Counts.{counts_of}
-use Rattle.conformance.specs.Laws.Arguments.{arguments-laid, arguments-end, arguments-few, arguments-over, argument-whole, argument-asked, arguments-stop}
+use Rattle.forms.specs.ValueBytes.{member_row, whole_v}
+use Rattle.conformance.specs.Laws.Arguments.{arguments-start, arguments-laid, arguments-end, arguments-few, arguments-over, argument-whole, argument-asked, arguments-stop}
 use Rattle.conformance.specs.Laws.Arguments.{arguments-again}
+use Rattle.forms.specs.Laws.Ahead.{table-count, table-entries}
 use Rattle.forms.specs.Laws.Values.{value-level, value-first, value_as}
-use mathlib.Core.Path.{ap, sym, ◌∙◌}
+use mathlib.Core.Path.{refl, ap, sym, ◌∙◌}
 use Rattle.std.proofs.Common.{ℕ, eqb, eqb-true}
 use Rattle.forms.specs.Laws.Views.{false-not}
 use native.Mathlib.Omega.{arith}
 use Rattle.conformance.proofs.calls.+argument_fits_arguments_fit_call_returns.Goals as goal
+
+pub argument_fits-bounds-asked-0 : goal.argument_fits-bounds-asked-0
+argument_fits-bounds-asked-0 t c = omega (arith, c.requires.in_bounds.0)
 
 pub argument_fits-bounds-v-0 : goal.argument_fits-bounds-v-0
 argument_fits-bounds-v-0 t c = value-first c.args.levels c.args.v.now c.requires.v_whole
@@ -21,6 +26,9 @@ argument_fits-returns-then-j-ne-CALL t c =
     let m = c.in_default.in_default-own.rest in
     let args = c.args in
     fit-not _ _ args.asked.now args.levels args.v.now c.requires.in_bounds.1 c.requires.v_whole m.0.0.1 m.0.1 m.1 c.if-j-ne-CALL.true
+
+pub argument_fits-u16_at-name-requires : goal.argument_fits-u16_at-name-requires
+argument_fits-u16_at-name-requires t c = omega (arith, c.requires.in_bounds.0)
 
 pub argument_fits-overflow_sub-levels : goal.argument_fits-overflow_sub-levels
 argument_fits-overflow_sub-levels t c = omega (arith, value-level c.args.levels c.args.v.now c.requires.v_whole)
@@ -57,6 +65,15 @@ argument_fits-returns-else-j-ne-CALL t c =
     c.inside.ensures ∙ fit-call _ _ args.asked.now args.levels args.v.now c.requires.in_bounds.1 c.requires.v_whole m.0.0.1 m.0.1 m.1
     if1.false u16-at.result u16-at.ensures.0 call-returns-step.result call-returns-step.ensures
 
+pub arguments_fit-at-arguments-requires : goal.arguments_fit-at-arguments-requires
+arguments_fit-at-arguments-requires t c =
+    (omega arith, table-entries member_row (λ _. whole_v c.args.levels) tt 3 c.args.v.now c.requires.v_whole _ refl)
+
+pub arguments_fit-loop-argument-init : goal.arguments_fit-loop-argument-init
+arguments_fit-loop-argument-init t c =
+    let rows = c.at-arguments.ensures in
+    arguments-start c.args.levels _ _ c.args.v.now c.args.asked.now c.requires.v_whole c.requires.asked_fit rows.left rows.entries rows.bodies
+
 pub arguments_fit-next-requires : goal.arguments_fit-next-requires
 arguments_fit-next-requires t c = (omega arith, arguments-laid c.loop-argument.invariant)
 
@@ -91,6 +108,9 @@ arguments_fit-returns-then-not-is_empty t c =
 pub arguments_fit-returns : goal.arguments_fit-returns
 arguments_fit-returns t c =
     arguments-end c.loop-argument.invariant c.in_default.ensures.none (eqb-true _ 0 (sym c.if-not-is_empty.ensures))
+
+pub call_returns-u16_at-name-requires : goal.call_returns-u16_at-name-requires
+call_returns-u16_at-name-requires t c = omega (arith, table-count member_row (λ _. whole_v c.args.levels) tt 3 c.args.v.now c.requires)
 
 pub call_returns-returns-in_default : goal.call_returns-returns-in_default
 call_returns-returns-in_default t c =
