@@ -6,7 +6,7 @@ use Rattle.std.proofs.Math.Decide.{dec_lt}
 use Rattle.cedar.specs.Types.{Mode, is_permissive, ent, eq_names}
 use Rattle.cedar.specs.TypeForm.{enc}
 use Rattle.cedar.specs.Laws.DirectBound.{direct_names}
-use Rattle.cedar.specs.Result.{ok}
+use Rattle.cedar.specs.Result.{ok, err}
 use Rattle.writing.specs.FormLengths.{cap, form_length_of}
 use Rattle.cedar.specs.Laws.Shape.{Ascend}
 use Rattle.cedar.specs.Bound.{insert, union}
@@ -218,5 +218,8 @@ module _ (M : Mode) (ns ks : List ℕ) where
   permissive-names e c x k h = rw (e, names-long (union ns ks)) (ap ok (omega arith))
 
   module _ (e : is_permissive M ≡ false) (r : Bool) (told : r ≡ eq_names ns ks) where
+    pub strict-not : r ≡ false → err 13 ≡ form_length_of enc (direct_names M ns ks)
+    strict-not h = rw (e, sym told ∙ h) refl
+
     pub strict-length : r ≡ true → (n x : ℕ) → n ≡ 3 + 2 * length ns → x ≡ cap n → ok x ≡ form_length_of enc (direct_names M ns ks)
     strict-length h n x l g = rw (e, sym told ∙ h, names-long ns) (ap ok (omega arith))
