@@ -1,5 +1,5 @@
 -- Bounds by kinds alone. Assumes nothing: these are definitions.
-use Rattle.std.specs.Prelude.{ℕ, Bool, ◌&&◌, cond, leb, Result as Answer, Ok, Err}
+use Rattle.std.specs.Prelude.{ℕ, Bool, ◌&&◌, cond, leb, Result as RustResult, Ok, Err}
 use Rattle.cedar.specs.Types.{Mode, is_permissive, bool, anyset, anyent, Ty, atom}
 use Rattle.cedar.specs.Result.{Result, ok, err, entity_type, entity_record, no_bound}
 use Rattle.forms.specs.Codes.{code}
@@ -30,6 +30,6 @@ joined_of (ok t) = ok (code t)
 joined_of (err e) = err e
 
 -- What the code answers, with the kind's number and the refusal's.
-abbrev pub seen_kind : Answer Kind Refusal → Result ℕ
+abbrev pub seen_kind : RustResult Kind Refusal → Result ℕ
 seen_kind (Ok k) = ok (kind_number k)
 seen_kind (Err e) = err (number_of e)

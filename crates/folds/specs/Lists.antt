@@ -1,5 +1,5 @@
 -- The fold of a list. Assumes nothing: these are definitions.
-use Rattle.std.specs.Prelude.{ℕ, ◌≤◌, ◌<◌, List, true, ◌≡◌, Result as Answer, Ok, Err, length}
+use Rattle.std.specs.Prelude.{ℕ, ◌≤◌, ◌<◌, List, true, ◌≡◌, Result as RustResult, Ok, Err, length}
 use Rattle.cedar.specs.Types.{Ty}
 use Rattle.cedar.specs.Limits.{Limits, most_bytes}
 use Rattle.cedar.specs.Result.{Result, ok, err}
@@ -19,6 +19,6 @@ pub record Opened (lim : Limits) (list last : List ℕ) : Type 0 where
   pub room : lim.bytes ≤ length last
 
 -- A fold's answer: a bound, its form left in the first bytes of `last`; or a refusal.
-abbrev pub FoldsTo : Limits → Result Ty → List ℕ → Answer ℕ Refusal → Type 0
+abbrev pub FoldsTo : Limits → Result Ty → List ℕ → RustResult ℕ Refusal → Type 0
 FoldsTo lim f last (Ok n) = (f ≡ ok (dec lim.levels (part 0 n last))) × Held lim n last
 FoldsTo lim f last (Err e) = f ≡ err (number_of e)

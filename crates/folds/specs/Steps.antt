@@ -1,5 +1,5 @@
 -- The steps of a fold. Assumes nothing: these are definitions.
-use Rattle.std.specs.Prelude.{ℕ, ◌≤◌, List, true, false, ◌≡◌, Result as Answer, Ok, Err, length}
+use Rattle.std.specs.Prelude.{ℕ, ◌≤◌, List, true, false, ◌≡◌, Result as RustResult, Ok, Err, length}
 use Rattle.cedar.specs.Types.{Ty}
 use Rattle.cedar.specs.TypeForm.{enc}
 use Rattle.cedar.specs.Limits.{Limits, most_bytes}
@@ -28,7 +28,7 @@ pub record Held (lim : Limits) (len : ℕ) (last : List ℕ) : Type 0 where
 
 -- A step's answer: the bound b within a workspace of so many bytes, its form left in the first bytes of `last`; no bound, with its reason; or one
 -- too long.
-abbrev pub Stepped : Limits → Result Ty → ℕ → List ℕ → Answer ℕ NoStep → Type 0
+abbrev pub Stepped : Limits → Result Ty → ℕ → List ℕ → RustResult ℕ NoStep → Type 0
 Stepped lim b work last (Ok n) = (b ≡ ok (dec lim.levels (part 0 n last))) × (step_fits lim work (dec lim.levels (part 0 n last)) ≡ true) × Held lim n last
 Stepped lim b work last (Err (Unbounded e)) = b ≡ err (number_of e)
 Stepped lim b work last (Err TooLong) = (c : Ty) × ((b ≡ ok c) × (step_fits lim work c ≡ false))

@@ -1,5 +1,5 @@
 -- A lookup: what it asks, and how it ends. Assumes nothing: these are definitions.
-use Rattle.std.specs.Prelude.{ℕ, ◌≤◌, ◌-◌, List, Bool, true, ◌≡◌, length, Option as Maybe, Some, None, Result as Outcome, Ok, Err}
+use Rattle.std.specs.Prelude.{ℕ, ◌≤◌, ◌-◌, List, Bool, true, ◌≡◌, length, Option as Maybe, Some, None, Result as RustResult, Ok, Err}
 use Rattle.std.proofs.Math.Option.{Option, none, some}
 use Rattle.cedar.specs.Types.{Ty}
 use Rattle.cedar.specs.Limits.{Limits}
@@ -27,7 +27,7 @@ pub record Asked (lim : Limits) (t last : List ℕ) : Type 0 where
   pub room : lim.bytes ≤ length last
 
 -- The lookup o ends: with an attribute, whose form stands in the first bytes of `last`; with none; or with 9.
-abbrev pub LookedUp : Limits → Result (Option (Bool × Ty)) → List ℕ → Outcome (Maybe Looked) TooLong → Type 0
+abbrev pub LookedUp : Limits → Result (Option (Bool × Ty)) → List ℕ → RustResult (Maybe Looked) TooLong → Type 0
 LookedUp lim o last (Ok (Some x)) = (o ≡ ok (some (x.required, dec (lim.levels - 1) (part 0 x.bytes last)))) × Held (below lim) x.bytes last
 LookedUp lim o last (Ok None) = o ≡ ok none
 LookedUp lim o last (Err e) = o ≡ err step_too_long

@@ -1,5 +1,5 @@
 -- Name lists: what is asked, and how one ends. Assumes nothing: these are definitions.
-use Rattle.std.specs.Prelude.{ℕ, ◌*◌, ◌≤◌, List, ◌≡◌, length, Result as Outcome, Ok, Err}
+use Rattle.std.specs.Prelude.{ℕ, ◌*◌, ◌≤◌, List, ◌≡◌, length, Result as RustResult, Ok, Err}
 use Rattle.cedar.specs.Bytes.{enc_names}
 use Rattle.cedar.specs.Limits.{most_bytes}
 use Rattle.cedar.specs.Result.{Result, ok, err, step_too_long}
@@ -15,6 +15,6 @@ pub record Entered (x : Rows 5) (kept : List ℕ) : Type 0 where
   pub size : length kept ≤ most_bytes
 
 -- The name list o ends: with the bytes of its names written, or with 9.
-abbrev pub NamedBy : Result (List ℕ) → List ℕ → List ℕ → Outcome ℕ TooLong → Type 0
+abbrev pub NamedBy : Result (List ℕ) → List ℕ → List ℕ → RustResult ℕ TooLong → Type 0
 NamedBy o before after (Ok n) = (ns : List ℕ) × ((o ≡ ok ns) × Written (enc_names ns) before after n)
 NamedBy o before after (Err e) = o ≡ err step_too_long

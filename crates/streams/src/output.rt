@@ -1,5 +1,5 @@
 // Standard output, written in full.
-ghost use Rattle.std.specs.Prelude.{◌≤◌, length, IfOk};
+ghost use Rattle.std.specs.Prelude.{◌≡◌, ◌≤◌, length, IfOk, IsOk};
 
 use crate::error::{Stopped, try_again};
 use std::fmt;
@@ -19,7 +19,9 @@ fn write_some(rt: &HostRuntime, buf: &[u8]) -> Result<usize, Stopped>
 }
 
 // Writes all of buf, in as many writes as it takes. The turns are more than any run takes.
-pub fn write_output(rt: &HostRuntime, buf: &[u8]) -> Result<(), Stopped> {
+pub fn write_output(rt: &HostRuntime, buf: &[u8]) -> Result<(), Stopped>
+    ensures { length buf.now ≡ 0 → IsOk result }
+{
     let mut left = buf;
     for _ in 0..u64::MAX {
         if left.is_empty() {

@@ -1,5 +1,5 @@
 -- What the passes answer: how long a form is or why there is none, and then its bytes. Assumes nothing: these are definitions.
-use Rattle.std.specs.Prelude.{ℕ, suc, ◌+◌, ◌≤◌, min, List, [], ◌++◌, ◌≡◌, length, Result as Answer, Ok, Err}
+use Rattle.std.specs.Prelude.{ℕ, suc, ◌+◌, ◌≤◌, min, List, [], ◌++◌, ◌≡◌, length, Result as RustResult, Ok, Err}
 use Rattle.std.proofs.Math.Option.{Option}
 use Rattle.cedar.specs.Types.{Attrs, maybe}
 use Rattle.cedar.specs.TypeForm.{entries, bodies}
@@ -9,7 +9,7 @@ use Rattle.forms.specs.Refusals.{number_of}
 use Rattle.forms.specs.declared.refusals.Refusal.{Refusal}
 
 -- What the code answers, with its refusal's number.
-abbrev pub seen : {A : Type 0} → Answer A Refusal → Result A
+abbrev pub seen : {A : Type 0} → RustResult A Refusal → Result A
 seen (Ok a) = ok a
 seen (Err e) = err (number_of e)
 

@@ -1,6 +1,6 @@
 -- The attributes of an entity type, from its entry's body to the schema. Assumes nothing.
 use Rattle.std.specs.Prelude.{ℕ, ◌+◌, ◌*◌, ◌-◌, List, Bool, true, false, ◌||◌, ◌≡◌, refl, eqb, length, get_or, Option as Maybe, Some, None}
-use Rattle.std.proofs.Common.{arith, ap, subst, ◌∙◌}
+use Rattle.std.proofs.Common.{arith, ap, ◌∙◌}
 use Rattle.cedar.specs.Types.{present}
 use Rattle.cedar.specs.Attribute.{attr_of, own_attr, may_have_type}
 use Rattle.forms.specs.Parts.{part, rest, rd}
@@ -13,8 +13,7 @@ use Rattle.schemas.specs.Schema.{limits_in, said_by}
 use Rattle.schemas.specs.Laws.Finders.{EntityAt}
 use Rattle.schemas.specs.declared.schema.Schema.{Schema}
 use Rattle.attributes.specs.declared.own_attribute.Attribute.{Attribute}
-use Rattle.attributes.specs.declared.entity_attribute.EntityAttribute.{EntityAttribute}
-use Rattle.attributes.specs.declared.entity_attribute.EntityAttribute.TheVariants.{Found, Absent, Missing}
+use Rattle.attributes.specs.declared.entity_attribute.EntityAttribute.TheVariants.{Absent}
 use Rattle.attributes.specs.Place.{Placed}
 use Rattle.attributes.specs.EntityAttribute.{HasAttribute, AttributeIn, HasRows}
 use Rattle.attributes.specs.Laws.Place.{placed_at, place_none}
@@ -66,14 +65,3 @@ module _ (s : Schema) {n : ℕ} {c : List ℕ} (v : EntityAt (limits_in s) s.byt
           is = is;
           may = may-is name ∙ rw is (or-true (eqb (get_or c 1 0) 1));
         }
-
--- An attribute by its cases.
-module _ (s : Schema) (k a : ℕ) (r : EntityAttribute) (p : AttributeIn s k a r) where
-  pub attribute-found : (x : Attribute) → r ≡ Found x → HasAttribute s k a x
-  attribute-found x h = subst (λ (y : EntityAttribute). AttributeIn s k a y) h p
-
-  pub attribute-absent : (o : Bool) → r ≡ Absent o → AttributeIn s k a (Absent o)
-  attribute-absent o h = subst (λ (y : EntityAttribute). AttributeIn s k a y) h p
-
-  pub attribute-missing : r ≡ Missing → AttributeIn s k a Missing
-  attribute-missing h = subst (λ (y : EntityAttribute). AttributeIn s k a y) h p

@@ -13,14 +13,13 @@ use Rattle.cedar.specs.Attribute.{entity_of}
 use Rattle.cedar.specs.Literal.{literal, action_of}
 use Rattle.cedar.proofs.Laws.Limits.{allowed-bytes}
 use Rattle.forms.specs.Parts.{rest}
-use Rattle.forms.specs.TypeBytes.{dec}
 use Rattle.forms.specs.Laws.Parts.{rest-is, length_rest}
 use Rattle.forms.specs.Laws.Bytes.{enc-dec}
 use Rattle.schemas.specs.Entries.{open_at, body_attrs}
 use Rattle.schemas.specs.Schema.{limits_in, said_by}
 use Rattle.schemas.specs.Laws.Finders.{BodyAt, EntityAt, ActionAt}
 use Rattle.schemas.specs.declared.schema.Schema.{Schema}
-use Rattle.writing.specs.Laws.Writing.{back, over-at, room_at}
+use Rattle.writing.specs.Laws.Writing.{back, over-at}
 use Rattle.attributes.specs.declared.euid_literal.Literal.{Literal}
 use Rattle.attributes.specs.declared.euid_literal.Literal.TheVariants.{Action, Entity}
 use Rattle.attributes.specs.Literal.{literal_type, literal_form, literal_length, literal_levels, Laid, Standing, BytesIn, LiteralAt}
@@ -59,12 +58,6 @@ literal-levels lim k Entity = refl
 
 -- An answer by its cases.
 module _ (x : Literal) (c : Bor (List ℕ)) (h : x ≡ Action c) where
-  pub standing-body : (lim : Limits) → Standing lim x → BodyAt lim c.now
-  standing-body lim p = subst (λ (y : Literal). Standing lim y) h p
-
-  pub body-levels : (lim : Limits) → Standing lim x → depth (dec lim.levels c.now) ≡ literal_levels lim x
-  body-levels lim p = ap depth (standing-body lim p).view.is ∙ sym (ap (literal_levels lim) h)
-
   pub laid-body : Laid x → Laid (Action c)
   laid-body p = subst Laid h p
 
@@ -72,12 +65,6 @@ module _ (x : Literal) (c : Bor (List ℕ)) (h : x ≡ Action c) where
   module _ (v : Laid x) (o : List ℕ) (l : literal_length x ≤ length o) where
     pub action-room : length c.now + 1 ≤ length o
     action-room = rw (ap literal_length h) at l
-
-    pub copy-room : (k : ℕ) (xs : List ℕ) → xs ≡ over (11 ∷ u16 k) o → (3 ≤ length xs) × (length (rest 2 c.now) ≤ length (rest 3 xs))
-    copy-room k xs f =
-        let b = laid-body v in
-        let q = room_at o (11 ∷ u16 k) xs 3 f refl (omega (arith, action-room, b.0)) in
-        (q.0, omega (arith, action-room, b.0, q.1, length_rest 2 c.now))
 
     pub action-written : (k : ℕ) (xs ys : List ℕ) → xs ≡ over (11 ∷ u16 k) o → ys ≡ over (rest 2 c.now) (rest 3 xs) →
         back 3 xs ys ≡ over (literal_form k x) o

@@ -1,25 +1,16 @@
 -- Whether a type may have an attribute, by the first byte of its form and by the entries of its entity types. Assumes nothing.
-use Rattle.std.specs.Prelude.{ℕ, zero, suc, ◌<◌, List, ◌++◌, Bool, true, false, ◌||◌, ◌≡◌, refl, is_some, length, get_or, Option as Maybe, Some, None}
+use Rattle.std.specs.Prelude.{ℕ, zero, suc, ◌<◌, List, ◌++◌, Bool, true, false, ◌||◌, ◌≡◌, refl, length, get_or}
 use Rattle.std.specs.declared.slice.ChunksExact.{ChunksExact}
 use Rattle.std.proofs.Common.{arith, ap, sym, ◌∙◌, eq-eqb, ne_eqb}
-use Rattle.std.proofs.Math.Option.{Option}
-use Rattle.cedar.specs.Types.{Atom, never, anyent, Ty, atom, Schema as Said, present, is}
+use Rattle.cedar.specs.Types.{Atom, never, anyent, atom, Schema as Said, present, is}
 use Rattle.cedar.specs.TypeForm.{Kind, one, set_kind, rec_kind, ent_kind, act_kind, ext_kind, no_kind, kind_of}
 use Rattle.cedar.specs.Attribute.{own_attr, may_have_type, may_have_names, may_have}
 use Rattle.forms.specs.Parts.{rest, rd, kind}
 use Rattle.forms.specs.TypeBytes.{whole, dec}
 use Rattle.forms.specs.Laws.Views.{is-record, is-action, is-atom, see, seen-set, seen-record, seen-entity, seen-action, seen-extension, seen-atom}
 use Rattle.forms.specs.Names.{names_in}
-use Rattle.schemas.specs.Schema.{said_by}
 use Rattle.forms.specs.Laws.NamesIn.{names-of-entity, NamesLeft, names-end, name-first}
-use Rattle.schemas.specs.declared.schema.Schema.{Schema}
-use Rattle.attributes.specs.declared.own_attribute.Attribute.{Attribute}
-use Rattle.attributes.specs.declared.entity_attribute.EntityAttribute.{EntityAttribute}
-use Rattle.attributes.specs.declared.entity_attribute.EntityAttribute.TheVariants.{Found, Absent, Missing}
-use Rattle.attributes.specs.Place.{Placed}
 use Rattle.attributes.specs.MayHave.{record_may_have}
-use Rattle.attributes.specs.EntityAttribute.{AttributeIn}
-use Rattle.attributes.specs.Laws.EntityAttribute.{attribute-found, attribute-absent, attribute-missing}
 
 -- A record.
 module _ (name l : ℕ) (b : List ℕ) (w : whole l b ≡ true) (k : kind b ≡ 8) where
@@ -28,22 +19,6 @@ module _ (name l : ℕ) (b : List ℕ) (w : whole l b ≡ true) (k : kind b ≡ 
 
   pub closed-may-have : (r : Bool) → (get_or b 1 0 ≡ 1 → ⊥) → r ≡ present (own_attr name (dec l b)) → r ≡ record_may_have name (dec l b)
   closed-may-have r e q = q ∙ rw ((is-record l b w k).is, ne_eqb (get_or b 1 0) 1 e) refl
-
--- A place by its cases.
-pub placed-present : (l : ℕ) (b : List ℕ) (o : Option (Bool × Ty)) (r : Maybe Attribute) → Placed l b o r → is_some r ≡ present o
-placed-present l b o (Some x) p = rw p.is refl
-placed-present l b o None p = rw p refl
-
--- An entity type, by what is found of it.
-module _ (s : Schema) (n name : ℕ) (r : EntityAttribute) (p : AttributeIn s n name r) where
-  pub found-may-have : (x : Attribute) → r ≡ Found x → true ≡ may_have_type (said_by s) name n
-  found-may-have x h = sym (attribute-found s n name r p x h).may
-
-  pub absent-may-have : (o : Bool) → r ≡ Absent o → o ≡ may_have_type (said_by s) name n
-  absent-may-have o h = sym (attribute-absent s n name r p o h).1
-
-  pub missing-may-have : r ≡ Missing → true ≡ may_have_type (said_by s) name n
-  missing-may-have h = rw (attribute-missing s n name r p h) refl
 
 -- The loop over an entity's types.
 module _ (s : Said) (name : ℕ) {all : Bool} {left : ChunksExact ℕ} (i : NamesLeft all (may_have_names s name) left) where

@@ -18,7 +18,7 @@ use Rattle.forms.specs.Laws.Parts.{length_rest, length_part, rest_0, rest-rest, 
 use Rattle.forms.specs.Laws.Bytes.{Bytes-part, enc-dec}
 use Rattle.forms.specs.Laws.Skips.{below-most, used-less}
 use Rattle.forms.specs.Laws.Attributes.{entry, laid}
-use Rattle.forms.specs.Laws.RowBytes.{head-length, laid-fit, laid-skipped}
+use Rattle.forms.specs.Laws.RowBytes.{laid-fit, laid-skipped}
 use Rattle.forms.specs.Laws.AttributeRows.{found-attribute, found-none}
 use Rattle.forms.specs.Laws.Tables.{attrs-count}
 use Rattle.forms.specs.Laws.Views.{is-record, is-action, see, seen-set, seen-record, seen-entity, seen-action, seen-extension, seen-atom}
@@ -109,9 +109,6 @@ module _ {l c : ℕ} {b : List ℕ} (h : Tabled l c b) {n : ℕ} {es bs : List �
     left-start = omega (arith, ap length left-is, length_rest (bodies_at c b + used 5 passed es) b, left-fits)
 
     module _ {r : Row} (f : IsFirst 5 m fs cs r) (q : rd fs 0 ≡ name) where
-      pub found-head : length r.head.now ≡ 5
-      found-head = head-length f (laid-skipped listed-laid p)
-
       long : length r.body.now ≡ rd fs 3
       long =
           ap length f.body ∙ length_part 0 (rd fs 3) cs (laid-fit (laid-skipped listed-laid p) f.some) ∙ omega arith

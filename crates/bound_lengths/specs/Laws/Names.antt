@@ -103,11 +103,6 @@ step-both (n ∷ ns) (k ∷ ks) low low' p q a b e f = rw (y, z) (go (dec_lt n k
         let v : k ≡ n = omega arith in
         rw (m, v) record { fewer = rw (here n ns, here n ks) (omega arith); is = rw (here n ns, here n ks) (union-same n ns ks a.1) }
 
-step-none : (ns ks : List ℕ) → slice_get ns 0 ≡ None → slice_get ks 0 ≡ None → union ns ks ≡ []
-step-none [] [] e f = refl
-step-none (n ∷ ns) ks e f = absurd (some-none e)
-step-none [] (k ∷ ks) e f = absurd (some-none f)
-
 -- The least of two first names comes next.
 pub step-first : (ns ks : List ℕ) (low low' n : ℕ) → Ascend low ns → Ascend low' ks → Some n ≡ least (slice_get ns 0) (slice_get ks 0) → Step ns ks n
 step-first [] [] low low' n a b e = absurd (some-none e)

@@ -1,5 +1,5 @@
 -- The bound of two attribute lists, attribute by attribute, from the first on. Assumes nothing.
-use Rattle.std.specs.Prelude.{◌≡◌, refl, Option as Maybe, Some, None, List, Bool, true, false, not, ◌&&◌, ◌||◌, cond, ℕ, zero, suc, ◌+◌, ◌*◌, ◌≤◌, eqb, length, get_or}
+use Rattle.std.specs.Prelude.{◌≡◌, refl, Option as Maybe, Some, None, List, Bool, true, false, not, ◌&&◌, ◌||◌, cond, ℕ, zero, suc, ◌+◌, ◌≤◌, eqb, length, get_or}
 use Rattle.std.specs.Option.{ForSome}
 use Rattle.std.proofs.Common.{ap, ap₂, ◌∙◌, sub-one, arith}
 use Rattle.std.proofs.Math.Path.{sym}
@@ -221,9 +221,6 @@ module _ (M : Mode) (l c : ℕ) (a b : List ℕ) (ta : Tabled l c a) (tb : Table
 
   pub start-walk : Walk l n es bs m fs cs
   start-walk = record { low = 0; first = first-sound; low' = 0; second = second-sound }
-
-  pub start-sizes : (length es ≡ 5 * n) × (length fs ≡ 5 * m)
-  start-sizes = (first-sound.sized, second-sound.sized)
 
   module _ (r : Bool) (told : r ≡ (is_permissive M || eq_names (names_by 5 n es) (names_by 5 m fs))) where
     allowed : r ≡ (is_permissive M || eq_names (names (attrs_at l c a)) (names (attrs_at l c b)))

@@ -58,9 +58,6 @@ kept-few g n e = omega (arith, e ∙ ap count_of g.is, g.small, length-append (e
 
 -- The bound of two unlike kinds is its code.
 module _ (m : Mode) (j k : ℕ) {o : List ℕ} (g : Ready enc (unlike m j k) o) (x : Result ℕ) (told : x ≡ joined_of (unlike m j k)) where
-  pub unlike-refused : (d : ℕ) → x ≡ err d → ⊥
-  unlike-refused d q = let f : x ≡ ok (code g.result) = told ∙ ap joined_of g.is in let z : ◌≡◌ {A = ℕ} 0 1 = cc in omega arith
-
   module _ (b : ℕ) (q : x ≡ ok b) where
     is_code : enc g.result ≡ b ∷ []
     is_code =

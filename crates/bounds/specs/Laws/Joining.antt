@@ -18,7 +18,7 @@ use Rattle.writing.specs.Written.{Written}
 use Rattle.writing.specs.FormLengths.{table, form_of, Ready}
 use Rattle.writing.specs.Laws.FormLengths.{before}
 use Rattle.writing.specs.Laws.Writing.{back}
-use Rattle.writing.specs.Laws.Laying.{Laying, laying-start, laying-length, laying-same, laying-end, laying-pos, laying-ready, laying-at, laying-entry, laying-small}
+use Rattle.writing.specs.Laws.Laying.{Laying, laying-start, laying-same, laying-end, laying-ready, laying-entry, laying-small}
 use Rattle.writing.specs.Laws.Laying.{laying-more}
 use Rattle.bound_lengths.specs.Pairs.{joined_attrs, row_flag, joined_row}
 use Rattle.bound_lengths.specs.Laws.Pairs.{after, Joins, Walk, walk_end, walk_more, walk_step, start-walk}
@@ -46,9 +46,6 @@ joining-start {l} {at} {a} {b} p q u v d n k g =
 
 module _ {d : Mode} {all : Result Attrs} {l : ℕ} {o : List ℕ} {left : ℕ} {es bs : List ℕ} {m : ℕ} {fs cs : List ℕ} {at pos : ℕ} {out : List ℕ}
     (w : Joining d all l o left es bs m fs cs at pos out) where
-  pub joining-length : length out ≡ length o
-  joining-length = laying-length w.laying
-
   pub joining-end : left ≤ 0 → Written (form_of table all) o out pos
   joining-end h = laying-end w.laying (walk_end d l left es bs (dec_a (dec l) m fs cs) h)
 
@@ -84,16 +81,10 @@ module _ {d : Mode} {all : Result Attrs} {l : ℕ} {o : List ℕ} {left : ℕ} {
           step.is ∙ ap (λ (z : Maybe Row). after (rd r.head.now 0) (joined_row d l r z) Others) k.0
           ∙ kept-before d l (rd r.head.now 0) r y Others (ap (λ (z : Maybe Row). is_kept (joined_row d l r z)) (sym k.0) ∙ k.1)
 
-      pub joining-pos : pos ≤ length out
-      joining-pos = laying-pos w.laying (rd r.head.now 0) flags Body Others ahead
-
       pub joining-ready : Ready enc Body (rest pos out)
       joining-ready = laying-ready w.laying (rd r.head.now 0) flags Body Others ahead
 
       module _ (zs : List ℕ) (n : ℕ) (u : Written (form_of enc Body) (rest pos out) zs n) where
-        pub joining-at : at + 5 ≤ length (back pos out zs)
-        joining-at = laying-at w.laying (rd r.head.now 0) flags Body Others ahead zs n u
-
         pub joining-room : 5 ≤ length (rest at (back pos out zs))
         joining-room = laying-entry w.laying (rd r.head.now 0) flags Body Others ahead zs n u
 

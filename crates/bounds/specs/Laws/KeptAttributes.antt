@@ -10,13 +10,13 @@ use Rattle.cedar.specs.Bound.{absent, join_equal, join_kept, join_one, join_reco
 use Rattle.cedar.specs.Laws.DirectBound.{direct, direct_attrs}
 use Rattle.forms.specs.Parts.{rest, rd, kind}
 use Rattle.forms.specs.RowBytes.{TookFirst, Skipped, Sought}
-use Rattle.forms.specs.Tables.{Tabled, attrs_at}
+use Rattle.forms.specs.Tables.{attrs_at}
 use Rattle.forms.specs.TypeBytes.{whole, dec, dec_a}
 use Rattle.forms.specs.declared.rows.Row.{Row}
-use Rattle.forms.specs.Laws.Tables.{Split, attrs-count}
+use Rattle.forms.specs.Laws.Tables.{attrs-count}
 use Rattle.writing.specs.Laws.FormLengths.{before}
-use Rattle.bound_lengths.specs.Pairs.{joined_attrs, joined, joined_to, row_flag, joined_row}
-use Rattle.bound_lengths.specs.Laws.Pairs.{after, Joins, Walk, walk_end, walk_more, walk_step, start-walk}
+use Rattle.bound_lengths.specs.Pairs.{joined_attrs, joined_to, row_flag, joined_row}
+use Rattle.bound_lengths.specs.Laws.Pairs.{after, Joins, Walk, walk_end, walk_more, walk_step}
 use Rattle.bound_lengths.specs.Laws.Bounds.{set-join, record-join, entity-join, atoms-join}
 use Rattle.bounds.specs.Joins.{count_of, is_ok, is_kept, KeptWith}
 use Rattle.bounds.specs.Laws.UntypedSets.{loose-known, joined-known}
@@ -68,38 +68,6 @@ module _ (m : Mode) (p : is_permissive m ≡ true) (l : ℕ) (a b : List ℕ) (h
           sym (ap is_ok (record-join m l a b ha hb e (sym k ∙ e)) ∙ ok-bind (joined_attrs m xs ys) made ∙ lists xs ys)
       go (no p8) (yes e) = sym (ap is_ok (entity-join m l a b ha hb e (sym k ∙ e)) ∙ rw p refl)
       go (no p8) (no p10) = let s = atoms-join m l a b ha hb k p7 p8 p10 p11 p12 in sym (ap is_ok s.1.0)
-
--- An attribute: strict it is kept, permissive if it is found and has a bound.
-module _ (m : Mode) (r : Bool) (t : Ty) (o : Option (Bool × Ty)) where
-  pub strict-kept : is_permissive m ≡ false → is_ok (joined m r t o) ≡ true → true ≡ is_kept (joined m r t o)
-  strict-kept p h = go o h
-    where
-      dropped : (q : Bool) (e : ℕ) → q ≡ false → is_ok {A = Option (Bool × Ty)} (cond q (ok none) (err e)) ≡ true → true ≡ is_kept (cond q (ok none) (err e))
-      dropped true e q s = absurd (let z : ◌≡◌ {A = ℕ} 0 1 = cc in omega arith)
-      dropped false e q s = absurd (let z : ◌≡◌ {A = ℕ} 0 1 = cc in omega arith)
-
-      flags : (q : Bool) (y : Bool × Ty) → is_ok (cond q (ok (some y)) (err 11)) ≡ true → true ≡ is_kept (cond q (ok (some y)) (err 11))
-      flags true y s = refl
-      flags false y s = absurd (let z : ◌≡◌ {A = ℕ} 0 1 = cc in omega arith)
-
-      one : (s : Bool) (c : Result Ty) → is_ok (joined_to m r s c) ≡ true → true ≡ is_kept (joined_to m r s c)
-      one s (ok c) h = flags (is_permissive m || eq_flag r s) _ h
-      one s (err e) h = dropped (is_permissive m) e p h
-
-      go : (o : Option (Bool × Ty)) → is_ok (joined m r t o) ≡ true → true ≡ is_kept (joined m r t o)
-      go none h = dropped (is_permissive m) 12 p h
-      go (some y) h = one y.0 (direct m t y.1) h
-
-  module _ (p : is_permissive m ≡ true) where
-    pub absent-dropped : o ≡ none → false ≡ is_kept (joined m r t o)
-    absent-dropped e = rw (e, p) refl
-
-    pub found-kept : (s : Bool) (u : Ty) → o ≡ some (s, u) → (z : Bool) → z ≡ is_ok (direct m t u) → z ≡ is_kept (joined m r t o)
-    found-kept s u e z q = q ∙ rw e (go (direct m t u))
-      where
-        go : (c : Result Ty) → is_ok c ≡ is_kept (joined_to m r s c)
-        go (ok c) = rw p refl
-        go (err d) = rw p refl
 
 -- An attribute that is kept stands before the others, with the bound of its types.
 pub kept-before : (m : Mode) (l n : ℕ) (r x : Row) (cs : Result Attrs) → is_kept (joined_row m l r (Some x)) ≡ true →
@@ -196,20 +164,6 @@ pub record Counting (d : Mode) (all : Result Attrs) (n l left : ℕ) (es bs : Li
   pub known : is_ok (direct_attrs d (dec_a (dec l) left es bs) (dec_a (dec l) m fs cs)) ≡ true
   pub same : count_of all ≡ num + count_of (direct_attrs d (dec_a (dec l) left es bs) (dec_a (dec l) m fs cs))
 
-pub counting-start : {l at : ℕ} {a b : List ℕ} → Tabled l at a → Tabled l at b → {left m : ℕ} {es bs fs cs : List ℕ} → Split at a left es bs → Split at b m fs cs →
-    left < 65536 → (d : Mode) →
-    is_ok (joined_attrs d (attrs_at l at a) (attrs_at l at b)) ≡ true → Counting d (joined_attrs d (attrs_at l at a) (attrs_at l at b)) left l left es bs m fs cs 0
-counting-start {l} {at} {a} {b} p q u v h d g =
-    let k = ok-known (joined_attrs d (attrs_at l at a) (attrs_at l at b)) g in
-    let j = joined-direct d (attrs_at l at a) (attrs_at l at b) k.0 k.1 in
-    record {
-      walk = start-walk d l at a b p q u v;
-      few = h;
-      most = omega arith;
-      known = rw (u.n-is, u.es-is, u.bs-is, v.n-is, v.es-is, v.bs-is) (ap is_ok (sym j) ∙ g);
-      same = rw (u.n-is, u.es-is, u.bs-is, v.n-is, v.es-is, v.bs-is) (ap count_of j ∙ omega arith);
-    }
-
 module _ {d : Mode} {all : Result Attrs} {n l left : ℕ} {es bs : List ℕ} {m : ℕ} {fs cs : List ℕ} {num : ℕ} (w : Counting d all n l left es bs m fs cs num) where
   pub counting-end : left ≤ 0 → num ≡ count_of all
   counting-end h = sym (w.same ∙ ap (λ (r : Result Attrs). num + count_of r) (walk_end d l left es bs (dec_a (dec l) m fs cs) h) ∙ omega arith)
@@ -223,12 +177,6 @@ module _ {d : Mode} {all : Result Attrs} {n l left : ℕ} {es bs : List ℕ} {m 
 
     after-is : is_ok (after (rd r.head.now 0) (joined_row d l r o) (direct_attrs d (dec_a (dec l) left' es' bs') (dec_a (dec l) m' fs' cs'))) ≡ true
     after-is = ap is_ok (sym step.is) ∙ w.known
-
-    pub counting-known : is_ok (joined_row d l r o) ≡ true
-    counting-known = after-known (rd r.head.now 0) (joined_row d l r o) _ after-is
-
-    pub counting-few : num + 1 < 65536
-    counting-few = omega (arith, w.few, w.most, t.left)
 
     pub counting_more : (x : Bool) (num' : ℕ) → is_kept (joined_row d l r o) ≡ x → num' ≡ num + cond x 1 0 →
         Counting d all n l left' es' bs' m' fs' cs' num'

@@ -1,6 +1,6 @@
 -- The bound of two sets by that of their elements: whether there is one, and when it is the untyped set. Assumes nothing.
 use Rattle.std.proofs.Math.Path.{◌≡◌, refl, ap}
-use Rattle.std.proofs.Common.{sym, ◌∙◌, arith}
+use Rattle.std.proofs.Common.{◌∙◌, arith}
 use Rattle.std.specs.Option.{option_map}
 use Rattle.std.specs.Prelude.{Option as Maybe, Some, None, [], ◌∷◌, Bool, false, cond, ℕ, ◌-◌}
 use Rattle.std.proofs.Math.Bool.{true, not}
@@ -28,9 +28,6 @@ module _ (m : Mode) where
 
 -- Two sets that have a bound: of their elements, or the untyped set.
 module _ (m : Mode) (r : Result Ty) (known : is_ok (join_set m r) ≡ true) where
-  pub strict-typed : is_loose m ≡ false → false ≡ not (is_ok r)
-  strict-typed h = ap not (sym known ∙ joined-known m h r)
-
   pub typed-cut : is_ok r ≡ true → Cut enc enc (7 ∷ []) r (join_set m r)
   unfolding enc
   typed-cut h = record { make = set; is = go r h; cut = λ c q. refl }

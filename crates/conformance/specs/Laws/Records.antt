@@ -1,5 +1,5 @@
 -- The loop of `record_conforms`, and a pair's value. Assumes nothing.
-use Rattle.std.specs.Prelude.{◌≡◌, refl, List, [], ◌∷◌, Bool, true, false, cond, ℕ, ◌+◌, ◌*◌, ◌≤◌, ◌<◌, eqb, length}
+use Rattle.std.specs.Prelude.{◌≡◌, refl, List, [], ◌∷◌, Bool, true, false, cond, ℕ, ◌+◌, ◌*◌, ◌≤◌, ◌<◌, eqb}
 use Rattle.std.proofs.Common.{ap, ap₂, sym, ◌∙◌, arith}
 use Rattle.std.proofs.Math.Option.{Option, some}
 use Rattle.cedar.specs.Types.{Ty, Attrs, nil, attr, find, Value, Schema, maybe}
@@ -14,7 +14,7 @@ use Rattle.forms.specs.declared.rows.Row.{Row}
 use Rattle.forms.specs.TypeBytes.{attr_row, whole_as, whole, dec, dec_a, Sound}
 use Rattle.forms.specs.Laws.Skips.{From, rows-from}
 use Rattle.forms.specs.Laws.Attributes.{laid}
-use Rattle.forms.specs.Laws.RowBytes.{head-rd, head-length}
+use Rattle.forms.specs.Laws.RowBytes.{head-rd}
 use Rattle.forms.specs.Laws.AttributeRows.{ahead as passed-on, found-attribute, found-none}
 use Rattle.conformance.specs.Laws.Taken.{ahead-laid, taken-again, taken-body, taken-decoded}
 use Rattle.conformance.specs.declared.verdicts.Verdict.{Verdict}
@@ -96,9 +96,6 @@ module _ {l : ℕ} {rule : Counts} {s : Schema} {o : Bool} {all last : Said} {ah
   pairs-laid = ahead-laid i.rows (omega arith)
 
   module _ {m : ℕ} {fs cs : List ℕ} {r : Row} (t : TookFirst 4 left e b m fs cs r) where
-    pub pair-head : length r.head.now ≡ 4
-    pair-head = head-length t.first pairs-laid
-
     pub pair-whole : whole_v l r.body.now ≡ true
     pair-whole = taken-body i.rows t
 

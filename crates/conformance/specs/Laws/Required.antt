@@ -16,10 +16,10 @@ use Rattle.forms.specs.declared.rows.Row.{Row}
 use Rattle.forms.specs.TypeBytes.{attr_row, whole_as, whole, dec}
 use Rattle.forms.specs.Laws.Parts.{and_l, and_r, and_yes}
 use Rattle.forms.specs.Laws.Skips.{From, Named, rows-from}
-use Rattle.forms.specs.Laws.RowBytes.{head-rd, head-byte, head-length}
+use Rattle.forms.specs.Laws.RowBytes.{head-rd, head-byte}
 use Rattle.forms.specs.ValueBytes.{pair_row, whole_v, dec_v}
 use Rattle.conformance.specs.Walks.{Records, attributes_of, pairs_of}
-use Rattle.forms.specs.Laws.Ahead.{Ahead, ahead-from, decoded-none, table-entries, table-ahead, table-decoded}
+use Rattle.forms.specs.Laws.Ahead.{Ahead, ahead-from, decoded-none, table-ahead, table-decoded}
 use Rattle.conformance.specs.Laws.Taken.{ahead-laid, taken-again, taken-decoded}
 use Rattle.conformance.specs.Laws.Pairs.{PairsLeft, pairs-left, has_first}
 
@@ -60,13 +60,6 @@ module _ (t v : List ℕ) (h : Records t v) where
   table : table_fits attr_row (λ _. whole h.level) 0 2 t ≡ true
   table = records-table h.level t h.type
 
-  -- Where the tables of both end.
-  pub records-attrs : 4 + 5 * rd t 2 ≤ length t
-  records-attrs = table-entries attr_row (λ _. whole h.level) 0 2 t table (rd t 2) refl
-
-  pub records-pairs : 3 + 4 * rd v 1 ≤ length v
-  records-pairs = table-entries pair_row (λ _. whole_v h.level) 0 1 v h.value (rd v 1) refl
-
   pub required-start : {m : ℕ} {f c : List ℕ} → m ≡ rd t 2 → f ≡ part 4 (4 + 5 * rd t 2) t → c ≡ rest (4 + 5 * rd t 2) t →
       {n : ℕ} {e b : List ℕ} → n ≡ rd v 1 → e ≡ part 3 (3 + 4 * rd v 1) v → b ≡ rest (3 + 4 * rd v 1) v → RequiredAhead t v m f c n e b
   required-start p pf pc q qe qb =
@@ -96,9 +89,6 @@ module _ {t v : List ℕ} {ahead : ℕ} {f c : List ℕ} {left : ℕ} {e b : Lis
       (decoded-none attr_row (λ _. dec l) ahead f c (omega arith)))
 
   module _ {m : ℕ} {fs cs : List ℕ} {r : Row} (k : TookFirst 5 ahead f c m fs cs r) where
-    pub attribute-head : length r.head.now ≡ 5
-    attribute-head = head-length k.first required-attributes
-
     -- The first attribute, whose name a pair has or has not.
     step : (l : ℕ) → has_required (attributes_of l t) (pairs_of l v) ≡
         ((not (eqb (get_or f 2 0) 1) || has_name (rd f 0) (pairs_from (rows_of pair_row (λ _. dec_v l) left e b)))

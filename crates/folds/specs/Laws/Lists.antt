@@ -1,5 +1,5 @@
 -- The loop of a fold, and its start. Assumes nothing.
-use Rattle.std.specs.Prelude.{ℕ, zero, suc, ◌+◌, ◌*◌, ◌≤◌, ◌<◌, List, [], ◌∷◌, true, ◌≡◌, refl, Result as Answer, Ok, Err, length, set}
+use Rattle.std.specs.Prelude.{ℕ, zero, suc, ◌+◌, ◌*◌, ◌≤◌, ◌<◌, List, [], ◌∷◌, true, ◌≡◌, refl, Result as RustResult, Ok, Err, length, set}
 use Rattle.std.proofs.Common.{arith, subst, ◌∙◌}
 use Rattle.std.proofs.Math.Path.{ap, sym}
 use Rattle.std.proofs.Math.ListN.{length-set}
@@ -33,10 +33,6 @@ pub record Folding (lim : Limits) (work : ℕ) (m : Mode) (all : Result Ty) (len
   pub sound : SoundTs lim left es bs
   pub same : all ≡ fold_from (step_fits lim work) m (dec lim.levels (part 0 len last)) (dec_ts lim.levels left es bs)
 
-pub folding-start : (lim : Limits) (work : ℕ) (m : Mode) (len : ℕ) (last : List ℕ) (n : ℕ) (es bs : List ℕ) → Held lim len last → SoundTs lim n es bs →
-    Folding lim work m (fold_from (step_fits lim work) m (dec lim.levels (part 0 len last)) (dec_ts lim.levels n es bs)) len last n es bs
-folding-start lim work m len last n es bs h s = record { held = h; sound = s; same = refl }
-
 module _ {lim : Limits} {work : ℕ} {m : Mode} {all : Result Ty} {len : ℕ} {last : List ℕ} {left : ℕ} {es bs : List ℕ}
     (i : Folding lim work m all len last left es bs) where
   pub folding-end : left ≤ 0 → FoldsTo lim all last (Ok len)
@@ -65,7 +61,7 @@ module _ {lim : Limits} {work : ℕ} {m : Mode} {all : Result Ty} {len : ℕ} {l
         i.same ∙ ap (fold_from (step_fits lim work) m (dec lim.levels (part 0 len last))) e
 
     module _ (last' : List ℕ) where
-      abbrev stepped : Answer ℕ NoStep → Type 0
+      abbrev stepped : RustResult ℕ NoStep → Type 0
       stepped r = Stepped lim (bound m (dec lim.levels (part 0 len last)) (dec lim.levels row.body.now)) work last' r
 
       pub folding-not : (x : NoStep) → stepped (Err x) → FoldsTo lim all last' (Err (refusal_of x))
@@ -112,7 +108,7 @@ module _ (lim : Limits) (list last : List ℕ) (o : Opened lim list last) where
     pub list-sound : SoundTs lim n (part 2 (2 + 2 * n) list) (rest (2 + 2 * n) list)
     list-sound = rw q (is-list lim list o.good).sound
 
-    pub list-folds : (work : ℕ) (m : Mode) (last' : List ℕ) (r : Answer ℕ Refusal) →
+    pub list-folds : (work : ℕ) (m : Mode) (last' : List ℕ) (r : RustResult ℕ Refusal) →
         FoldsTo lim
         (fold_from (step_fits lim work) m (dec lim.levels (part 0 1 (set last 0 0)))
         (dec_ts lim.levels n (part 2 (2 + 2 * n) list) (rest (2 + 2 * n) list))) last' r →

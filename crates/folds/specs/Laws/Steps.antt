@@ -24,8 +24,8 @@ use Rattle.forms.specs.Laws.Sure.{sure-yes, sure-some}
 use Rattle.forms.specs.Laws.TypeTwin.{type-twin}
 use Rattle.forms.specs.Refusals.{number_of}
 use Rattle.forms.specs.declared.refusals.Refusal.{Refusal}
-use Rattle.writing.specs.FormLengths.{cap, form_length_of, form_of, Ready}
-use Rattle.writing.specs.Laws.FormLengths.{of-ok, not_err, ready}
+use Rattle.writing.specs.FormLengths.{cap, form_length_of, form_of}
+use Rattle.writing.specs.Laws.FormLengths.{of-ok, not_err}
 use Rattle.writing.specs.Laws.Writing.{over-front}
 use Rattle.forms.specs.Laws.Bytes.{Bytes-index, Bytes-part, enc-dec}
 use Rattle.folds.specs.declared.steps.NoStep.TheVariants.{Unbounded, TooLong}
@@ -116,14 +116,8 @@ module _ (m : Mode) {lim : Limits} {len : ℕ} {last t : List ℕ} (g : Stepping
         exact : n ≡ length (enc bounded)
         exact = omega (arith, of-type.1.1, g.held.most)
 
-        pub step-ready : (o : List ℕ) → n ≤ length o → Ready enc (direct m (dec l hand) (dec l t)) o
-        step-ready o r = ready enc (direct m (dec l hand) (dec l t)) x n o told f (omega (arith, g.held.most)) r
-
         form-written : form_of enc (direct m (dec l hand) (dec l t)) ≡ enc bounded
         form-written = ap (form_of enc) (direct_is ∙ of-type.1.0)
-
-        pub step-length : n ≡ length (form_of enc (direct m (dec l hand) (dec l t)))
-        step-length = exact ∙ sym (ap length form-written)
 
         -- The bound's form was copied to the front of `last`.
         copied : (xs : List ℕ) → lim.bytes ≤ length xs → part 0 n xs ≡ enc bounded → Stepped lim stepped work xs (Ok n)

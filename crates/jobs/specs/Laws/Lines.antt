@@ -32,15 +32,6 @@ required-long : (r : Bool) → length (required_word r) ≡ 2
 required-long true = refl
 required-long false = refl
 
--- A looked-up attribute.
-module _ (r : Bool) (b o : List ℕ) (h : length (required_word r ++ hex b) ≤ length o) where
-  pub attribute-room : (2 + length (hex b) ≤ length o) × (length (required_word r) ≡ 2)
-  attribute-room = (omega (arith, h, required-long r, length-append (required_word r) (hex b)), required-long r)
-
-  pub attribute-told : {xs ys : List ℕ} {at n : ℕ} → Written (required_word r) o xs at → Written (hex b) (rest at xs) ys n →
-      Written (required_word r ++ hex b) o (take at xs ++ (ys ++ drop (length xs - at) (drop at xs))) (at + n)
-  attribute-told t u = written-more t u (omega (arith, attribute-room))
-
 field-short : (k n : ℕ) → n < 10 ^ suc k → length (field n) ≤ suc (suc k)
 unfolding field
 field-short k n h = omega (arith, decimal-short k n h, length-append (decimal n) (32 ∷ []))

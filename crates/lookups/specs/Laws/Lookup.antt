@@ -1,5 +1,5 @@
 -- The fold of an attribute over entity types, and the lookup of any type. Assumes nothing.
-use Rattle.std.specs.Prelude.{ℕ, ◌-◌, ◌≤◌, ◌<◌, List, ◌∷◌, ◌++◌, Bool, true, ◌&&◌, ◌≡◌, refl, length, take, drop, Option as Maybe, Some, None, Result as Outcome, Ok, Err}
+use Rattle.std.specs.Prelude.{ℕ, ◌-◌, ◌≤◌, ◌<◌, List, ◌∷◌, ◌++◌, Bool, true, ◌&&◌, ◌≡◌, refl, length, take, drop, Option as Maybe, Some, None, Result as RustResult, Ok, Err}
 use Rattle.std.specs.declared.slice.ChunksExact.{ChunksExact}
 use Rattle.std.proofs.Common.{arith, ap, sym, subst, ◌∙◌}
 use Rattle.std.proofs.Math.Option.{Option, none, some}
@@ -17,14 +17,13 @@ use Rattle.forms.specs.TypeBytes.{whole, dec}
 use Rattle.forms.specs.Laws.Bytes.{Bytes-part, enc-dec}
 use Rattle.forms.specs.Laws.Views.{see, seen-set, seen-record, seen-entity, seen-action, seen-extension, seen-atom}
 use Rattle.forms.specs.Names.{names_in}
-use Rattle.schemas.specs.Schema.{limits_in, said_by}
+use Rattle.schemas.specs.Schema.{said_by}
 use Rattle.forms.specs.Laws.NamesIn.{names-of-entity, names-front, names-over, NamesLeft, names-end, name-first}
 use Rattle.schemas.specs.declared.schema.Schema.{Schema}
 use Rattle.attributes.specs.declared.own_attribute.Attribute.{Attribute}
 use Rattle.attributes.specs.declared.entity_attribute.EntityAttribute.{EntityAttribute}
 use Rattle.attributes.specs.declared.entity_attribute.EntityAttribute.TheVariants.{Found, Absent, Missing}
-use Rattle.attributes.specs.EntityAttribute.{AttributeIn, HasAttribute}
-use Rattle.attributes.specs.Place.{Stands}
+use Rattle.attributes.specs.EntityAttribute.{AttributeIn}
 use Rattle.forms.specs.declared.refusals.Refusal.{Refusal}
 use Rattle.folds.specs.declared.steps.NoStep.{NoStep}
 use Rattle.folds.specs.declared.steps.NoStep.TheVariants.{Unbounded, TooLong}
@@ -56,9 +55,6 @@ attribute-none s k a (Found y) p h = absurd (h y refl)
 attribute-none s k a (Absent o) p h = p.0
 attribute-none s k a Missing p h = rw p refl
 
-pub has-shown : (s : Schema) (k a : ℕ) (x : Attribute) → HasAttribute s k a x → Shown (limits_in s) x
-has-shown s k a x h = record { few = h.few; good = h.good }
-
 -- The loop of the fold: `all` is what it is to end with.
 pub record Folding (lim : Limits) (work : ℕ) (s : Said) (a : ℕ) (all : Result (Option (Bool × Ty))) (x : Looked) (last : List ℕ) (left : ChunksExact ℕ)
     : Type 0 where
@@ -78,7 +74,7 @@ module _ {lim : Limits} {work : ℕ} {s : Said} {a : ℕ} {all : Result (Option 
     folding-lacks f = first-is ∙ rw f refl
 
     module _ (y : Bool) (t : List ℕ) (f : attr_of s a k ≡ some (y, dec (lim.levels - 1) t)) (last' : List ℕ) where
-      abbrev stepped : Outcome ℕ NoStep → Type 0
+      abbrev stepped : RustResult ℕ NoStep → Type 0
       stepped r = Stepped (below lim) (bound permissive (dec (lim.levels - 1) (part 0 x.bytes last)) (dec (lim.levels - 1) t)) work last' r
 
       pub folding-unbounded : (r : Refusal) → stepped (Err (Unbounded r)) → all ≡ ok none
@@ -132,14 +128,6 @@ module _ (fits : Ty → Bool) (s : Said) (a l : ℕ) (b : List ℕ) (w : whole l
   module _ (n : kind b ≡ 10 → ⊥) where
     pub own-none : own_attr a (dec l b) ≡ none → lookup fits s a (dec l b) ≡ ok none
     own-none f = sym (other-lookup n) ∙ ap ok f
-
-    pub own-found : (lim : Limits) (q : Bool) (t : List ℕ) → own_attr a (dec l b) ≡ some (q, dec (lim.levels - 1) t) → (last : List ℕ) (x : Looked) →
-        x.required ≡ q → part 0 x.bytes last ≡ t → Held (below lim) x.bytes last → LookedUp lim (lookup fits s a (dec l b)) last (Ok (Some x))
-    own-found lim q t f last x d e h =
-        (sym (other-lookup n) ∙ ap ok (f ∙ rw (d, e) refl), h)
-
-pub stands-shown : (lim : Limits) (b : List ℕ) (o : Option (Bool × Ty)) (x : Attribute) → length b ≤ lim.bytes → Stands (lim.levels - 1) b o x → Shown lim x
-stands-shown lim b o x few v = record { few = omega (arith, v.inside); good = v.good }
 
 -- A lookup by its cases.
 module _ (lim : Limits) (o : Result (Option (Bool × Ty))) (last : List ℕ) (z : Maybe Looked) (h : LookedUp lim o last (Ok z)) where

@@ -1,5 +1,5 @@
 -- Name lists: the names of attributes, and those that are kept. Assumes nothing.
-use Rattle.std.specs.Prelude.{ℕ, ◌+◌, ◌*◌, ◌-◌, ◌≤◌, ◌<◌, List, [], ◌∷◌, ◌++◌, Bool, true, ◌≡◌, refl, length, Result as Outcome, Ok, Err, IsErr}
+use Rattle.std.specs.Prelude.{ℕ, ◌+◌, ◌*◌, ◌-◌, ◌≤◌, ◌<◌, List, [], ◌∷◌, ◌++◌, Bool, true, ◌≡◌, refl, length, Result as RustResult, Ok, Err, IsErr}
 use Rattle.std.proofs.Common.{arith, append_assoc, append-nil, ap, sym, ◌∙◌, length-append}
 use Rattle.std.proofs.Math.Option.{Option, none, some}
 use Rattle.cedar.specs.Types.{Ty, Schema as Said, maybe, names}
@@ -16,11 +16,11 @@ use Rattle.forms.specs.TypeBytes.{whole, dec}
 use Rattle.forms.specs.declared.rows.Row.{Row}
 use Rattle.forms.specs.declared.rows.Rows.{Rows}
 use Rattle.forms.specs.Laws.Attributes.{laid}
-use Rattle.forms.specs.Laws.RowBytes.{head-rd, head-length, laid-more, took-left}
+use Rattle.forms.specs.Laws.RowBytes.{head-rd, laid-more, took-left}
 use Rattle.forms.specs.Laws.Names.{names-first, names-none, names-length, names-of-entries}
 use Rattle.forms.specs.Laws.Views.{false-not, is-record, is-action, see, seen-set, seen-record, seen-entity, seen-action, seen-extension, seen-atom}
 use Rattle.forms.specs.Names.{names_in}
-use Rattle.schemas.specs.Schema.{limits_in, said_by}
+use Rattle.schemas.specs.Schema.{said_by}
 use Rattle.forms.specs.Laws.NamesIn.{names-of-entity, names-over, names-front}
 use Rattle.schemas.specs.declared.schema.Schema.{Schema}
 use Rattle.attributes.specs.EntityAttribute.{HasRows}
@@ -42,9 +42,6 @@ module _ (x y : Rows 5) {r : Row} (t : TookFirst 5 x.left x.entries.now x.bodies
   took-name k q =
       names-first 5 x.left x.entries.now t.first.some
       ∙ rw (q, head-rd t.first 0 (omega arith), took-left t, ← t.entries) refl
-
-  pub took-head : Laid 5 x.left x.entries.now x.bodies.now → length r.head.now ≡ 5
-  took-head l = head-length t.first l
 
 -- The loop that writes all names.
 pub record Naming (all o : List ℕ) (x : Rows 5) (pos : ℕ) (out : List ℕ) : Type 0 where
@@ -74,10 +71,6 @@ names-append : (ns ks : List ℕ) → enc_names (ns ++ ks) ≡ enc_names ns ++ e
 names-append [] ks = refl
 names-append (n ∷ ns) ks = ap (λ (l : List ℕ). u16 n ++ l) (names-append ns ks)
 
-bind-same : (r : Result (List ℕ)) → r ≡ bind r (λ ks. ok ([] ++ ks))
-bind-same (ok ks) = refl
-bind-same (err e) = refl
-
 -- The loop that keeps names: `all` is what it is to end with, `done` is kept.
 pub record Keeping (look : ℕ → Result (Option (Bool × Ty))) (all : Result (List ℕ)) (x : Rows 5) (o : List ℕ) (pos : ℕ) (out : List ℕ) : Type 0 where
   pub done : List ℕ
@@ -86,10 +79,6 @@ pub record Keeping (look : ℕ → Result (Option (Bool × Ty))) (all : Result (
   pub pos-is : pos ≡ length (enc_names done)
   pub out-is : out ≡ over (enc_names done) o
   pub room : pos + 2 * x.left ≤ length o
-
-pub keeping_start : (look : ℕ → Result (Option (Bool × Ty))) (x : Rows 5) (o : List ℕ) → Entered x o → Keeping look (keep_found look (names_of x)) x o 0 o
-keeping_start look x o h =
-    record { done = []; same = bind-same (keep_found look (names_of x)); laid = h.laid; pos-is = refl; out-is = refl; room = omega (arith, h.room) }
 
 module _ {look : ℕ → Result (Option (Bool × Ty))} {all : Result (List ℕ)} {x : Rows 5} {o : List ℕ} {pos : ℕ} {out : List ℕ}
     (i : Keeping look all x o pos out) where
@@ -149,7 +138,7 @@ module _ {look : ℕ → Result (Option (Bool × Ty))} {all : Result (List ℕ)}
           go (ok ks) = ap ok (sym (append_assoc i.done (a ∷ []) ks))
           go (err e) = refl
 
-pub named-err : (o : Result (List ℕ)) (before after : List ℕ) (r : Outcome ℕ TooLong) → IsErr r → o ≡ err 9 → NamedBy o before after r
+pub named-err : (o : Result (List ℕ)) (before after : List ℕ) (r : RustResult ℕ TooLong) → IsErr r → o ≡ err 9 → NamedBy o before after r
 named-err o before after (Ok n) h e = false-not h
 named-err o before after (Err x) h e = e
 
@@ -166,9 +155,6 @@ module _ (s : Schema) (fits : Ty → Bool) (ns o : List ℕ) where
     no-entry h = ([], (ap (entity_names fits (said_by s)) types_are ∙ rw h refl, record { bytes = refl; many = refl }))
 
     module _ (x : Rows 5) (v : HasRows s k x) where
-      pub rows-entered : (limits_in s).bytes ≤ length o → length o ≤ most_bytes → Entered x o
-      rows-entered r l = record { laid = v.laid; room = omega (arith, r, v.few); size = l }
-
       pub rows-keep : keep_found (λ a. lookup_names fits (said_by s) a (names_in ns)) (names_of x) ≡ entity_names fits (said_by s) (names_in ns)
       rows-keep =
           ap (λ (l : List ℕ). keep_found (λ a. lookup_names fits (said_by s) a (names_in ns)) l) (sym v.is) ∙ sym (go (names_in ns) types_are)

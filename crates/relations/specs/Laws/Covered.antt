@@ -8,7 +8,7 @@ use Rattle.cedar.specs.Laws.Shape.{Ascend}
 use Rattle.cedar.specs.Consistency.{covered_names}
 use Rattle.forms.specs.Parts.{rd}
 use Rattle.forms.specs.RowBytes.{IsFirst, TookFirst, Skipped}
-use Rattle.forms.specs.AttributeRows.{SoundFrom, SoundRows, attributes_of}
+use Rattle.forms.specs.AttributeRows.{SoundFrom, attributes_of}
 use Rattle.forms.specs.declared.rows.Row.{Row}
 use Rattle.forms.specs.declared.rows.Rows.{Rows}
 use Rattle.forms.specs.Laws.AttributeRows.{taken-attribute, taken-none, ahead as ahead-of, found-attribute, found-none}
@@ -39,9 +39,6 @@ pub record Covering (l : ℕ) (xs ys : Attrs) (ahead others : Rows 5) : Type 0 w
   pub from : ℕ
   pub core : SoundFrom l from others
   pub same : covered_names xs false ys ≡ covered_names (attributes_of l ahead) false (attributes_of l others)
-
-pub covering-start : {l : ℕ} (r s : Rows 5) → SoundRows l r → SoundRows l s → Covering l (attributes_of l r) (attributes_of l s) r s
-covering-start r s f g = record { low = 0; sound = f; from = 0; core = g; same = refl }
 
 module _ {l : ℕ} {xs ys : Attrs} {ahead others : Rows 5} (i : Covering l xs ys ahead others) where
   pub covering-end : ahead.left ≡ 0 → true ≡ covered_names xs false ys

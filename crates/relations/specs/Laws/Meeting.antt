@@ -9,7 +9,7 @@ use Rattle.cedar.specs.Consistency.{consistent, consistent_attrs}
 use Rattle.forms.specs.Parts.{rd}
 use Rattle.forms.specs.TypeBytes.{dec, whole}
 use Rattle.forms.specs.RowBytes.{IsFirst, TookFirst, Skipped}
-use Rattle.forms.specs.AttributeRows.{SoundFrom, SoundRows, attributes_of}
+use Rattle.forms.specs.AttributeRows.{SoundFrom, attributes_of}
 use Rattle.forms.specs.declared.rows.Row.{Row}
 use Rattle.forms.specs.declared.rows.Rows.{Rows}
 use Rattle.forms.specs.Laws.AttributeRows.{taken-attribute, taken-none, ahead as ahead-of, found-attribute, found-none}
@@ -32,9 +32,6 @@ pub record Meeting (o : Bool) (l : ℕ) (xs ys : Attrs) (others ahead : Rows 5) 
   pub low : ℕ
   pub core : SoundFrom l low ahead
   pub same : consistent_attrs o xs ys ≡ consistent_attrs o (attributes_of l others) (attributes_of l ahead)
-
-pub meeting-start : (o : Bool) {l : ℕ} (r s : Rows 5) → SoundRows l r → SoundRows l s → Meeting o l (attributes_of l r) (attributes_of l s) r s
-meeting-start o r s f g = record { from = 0; listed = f; low = 0; core = g; same = refl }
 
 module _ {o : Bool} {l : ℕ} {xs ys : Attrs} {others ahead : Rows 5} (i : Meeting o l xs ys others ahead) where
   pub meeting-end : ahead.left ≡ 0 → true ≡ consistent_attrs o xs ys

@@ -10,7 +10,7 @@ use Rattle.forms.specs.Laws.Views.{is_set, is-entity, is-extension}
 use Rattle.forms.specs.declared.rows.Row.{Row}
 use Rattle.forms.specs.declared.rows.Rows.{Rows}
 use Rattle.forms.specs.RowBytes.{TookFirst}
-use Rattle.forms.specs.AttributeRows.{SoundFrom, SoundRows, attributes_of}
+use Rattle.forms.specs.AttributeRows.{SoundFrom, attributes_of}
 use Rattle.forms.specs.Laws.AttributeRows.{taken-attribute, taken-none}
 use Rattle.relations.specs.Meets.{plain_kind}
 use Rattle.forms.specs.Laws.Codes.{code-dec}
@@ -21,9 +21,6 @@ pub record PlainLeft (l : ℕ) (xs : Attrs) (ahead : Rows 5) : Type 0 where
   pub low : ℕ
   pub sound : SoundFrom l low ahead
   pub same : plain_attrs xs ≡ plain_attrs (attributes_of l ahead)
-
-pub plain-start : {l : ℕ} (r : Rows 5) → SoundRows l r → PlainLeft l (attributes_of l r) r
-plain-start r s = record { low = 0; sound = s; same = refl }
 
 module _ {l : ℕ} {xs : Attrs} {ahead : Rows 5} (i : PlainLeft l xs ahead) where
   pub plain_end : ahead.left ≡ 0 → true ≡ plain_attrs xs

@@ -3,7 +3,7 @@ use Rattle.std.specs.Prelude.{◌≡◌, refl, List, Bool, true, false, ℕ}
 use Rattle.std.proofs.Common.{ap, ◌∙◌}
 use Rattle.cedar.specs.Bytes.{Bytes}
 use Rattle.cedar.specs.Types.{Mode, is_permissive, eq_names, same}
-use Rattle.cedar.specs.Subtype.{subset, sub_names}
+use Rattle.cedar.specs.Subtype.{sub_names}
 use Rattle.cedar.specs.TypeForm.{enc}
 use Rattle.cedar.proofs.Laws.Equality.{same→eq, same_refl}
 use Rattle.cedar.proofs.Laws.Bytes.{Bytes-drop}
@@ -34,10 +34,6 @@ same-types l a b x y h g =
 
 -- Entities, as `entity_under` compares their names.
 module _ (m : Mode) (a b : List ℕ) (r : Bool) where
-  pub names-permissive : (n k : ℕ) → n ≡ rd a 1 → k ≡ rd b 1 → is_permissive m ≡ true → r ≡ subset (names_by 2 n (rest 3 a)) (names_by 2 k (rest 3 b)) →
-      r ≡ sub_names m (entity_names a) (entity_names b)
-  names-permissive n k p q e h = h ∙ rw (p, q, e) refl
-
   pub names-strict : Bytes a → Bytes b → EntityForm a → EntityForm b → is_permissive m ≡ false → r ≡ eq_names (rest 3 a) (rest 3 b) →
       r ≡ sub_names m (entity_names a) (entity_names b)
   names-strict x y f g e h = h ∙ same_names x y f g ∙ rw e refl

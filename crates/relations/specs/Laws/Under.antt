@@ -1,12 +1,12 @@
 -- Subtypes by what a form shows before its parts. Assumes nothing.
-use Rattle.std.specs.Prelude.{◌≡◌, List, Bool, true, false, not, ◌||◌, cond, ◌&&◌, ℕ, zero, suc, ◌≤◌, T, eqb, leb}
+use Rattle.std.specs.Prelude.{◌≡◌, List, Bool, true, false, not, ◌||◌, cond, ◌&&◌, ℕ, T, eqb}
 use Rattle.std.proofs.Math.Path.{refl}
-use Rattle.std.proofs.Common.{ap, sym, ◌∙◌, arith, eqb→eq}
+use Rattle.std.proofs.Common.{ap, sym, ◌∙◌, eqb→eq}
 use borrow.Author.Tests.{ne_eqb, eqb-false}
 use Rattle.std.proofs.Math.Option.{none}
 use Rattle.cedar.specs.Types.{is_never, as_set, as_rec, as_ent, same, Mode, is_permissive, Atom, never, true', false', bool, long}
-use Rattle.cedar.specs.Types.{string, anyset, anyent, Ty, atom, set, rec, act, ent, ext, is, eq_flag, eq_names}
-use Rattle.cedar.specs.Subtype.{sub_atom, sub_flag, sub}
+use Rattle.cedar.specs.Types.{string, anyset, anyent, Ty, atom, set, rec, act, ent, ext, is, eq_names}
+use Rattle.cedar.specs.Subtype.{sub_atom, sub}
 use Rattle.cedar.specs.TypeForm.{one, kind_of, atom_code}
 use Rattle.cedar.proofs.Laws.Tests.{T-ext, not-T→false, eqb-equal}
 use Rattle.cedar.proofs.Laws.Equality.{is→eq, is-refl, same→eq}
@@ -180,29 +180,3 @@ sub-kinds m a (rec p ys) n = rw (no_record a n, never-code a) refl
 sub-kinds m a (act i ys) n = rw (unlike a (act i ys) n, never-code a) refl
 sub-kinds m a (ent ks) n = rw (no-entity a n, never-code a) refl
 sub-kinds m a (ext i) n = rw (unlike a (ext i) n, never-code a) refl
-
--- Flags, as `required_under` compares them.
-module _ (m : Mode) where
-  pub flag-permissive : (r s : ℕ) → r ≤ 1 → s ≤ 1 → is_permissive m ≡ true → leb s r ≡ sub_flag m (eqb r 1) (eqb s 1)
-  flag-permissive r s p q e = rw e (go r s p q)
-    where
-      go : (r s : ℕ) → r ≤ 1 → s ≤ 1 → leb s r ≡ (eqb r 1 || not (eqb s 1))
-      go zero zero p q = refl
-      go zero (suc zero) p q = refl
-      go zero (suc (suc s)) p q = absurd (omega arith)
-      go (suc zero) zero p q = refl
-      go (suc zero) (suc zero) p q = refl
-      go (suc zero) (suc (suc s)) p q = absurd (omega arith)
-      go (suc (suc r)) s p q = absurd (omega arith)
-
-  pub flag-strict : (r s : ℕ) → r ≤ 1 → s ≤ 1 → is_permissive m ≡ false → eqb r s ≡ sub_flag m (eqb r 1) (eqb s 1)
-  flag-strict r s p q e = rw e (go r s p q)
-    where
-      go : (r s : ℕ) → r ≤ 1 → s ≤ 1 → eqb r s ≡ eq_flag (eqb r 1) (eqb s 1)
-      go zero zero p q = refl
-      go zero (suc zero) p q = refl
-      go zero (suc (suc s)) p q = absurd (omega arith)
-      go (suc zero) zero p q = refl
-      go (suc zero) (suc zero) p q = refl
-      go (suc zero) (suc (suc s)) p q = absurd (omega arith)
-      go (suc (suc r)) s p q = absurd (omega arith)

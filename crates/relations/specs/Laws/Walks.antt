@@ -10,7 +10,7 @@ use Rattle.cedar.specs.Subtype.{sub_flag, sub, sub_attrs}
 use Rattle.forms.specs.Parts.{rest, rd}
 use Rattle.forms.specs.TypeBytes.{dec, dec_a, whole, Sound}
 use Rattle.forms.specs.RowBytes.{IsFirst, TookFirst, Skipped}
-use Rattle.forms.specs.AttributeRows.{SoundFrom, SoundRows, attributes_of}
+use Rattle.forms.specs.AttributeRows.{SoundFrom, attributes_of}
 use Rattle.forms.specs.declared.rows.Row.{Row}
 use Rattle.forms.specs.declared.rows.Rows.{Rows}
 use Rattle.forms.specs.Laws.Attributes.{entry, attrs-none}
@@ -44,9 +44,6 @@ pub record Under (m : Mode) (l : ℕ) (xs ys : Attrs) (others ahead : Rows 5) : 
   pub low : ℕ
   pub upper : SoundFrom l low ahead
   pub same : sub_attrs m xs ys ≡ sub_attrs m (attributes_of l others) (attributes_of l ahead)
-
-pub under-start : (m : Mode) {l : ℕ} (r s : Rows 5) → SoundRows l r → SoundRows l s → Under m l (attributes_of l r) (attributes_of l s) r s
-under-start m r s f g = record { from = 0; lower = f; low = 0; upper = g; same = refl }
 
 module _ {m : Mode} {l : ℕ} {xs ys : Attrs} {others ahead : Rows 5} (i : Under m l xs ys others ahead) where
   pub under-end : ahead.left ≡ 0 → true ≡ sub_attrs m xs ys

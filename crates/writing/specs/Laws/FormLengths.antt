@@ -1,5 +1,5 @@
 -- Lengths of results, and how they add up. Assumes nothing.
-use Rattle.std.specs.Prelude.{◌≡◌, refl, List, ◌++◌, Bool, ℕ, suc, ◌+◌, ◌*◌, ◌≤◌, length, Result as Answer, Ok, Err, IsErrAnd}
+use Rattle.std.specs.Prelude.{◌≡◌, refl, List, ◌++◌, Bool, ℕ, suc, ◌+◌, ◌*◌, ◌≤◌, length, Result as RustResult, Ok, Err, IsErrAnd}
 use Rattle.std.proofs.Common.{ap, ◌∙◌, arith, length-append}
 use Rattle.std.proofs.Math.Path.{sym}
 use Rattle.cedar.specs.Types.{Ty, Attrs, nil, attr}
@@ -16,7 +16,7 @@ length-entries nil = refl
 length-entries (attr n r t xs) = let ih = length-entries xs in omega arith
 
 -- A refusal that was handed on.
-pub seen-err : {A : Type 0} (r : Answer A Refusal) (e : Refusal) → IsErrAnd r (λ d. d ≡ e) → seen r ≡ err (number_of e)
+pub seen-err : {A : Type 0} (r : RustResult A Refusal) (e : Refusal) → IsErrAnd r (λ d. d ≡ e) → seen r ≡ err (number_of e)
 seen-err (Ok a) e h = absurd h
 seen-err (Err d) e h = ap (λ (z : Refusal). err (number_of z)) h
 

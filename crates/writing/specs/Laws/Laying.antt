@@ -13,7 +13,7 @@ use Rattle.forms.specs.Laws.Parts.{length_rest}
 use Rattle.writing.specs.Written.{Written}
 use Rattle.writing.specs.FormLengths.{table, form_of, Ready}
 use Rattle.writing.specs.Laws.FormLengths.{length-entries, bind_ok, Cut, before}
-use Rattle.writing.specs.Laws.Writing.{back, written_at, room_at, Filling, filling-start, filling-length, filling-at, filling-pos, filling-body}
+use Rattle.writing.specs.Laws.Writing.{back, written_at, room_at, Filling, filling-start, filling-at, filling-pos, filling-body}
 use Rattle.writing.specs.Laws.Writing.{filling-entry, filling-end}
 
 -- A result that is known.
@@ -42,9 +42,6 @@ module _ {A B : Type 0} {w : A → List ℕ} {v : B → List ℕ} {p : List ℕ}
   behind-front = omega (arith, sums, g.room)
 
   module _ (xs : List ℕ) (at : ℕ) (q : xs ≡ over p o) (m : at ≡ length p) where
-    pub behind-at : at ≤ length xs
-    behind-at = (room_at o p xs at q m behind-front).0
-
     pub behind-ready : Ready w r (rest at xs)
     behind-ready =
         record {
@@ -53,9 +50,6 @@ module _ {A B : Type 0} {w : A → List ℕ} {v : B → List ℕ} {p : List ℕ}
           small = omega (arith, sums, g.small);
           room = omega (arith, sums, g.room, (room_at o p xs at q m behind-front).1);
         }
-
-    pub behind-small : (ys : List ℕ) (x : ℕ) → Written (form_of w r) (rest at xs) ys x → x + at ≤ most_bytes
-    behind-small ys x t = omega (arith, t.many, ap (λ (z : Result A). length (form_of w z)) inner.1.0, sums, g.small)
 
     pub behind-written : (ys : List ℕ) (x : ℕ) → Written (form_of w r) (rest at xs) ys x → Written (form_of v s) o (back at xs ys) (x + at)
     behind-written ys x t =
@@ -101,9 +95,6 @@ unfolding enc
 body-cut n r t xs = refl
 
 module _ {all ahead : Result Attrs} {o : List ℕ} {at pos : ℕ} {out : List ℕ} (i : Laying all ahead o at pos out) where
-  pub laying-length : length out ≡ length o
-  laying-length = filling-length i.filling
-
   pub laying-same : (ahead' : Result Attrs) → ahead ≡ ahead' → Laying all ahead' o at pos out
   laying-same ahead' e = rw e at i
 
@@ -147,9 +138,6 @@ module _ {all ahead : Result Attrs} {o : List ℕ} {at pos : ℕ} {out : List �
         )
 
     -- The body is lent the part from pos on.
-    pub laying-pos : pos ≤ length out
-    laying-pos = omega (arith, filling-pos i.filling)
-
     pub laying-ready : Ready enc c (rest pos out)
     laying-ready =
         record {
@@ -172,9 +160,6 @@ module _ {all ahead : Result Attrs} {o : List ℕ} {at pos : ℕ} {out : List �
 
       pub laying-entry : 5 ≤ length (rest at (back pos out ys))
       laying-entry = omega (arith, laying-at, length_rest at (back pos out ys))
-
-      pub laying-back : length (back pos out ys) ≡ length out
-      laying-back = omega (arith, filling-length half, laying-length)
 
       pub laying-small : (x ≤ most_bytes) × ((pos + x ≤ most_bytes) × (at + 5 ≤ most_bytes))
       laying-small = (

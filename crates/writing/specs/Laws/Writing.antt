@@ -74,10 +74,6 @@ module _ {p o xs : List ℕ} {at : ℕ} (t : Written p o xs at) where
         many = omega (arith, t.many, u.many, length-append p w);
       }
 
-  -- What is written lies inside.
-  pub written-inside : at ≤ length xs
-  written-inside = omega (arith, t.many, ap length t.bytes, length-append p (drop (length p) o))
-
   -- There is room for k more bytes behind the front.
   pub written-left : (k : ℕ) → length p + k ≤ length o → (at + k ≤ length xs) × (k ≤ length (rest at xs)) × (at + k ≤ length o)
   written-left k h =

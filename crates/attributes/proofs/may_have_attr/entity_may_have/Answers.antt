@@ -1,14 +1,7 @@
 use Rattle.std.proofs.Common.{refl}
-use Rattle.cedar.specs.Attribute.{may_have_names}
 use Rattle.schemas.specs.Schema.{said_by}
-use Rattle.forms.specs.Laws.NamesIn.{names-start}
 use Rattle.attributes.specs.Laws.MayHave.{none-may-have, one-may-have, next-may-have}
 use Rattle.attributes.proofs.may_have_attr.entity_may_have.Goals as goal
-
-pub loop-entity-init : goal.loop-entity-init
-loop-entity-init c =
-    let items = c.chunks_exact-entity-items.ensures in
-    names-start (may_have_names (said_by c.args.schema.now) c.args.name) c.into_iter-entity-iterator.ensures.into_iter_gives items.rest items.size
 
 pub returns-then-entity_type_may_have : goal.returns-then-entity_type_may_have
 returns-then-entity_type_may_have c =

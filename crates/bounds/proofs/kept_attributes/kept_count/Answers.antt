@@ -1,23 +1,14 @@
 use Rattle.std.proofs.Common.{true, false, sym, ◌∙◌, arith, refl, lit<}
 use Rattle.forms.specs.Modes.{as_mode}
 use Rattle.forms.specs.Laws.Attributes.{laid}
-use Rattle.forms.specs.Laws.Tables.{split}
 use Rattle.bound_lengths.specs.Laws.Pairs.{walk-whole, walk-other}
-use Rattle.bounds.specs.Laws.KeptAttributes.{strict-all, kept-some, counting-start, counting-end, counting-few, counting_more}
+use Rattle.bounds.specs.Laws.KeptAttributes.{strict-all, kept-some, counting-end, counting_more}
 use Rattle.bounds.proofs.kept_attributes.kept_count.Goals as goal
 
 pub returns-then-not-is_permissive : goal.returns-then-not-is_permissive
 returns-then-not-is_permissive c =
     strict-all (as_mode c.args.mode) (sym c.is_permissive.ensures ∙ c.if-not-is_permissive.true) c.args.levels 0 c.args.a.now c.args.b.now
     c.at-rows.result.left c.at-rows.ensures.left c.requires.joined
-
-pub loop-row-init : goal.loop-row-init
-loop-row-init c =
-    let first = split c.at-rows.ensures.left c.at-rows.ensures.entries c.at-rows.ensures.bodies in
-    let second = split c.at-others.ensures.left c.at-others.ensures.entries c.at-others.ensures.bodies in
-    let low = (c.type_inv.a 0).fits in
-    let high = (c.type_inv.a 1).fits in
-    counting-start c.requires.a_tabled c.requires.b_tabled first second (omega (arith, c.at-rows.ensures.left)) (as_mode c.args.mode) c.requires.joined
 
 pub next-requires : goal.next-requires
 next-requires c = (lit< tt, laid c.loop-row.invariant.walk.first)
@@ -32,10 +23,6 @@ kept_with-requires-clause-row_whole c =
 pub kept_with-requires-clause-other_whole : goal.kept_with-requires-clause-other_whole
 kept_with-requires-clause-other_whole c =
     walk-other c.loop-row.invariant.walk c.in-Some.ensures c.name.ensures.0 c.find-other.ensures.passed c.find-other.result c.find-other.ensures.sought
-
-pub overflow_add-count : goal.overflow_add-count
-overflow_add-count c =
-    omega (arith, counting-few c.loop-row.invariant c.in-Some.ensures c.name.ensures.0 c.find-other.ensures.passed c.find-other.result c.find-other.ensures.sought)
 
 pub loop-row-preserved-then-is_some : goal.loop-row-preserved-then-is_some
 loop-row-preserved-then-is_some c =

@@ -1,14 +1,12 @@
-use Rattle.conformance.specs.Laws.Records.{record-start, record-end, attributes-laid, pairs-laid, pair-head, pair-whole, pair-found, pair-absent, attribute-whole, record-stop, record-again}
+use Rattle.conformance.specs.Laws.Records.{record-start, record-end, attributes-laid, pairs-laid, pair-whole, pair-found, pair-absent, attribute-whole, record-stop, record-again}
 use Rattle.conformance.specs.Laws.Members.{members-laid, member-whole}
 use Rattle.cedar.specs.Conformance.{verdict}
-use Rattle.conformance.specs.Laws.Members.{members-start, members-end, members-stop, members-again}
-use Rattle.forms.specs.Laws.Ahead.{table-entries}
-use Rattle.forms.specs.ValueBytes.{member_row, whole_v}
+use Rattle.conformance.specs.Laws.Members.{members-end, members-stop, members-again}
 use Rattle.conformance.specs.Laws.Conforms.{taken-kind, kind-not, kind-atom-yes, set-members, record-pairs, record-parts, entity-names, uid-length}
 use Rattle.conformance.specs.Laws.Conforms.{action-name, extension-call}
 use Rattle.forms.specs.Laws.Values.{value-level, value-first, value-kind, value_as}
 use Rattle.forms.specs.Laws.Parts.{rest_0}
-use Rattle.forms.specs.Laws.Views.{not-empty, is_set, is-entity, is-action, is-extension}
+use Rattle.forms.specs.Laws.Views.{is_set, is-entity, is-action, is-extension}
 use Rattle.conformance.specs.Verdicts.{verdict_of}
 use mathlib.Core.Bool.{Bool}
 use mathlib.Core.Path.{◌≡◌, refl, ap, sym, ◌∙◌}
@@ -36,12 +34,6 @@ conforms-returns-then-not-takes_kind t c =
     let q = c.takes_kind in
     let args = c.args in
     kind-not _ _ args.levels args.t.now args.v.now c.requires.t_whole c.requires.v_whole q.result (q.ensures ∙ ap₂ takes c.of-kind.ensures c.of.ensures) c.if-not-takes_kind.true-raw
-
-pub conforms-slice_bounds-members_conform-count : goal.conforms-slice_bounds-members_conform-count
-conforms-slice_bounds-members_conform-count t c = omega (arith, not-empty c.args.levels c.args.t.now c.requires.t_whole)
-
-pub conforms-slice_bounds-members_conform-start : goal.conforms-slice_bounds-members_conform-start
-conforms-slice_bounds-members_conform-start t c = conforms-slice_bounds-members_conform-count t c
 
 pub conforms-overflow_sub-levels : goal.conforms-overflow_sub-levels
 conforms-overflow_sub-levels t c = omega (arith, value-level c.args.levels c.args.v.now c.requires.v_whole)
@@ -173,15 +165,6 @@ conforms-returns-in_default t c =
     (other Set c.in_default.not-Set) (other Record c.in_default.not-Record) (other Entity c.in_default.not-Entity) (other Action c.in_default.not-Action)
     (other Extension c.in_default.not-Extension)
 
-pub members_conform-at-members-requires : goal.members_conform-at-members-requires
-members_conform-at-members-requires t c =
-    (omega arith, table-entries member_row (λ _. whole_v c.args.levels) tt 1 c.args.v.now c.requires.v_whole _ refl)
-
-pub members_conform-loop-member-init : goal.members_conform-loop-member-init
-members_conform-loop-member-init t c =
-    let members = c.at-members.ensures in
-    members-start c.args.levels _ c.args.v.now c.requires.v_whole members.left members.entries members.bodies
-
 pub members_conform-next-requires : goal.members_conform-next-requires
 members_conform-next-requires t c = (omega arith, members-laid c.loop-member.invariant)
 
@@ -209,9 +192,6 @@ record_conforms-loop-pair-init t c =
 
 pub record_conforms-next-requires : goal.record_conforms-next-requires
 record_conforms-next-requires t c = (omega arith, pairs-laid c.loop-pair.invariant)
-
-pub record_conforms-name-requires : goal.record_conforms-name-requires
-record_conforms-name-requires t c = let four = pair-head c.loop-pair.invariant c.in-Some.ensures in omega arith
 
 pub record_conforms-find-requires : goal.record_conforms-find-requires
 record_conforms-find-requires t c = (omega arith, attributes-laid c.loop-pair.invariant)

@@ -1,13 +1,7 @@
 use Rattle.std.proofs.Common.{refl, sym, ◌∙◌}
-use Rattle.cedar.specs.Types.{mem}
-use Rattle.forms.specs.Laws.NamesIn.{names-start, names-end}
+use Rattle.forms.specs.Laws.NamesIn.{names-end}
 use Rattle.conformance.specs.Laws.Names.{name-here, name-other}
 use Rattle.conformance.proofs.entities.stands.Goals as goal
-
-pub loop-pair-init : goal.loop-pair-init
-loop-pair-init c =
-    let items = c.chunks_exact-pair-items.ensures in
-    names-start (mem c.args.name) c.into_iter-pair-iterator.ensures.into_iter_gives items.rest items.size
 
 pub returns-then-u16_at-name : goal.returns-then-u16_at-name
 returns-then-u16_at-name c =

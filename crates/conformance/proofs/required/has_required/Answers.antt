@@ -1,14 +1,8 @@
 use Rattle.std.proofs.Common.{arith}
-use Rattle.conformance.specs.Laws.Required.{records-attrs, records-pairs, required-start, required-attributes, required-pairs, required-end, attribute-head}
+use Rattle.conformance.specs.Laws.Required.{required-start, required-attributes, required-pairs, required-end}
 use Rattle.conformance.specs.Laws.Required.{required-optional, required-found, required-lacks}
 use Rattle.conformance.specs.Laws.Taken.{sought-it, sought-not}
 use Rattle.conformance.proofs.required.has_required.Goals as goal
-
-pub at-attributes-requires : goal.at-attributes-requires
-at-attributes-requires c = (omega arith, records-attrs c.args.t.now c.args.v.now c.requires)
-
-pub at-pairs-requires : goal.at-pairs-requires
-at-pairs-requires c = (omega arith, records-pairs c.args.t.now c.args.v.now c.requires)
 
 pub loop-attribute-init : goal.loop-attribute-init
 loop-attribute-init c =
@@ -18,12 +12,6 @@ loop-attribute-init c =
 
 pub next-requires : goal.next-requires
 next-requires c = (omega arith, required-attributes c.loop-attribute.invariant)
-
-pub is_required-requires : goal.is_required-requires
-is_required-requires c = let five = attribute-head c.loop-attribute.invariant c.in-Some.ensures in omega arith
-
-pub name-requires : goal.name-requires
-name-requires c = let five = attribute-head c.loop-attribute.invariant c.in-Some.ensures in omega arith
 
 pub find-requires : goal.find-requires
 find-requires c = (omega arith, required-pairs c.loop-attribute.invariant)

@@ -1,15 +1,11 @@
 use mathlib.Core.Path.{ap, sym, ◌∙◌}
-use mathlib.Core.List.{List}
-use Rattle.cedar.specs.Levels.{depth, depth_value}
-use Prim.Native.Nat.{suc, ◌-◌, max}
+use Prim.Native.Nat.{suc, ◌-◌}
 use native.Mathlib.Omega.{arith}
-use Rattle.forms.specs.Rows.{body_row}
-use Rattle.forms.specs.TypeBytes.{dec}
-use Rattle.forms.specs.ValueBytes.{pair_row, whole_v, dec_v}
+use Rattle.forms.specs.ValueBytes.{pair_row, whole_v}
 use Rattle.forms.specs.Laws.Parts.{rest_0}
 use Rattle.forms.specs.Laws.Bytes.{Bytes-index}
 use Rattle.forms.specs.Laws.Bodies.{table-bodies}
-use Rattle.forms.specs.Laws.Ahead.{table-count, table-entries, ahead-room, ahead-inside, ahead-body}
+use Rattle.forms.specs.Laws.Ahead.{ahead-room, ahead-inside, ahead-body}
 use Rattle.std.proofs.Common.{◌≡◌}
 use Rattle.forms.specs.Kinds.{kind_number, value_kind_number}
 use Rattle.forms.specs.Parts.{kind}
@@ -20,55 +16,14 @@ use Rattle.forms.specs.declared.kinds.ValueKind.TheVariants as is_value
 use Rattle.forms.specs.Laws.Kinds.{whole-kind, kind-differs, value-kind-differs}
 use Rattle.forms.specs.Laws.Views.{not-empty, whole-level, is_set}
 use Rattle.forms.specs.Laws.Values.{value-level, value-first, value_as, value-kind}
-use Rattle.levels.specs.declared.depths.Form.{Form}
 use Rattle.levels.specs.declared.depths.Form.TheVariants.{Types as types, Values as values}
-use Rattle.levels.specs.Deepest.{whole_form, levels_in, deepest_at}
+use Rattle.levels.specs.Deepest.{deepest_at}
 use Rattle.levels.specs.Laws.Deepest.{levels-bounds, bodies-none, bodies-start, bodies-left, bodies-end, bodies-passed, bodies-again}
-use Rattle.levels.specs.Laws.Deepest.{sets-start, sets-again, sets_end}
+use Rattle.levels.specs.Laws.Deepest.{sets-again, sets_end}
 use Rattle.levels.specs.Laws.Deepest.{record-levels, action-levels, lone-levels, record-bodies, action-bodies}
 use Rattle.levels.specs.Laws.Deepest.{set-value-levels, record-value-levels, call-levels, lone-value-levels}
-use Prim.Native.Nat.{ℕ}
 use Rattle.levels.proofs.depths.+deeper_deepest_body_type_levels_value_levels.Goals as goal
 use Rattle.levels.proofs.depths.+deeper_deepest_body_type_levels_value_levels.Goals.{deepest_body-then-most-len, deepest_body-else-most-len}
-
-pub deeper-type_levels-requires : goal.deeper-type_levels-requires
-deeper-type_levels-requires t c =
-    let args = c.args in
-    (omega arith, rw (rest_0 args.b.now) (sym (ap (λ (f : Form). whole_form f args.levels args.b.now) c.in-Types.is) ∙ c.requires))
-
-pub deeper-value_levels-requires : goal.deeper-value_levels-requires
-deeper-value_levels-requires t c =
-    let args = c.args in
-    (omega arith, rw (rest_0 args.b.now) (sym (ap (λ (f : Form). whole_form f args.levels args.b.now) c.in-Values.is) ∙ c.requires))
-
-pub deeper-returns-in-Types : goal.deeper-returns-in-Types
-deeper-returns-in-Types t c =
-    let args = c.args in
-    let levels = c.type_levels.ensures ∙ ap (λ (x : List ℕ). depth (dec args.levels x)) (rest_0 args.b.now) in
-    c.max.ensures ∙ ap (max args.most) (levels ∙ sym (ap (λ (f : Form). levels_in f args.levels args.b.now) c.in-Types.is))
-
-pub deeper-returns-in-Values : goal.deeper-returns-in-Values
-deeper-returns-in-Values t c =
-    let args = c.args in
-    let levels = c.value_levels.ensures ∙ ap (λ (x : List ℕ). depth_value (dec_v args.levels x)) (rest_0 args.b.now) in
-    c.max-in-Values.ensures ∙ ap (max args.most) (levels ∙ sym (ap (λ (f : Form). levels_in f args.levels args.b.now) c.in-Values.is))
-
-pub deepest_body-u16_at-n-requires : goal.deepest_body-u16_at-n-requires
-deepest_body-u16_at-n-requires t c =
-    let args = c.args in
-    omega (arith, table-count (body_row args.width) (λ _. whole_form args.form args.levels) tt args.at args.t.now c.requires.t_table)
-
-pub deepest_body-overflow_mul-end : goal.deepest_body-overflow_mul-end
-deepest_body-overflow_mul-end t c =
-    let count = c.u16_at-n in
-    let args = c.args in
-    omega (arith, table-entries (body_row args.width) (λ _. whole_form args.form args.levels) tt args.at args.t.now c.requires.t_table count.result count.ensures.0)
-
-pub deepest_body-overflow_add-end : goal.deepest_body-overflow_add-end
-deepest_body-overflow_add-end t c =
-    let count = c.u16_at-n in
-    let args = c.args in
-    omega (arith, table-entries (body_row args.width) (λ _. whole_form args.form args.levels) tt args.at args.t.now c.requires.t_table count.result count.ensures.0)
 
 pub deepest_body-returns-then-n-eq0 : goal.deepest_body-returns-then-n-eq0
 deepest_body-returns-then-n-eq0 t c =
@@ -76,45 +31,12 @@ deepest_body-returns-then-n-eq0 t c =
     let args = c.args in
     bodies-none args.form args.levels args.width args.at args.t.now c.requires.t_table count.result count.ensures.0 c.if-n-eq0.true
 
-pub deepest_body-slice_bounds-e-count : goal.deepest_body-slice_bounds-e-count
-deepest_body-slice_bounds-e-count t c =
-    let count = c.u16_at-n in
-    let args = c.args in
-    omega (arith, table-entries (body_row args.width) (λ _. whole_form args.form args.levels) tt args.at args.t.now c.requires.t_table count.result count.ensures.0)
-
-pub deepest_body-slice_bounds-e-start : goal.deepest_body-slice_bounds-e-start
-deepest_body-slice_bounds-e-start t c =
-    let count = c.u16_at-n in
-    let args = c.args in
-    omega (arith, table-entries (body_row args.width) (λ _. whole_form args.form args.levels) tt args.at args.t.now c.requires.t_table count.result count.ensures.0)
-
-pub deepest_body-slice_bounds-e-end : goal.deepest_body-slice_bounds-e-end
-deepest_body-slice_bounds-e-end t c =
-    let count = c.u16_at-n in
-    let args = c.args in
-    omega (arith, table-entries (body_row args.width) (λ _. whole_form args.form args.levels) tt args.at args.t.now c.requires.t_table count.result count.ensures.0)
-
-pub deepest_body-slice_bounds-b-count : goal.deepest_body-slice_bounds-b-count
-deepest_body-slice_bounds-b-count t c =
-    let count = c.u16_at-n in
-    let args = c.args in
-    omega (arith, table-entries (body_row args.width) (λ _. whole_form args.form args.levels) tt args.at args.t.now c.requires.t_table count.result count.ensures.0)
-
-pub deepest_body-slice_bounds-b-start : goal.deepest_body-slice_bounds-b-start
-deepest_body-slice_bounds-b-start t c =
-    let count = c.u16_at-n in
-    let args = c.args in
-    omega (arith, table-entries (body_row args.width) (λ _. whole_form args.form args.levels) tt args.at args.t.now c.requires.t_table count.result count.ensures.0)
-
 pub deepest_body-loop-left-init : goal.deepest_body-loop-left-init
 deepest_body-loop-left-init t c =
     let if1 = c.if-n-eq0 in
     let count = c.u16_at-n in
     let args = c.args in
     bodies-start args.form args.levels args.width args.at args.t.now c.requires.t_table count.result count.ensures.0 (Bytes-index args.t.now (λ i. (c.type_inv.t i).fits)) count.ensures.1 if1.false
-
-pub deepest_body-overflow_add-left : goal.deepest_body-overflow_add-left
-deepest_body-overflow_add-left t c = omega (arith, c.loop-left.invariant.small.0, c.loop-left.invariant.small.1)
 
 pub deepest_body-u16_at-len-requires : goal.deepest_body-u16_at-len-requires
 deepest_body-u16_at-len-requires t c =
@@ -143,18 +65,6 @@ deepest_body-slice_bounds-e-start-in-loop-left t c =
     let loop = c.loop-left in
     omega (arith, ahead-room loop.invariant.rows (bodies-left loop.invariant c.loop-left-test.true))
 
-pub deepest_body-slice_bounds-b-count-in-loop-left : goal.deepest_body-slice_bounds-b-count-in-loop-left
-deepest_body-slice_bounds-b-count-in-loop-left t c =
-    let size = c.u16_at-len in
-    let loop = c.loop-left in
-    omega (arith, ahead-inside loop.invariant.rows (bodies-left loop.invariant c.loop-left-test.true) size.result size.ensures.0)
-
-pub deepest_body-slice_bounds-b-start-in-loop-left : goal.deepest_body-slice_bounds-b-start-in-loop-left
-deepest_body-slice_bounds-b-start-in-loop-left t c =
-    let size = c.u16_at-len in
-    let loop = c.loop-left in
-    omega (arith, ahead-inside loop.invariant.rows (bodies-left loop.invariant c.loop-left-test.true) size.result size.ensures.0)
-
 pub deepest_body-overflow_sub-left : goal.deepest_body-overflow_sub-left
 deepest_body-overflow_sub-left t c =
     let loop = c.loop-left in
@@ -179,23 +89,8 @@ deepest_body-loop-left-preserved t c =
 pub deepest_body-returns : goal.deepest_body-returns
 deepest_body-returns t c = bodies-end c.loop-left.invariant (omega arith)
 
-pub type_levels-loop-b-init : goal.type_levels-loop-b-init
-type_levels-loop-b-init t c =
-    let args = c.args in
-    sets-start args.levels args.t.now c.requires
-
 pub type_levels-bounds-b-0 : goal.type_levels-bounds-b-0
 type_levels-bounds-b-0 t c =
-    let loop = c.loop-b in
-    omega (arith, not-empty loop.left loop.b.now loop.invariant.good)
-
-pub type_levels-slice_bounds-b-count-in-loop-b : goal.type_levels-slice_bounds-b-count-in-loop-b
-type_levels-slice_bounds-b-count-in-loop-b t c =
-    let loop = c.loop-b in
-    omega (arith, not-empty loop.left loop.b.now loop.invariant.good)
-
-pub type_levels-slice_bounds-b-start-in-loop-b : goal.type_levels-slice_bounds-b-start-in-loop-b
-type_levels-slice_bounds-b-start-in-loop-b t c =
     let loop = c.loop-b in
     omega (arith, not-empty loop.left loop.b.now loop.invariant.good)
 
@@ -213,11 +108,6 @@ pub type_levels-loop-b-preserved : goal.type_levels-loop-b-preserved
 type_levels-loop-b-preserved t c =
     let loop = c.loop-b in
     sets-again loop.invariant c.loop-b-test.true
-
-pub type_levels-overflow_sub-above : goal.type_levels-overflow_sub-above
-type_levels-overflow_sub-above t c =
-    let loop = c.loop-b in
-    omega (arith, loop.invariant.few)
 
 pub type_levels-overflow_add-above : goal.type_levels-overflow_add-above
 type_levels-overflow_add-above t c =

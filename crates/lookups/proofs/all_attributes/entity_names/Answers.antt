@@ -4,7 +4,7 @@ use Rattle.cedar.specs.Result.{Result}
 use Rattle.schemas.specs.Schema.{limits_in}
 use Rattle.lookups.specs.Names.{NamedBy}
 use Rattle.lookups.specs.Laws.Lookup.{types-cut}
-use Rattle.lookups.specs.Laws.Names.{no-types, no-entry, rows-entered, rows-keep}
+use Rattle.lookups.specs.Laws.Names.{no-types, no-entry, rows-keep}
 use Rattle.lookups.proofs.all_attributes.entity_names.Goals as goal
 
 pub returns-in_default : goal.returns-in_default
@@ -15,12 +15,6 @@ returns-in_default-entity_attributes c =
     let cut = c.in-Some.ensures.cases in
     no-entry c.args.schema.now _ c.args.types.now c.args.kept.now c.in-Some.first.now _ (types-cut _ _ _ cut.1 cut.2) cut.3
     c.u16_at.result c.u16_at.ensures.0 c.in_default-entity_attributes.ensures
-
-pub kept_names-requires-clause-entered : goal.kept_names-requires-clause-entered
-kept_names-requires-clause-entered c =
-    let cut = c.in-Some.ensures.cases in
-    rows-entered c.args.schema.now (step_fits (limits_in c.args.schema.now) (length c.args.work.now)) c.args.types.now c.args.kept.now c.in-Some.first.now _ (types-cut _ _ _ cut.1 cut.2) cut.3
-    c.u16_at.result c.u16_at.ensures.0 c.in-Some-entity_attributes.attributes c.in-Some-entity_attributes.ensures c.requires.kept_room.0 c.requires.kept_room.1
 
 pub returns : goal.returns
 returns c =

@@ -1,16 +1,12 @@
-use Rattle.std.proofs.Common.{◌≡◌, arith, length}
+use Rattle.std.proofs.Common.{◌≡◌, length}
 use Rattle.cedar.specs.Attribute.{lookup_names}
 use Rattle.cedar.specs.Calls.{step_fits}
 use Rattle.cedar.specs.Result.{err}
 use Rattle.forms.specs.Names.{names_in}
 use Rattle.schemas.specs.Schema.{limits_in, said_by}
-use Rattle.forms.specs.Laws.Parts.{length_rest}
 use Rattle.lookups.specs.Laws.Lookup.{looked-none, looked-some}
-use Rattle.lookups.specs.Laws.Names.{named-err, keeping_start, keeping-end, keeping-too-long, keeping-drops, keeping-room, keeping-keeps}
+use Rattle.lookups.specs.Laws.Names.{named-err, keeping-end, keeping-too-long, keeping-drops, keeping-keeps}
 use Rattle.lookups.proofs.all_attributes.kept_names.Goals as goal
-
-pub loop-row-init : goal.loop-row-init
-loop-row-init c = keeping_start _ c.args.attributes c.args.kept.now c.requires.entered
 
 pub returns-in_err-look_up_types : goal.returns-in_err-look_up_types
 returns-in_err-look_up_types c =
@@ -30,11 +26,6 @@ loop-row-preserved-in_default-2 c =
     let lacks = looked-none lim told c.look_up_types.new.last c.in_ok-look_up_types.field-0 c.in_ok-look_up_types.ensures c.in_default-2.is in
     keeping-drops c.loop-row.invariant c.next.new.self c.in-Some.ensures c.name-name.result c.name-name.ensures.0
     (rw c.loop-row.auto.work at lacks)
-
-pub put_name-requires : goal.put_name-requires
-put_name-requires c =
-    let room = keeping-room c.loop-row.invariant c.next.new.self c.in-Some.ensures c.name-name.result c.name-name.ensures.0 in
-    (omega (arith, length_rest c.loop-row.bytes c.loop-row.kept), c.name-name.ensures.1)
 
 pub loop-row-preserved : goal.loop-row-preserved
 loop-row-preserved c =

@@ -1,13 +1,7 @@
 use Rattle.std.proofs.Common.{Bool, ◌&&◌, refl, ap, sym, ◌∙◌}
-use Rattle.forms.specs.Laws.NamesIn.{names-start}
 use Rattle.lookups.specs.Laws.Lookup.{attribute-none, folding-end, folding-lacks, folding-unbounded, folding-too-long, folding-next}
 use Rattle.lookups.proofs.lookup_attribute_type.fold_attribute.Goals as goal
 use Rattle.lookups.proofs.lookup_attribute_type.fold_attribute.Goals.{then-found, else-found}
-
-pub loop-entity-init : goal.loop-entity-init
-loop-entity-init c =
-    let items = c.chunks_exact-entity-items.ensures in
-    record { held = c.requires; ahead = names-start _ c.into_iter-entity-iterator.ensures.into_iter_gives items.rest items.size }
 
 pub returns-in_default : goal.returns-in_default
 returns-in_default c =

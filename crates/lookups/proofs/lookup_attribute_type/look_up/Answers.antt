@@ -7,9 +7,9 @@ use Rattle.forms.specs.declared.kinds.Kind.TheVariants.{Entity}
 use Rattle.forms.specs.Laws.Kinds.{whole-kind, kind-same}
 use Rattle.forms.specs.Laws.Views.{is-entity}
 use Rattle.schemas.specs.Schema.{limits_in, said_by}
-use Rattle.attributes.specs.Laws.Place.{placed_at, place_none}
+use Rattle.attributes.specs.Laws.Place.{place_none}
 use Rattle.lookups.specs.Lookup.{LookedUp}
-use Rattle.lookups.specs.Laws.Lookup.{entity-lookup, own-none, own-found, stands-shown}
+use Rattle.lookups.specs.Laws.Lookup.{entity-lookup, own-none}
 use Rattle.lookups.proofs.lookup_attribute_type.look_up.Goals as goal
 
 pub of-requires : goal.of-requires
@@ -34,17 +34,3 @@ returns-in_default-own_attribute c =
     let other = λ (e : kind c.args.t.now ≡ 10). c.in_default.not-Entity (kind-same c.of.result Entity (c.of.ensures ∙ e)) in
     own-none _ (said_by c.args.schema.now) c.args.name lim.levels c.args.t.now c.requires.good other
     (place_none _ c.args.t.now _ c.own_attribute.result c.own_attribute.ensures.placed c.in_default-own_attribute.is)
-
-pub keep-requires : goal.keep-requires
-keep-requires c =
-    let lim = limits_in c.args.schema.now in
-    let stands = placed_at c.own_attribute.result c.own_attribute.ensures.placed c.in-Some.attribute c.in-Some.is in
-    record { shown = stands-shown lim c.args.t.now _ c.in-Some.attribute c.requires.few stands; room = c.requires.room }
-
-pub returns : goal.returns
-returns c =
-    let lim = limits_in c.args.schema.now in
-    let other = λ (e : kind c.args.t.now ≡ 10). c.in_default.not-Entity (kind-same c.of.result Entity (c.of.ensures ∙ e)) in
-    let stands = placed_at c.own_attribute.result c.own_attribute.ensures.placed c.in-Some.attribute c.in-Some.is in
-    own-found _ (said_by c.args.schema.now) c.args.name lim.levels c.args.t.now c.requires.good other lim c.in-Some.attribute.required
-    c.in-Some.attribute.form.now stands.is c.keep.new.last c.keep.result c.keep.ensures.required c.keep.ensures.form c.keep.ensures.held

@@ -8,7 +8,7 @@ use Rattle.forms.specs.Names.{names_in}
 use Rattle.schemas.specs.Schema.{limits_in, said_by}
 use Rattle.cedar.specs.Calls.{step_fits}
 use Rattle.lookups.specs.Lookup.{LookedUp}
-use Rattle.lookups.specs.Laws.Lookup.{attribute-none, has-shown, types-cut, types-none, types-lack, types-fold}
+use Rattle.lookups.specs.Laws.Lookup.{attribute-none, types-cut, types-none, types-lack, types-fold}
 use Rattle.lookups.proofs.lookup_attribute_type.look_up_types.Goals as goal
 
 pub returns-in_default : goal.returns-in_default
@@ -19,9 +19,6 @@ returns-in_default-entity_attribute c =
     let cut = c.in-Some.ensures.cases in
     let lacks = attribute-none c.args.schema.now c.u16_at.result c.args.name c.entity_attribute.result c.entity_attribute.ensures c.in_default-entity_attribute.not-Found in
     types-lack _ (said_by c.args.schema.now) c.args.name c.args.types.now c.in-Some.first.now c.in-Some.others.now (types-cut _ _ _ cut.1 cut.2) cut.3 c.u16_at.result c.u16_at.ensures.0 lacks
-
-pub keep-found-requires-clause-shown : goal.keep-found-requires-clause-shown
-keep-found-requires-clause-shown c = has-shown c.args.schema.now c.u16_at.result c.args.name c.in-Found.attribute c.in-Found.ensures
 
 pub returns : goal.returns
 returns c =
