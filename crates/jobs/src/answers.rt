@@ -4,6 +4,7 @@ ghost use Rattle.cedar.specs.Calls.{fold_call, lookup_call, names_call};
 ghost use Rattle.cedar.specs.Lines.{job_room, job_work, outcome_of};
 ghost use Rattle.forms.specs.Limits.{as_limits};
 ghost use Rattle.schemas.specs.SchemaBytes.{limits_of, checked};
+ghost use Rattle.writing.specs.FormLengths.{seen};
 ghost use Rattle.validator.specs.Answers.{Answered};
 ghost use Rattle.jobs.specs.JobBytes.{job_limits};
 ghost use Rattle.jobs.specs.Walk.{asks};
@@ -12,6 +13,7 @@ use crate::operations::Operation;
 use crate::questions::Question;
 use crate::steps::Buffers;
 use forms::limits::Limits;
+use forms::refusals::Refusal;
 use schemas::whole::Checked;
 use validator::all_attributes::all_attributes_checked;
 use validator::answers::Answer;
@@ -29,38 +31,55 @@ use validator::typecheck_restricted_expr::{
 };
 
 // The lookup of an attribute, with a job's workspace. An array is cleared where its function begins, so each stands in one of its own.
-fn lookup(schema: &[u8], check: Checked, attribute: u16, t: &[u8], res: &mut [u8]) -> Answer
+fn lookup(
+    schema: &[u8],
+    check: Checked,
+    attribute: u16,
+    t: &[u8],
+    res: &mut [u8],
+) -> Result<Answer, Refusal>
     requires { check ≡ checked (limits_of check) schema.now }
-    ensures { Answered (lookup_call (as_limits (limits_of check)) schema.now attribute t.now (length res.old) job_work) res.old res.new result }
+    ensures { Answered (lookup_call (as_limits (limits_of check)) schema.now attribute t.now (length res.old) job_work) res.old res.new (seen result) }
 {
     let mut work = [0u8; Buffers::WORK];
     lookup_attribute_type_checked(schema, check, attribute, t, res, &mut work)
 }
 
 // The names of a type's attributes.
-fn names(schema: &[u8], check: Checked, t: &[u8], res: &mut [u8]) -> Answer
+fn names(schema: &[u8], check: Checked, t: &[u8], res: &mut [u8]) -> Result<Answer, Refusal>
     requires { check ≡ checked (limits_of check) schema.now }
-    ensures { Answered (names_call (as_limits (limits_of check)) schema.now t.now (length res.old) job_work) res.old res.new result }
+    ensures { Answered (names_call (as_limits (limits_of check)) schema.now t.now (length res.old) job_work) res.old res.new (seen result) }
 {
     let mut work = [0u8; Buffers::WORK];
     all_attributes_checked(schema, check, t, res, &mut work)
 }
 
 // The fold of a list.
-fn fold(schema: &[u8], check: Checked, mode: u8, list: &[u8], res: &mut [u8]) -> Answer
+fn fold(
+    schema: &[u8],
+    check: Checked,
+    mode: u8,
+    list: &[u8],
+    res: &mut [u8],
+) -> Result<Answer, Refusal>
     requires { check ≡ checked (limits_of check) schema.now }
-    ensures { Answered (fold_call (as_limits (limits_of check)) mode schema.now list.now (length res.old) job_work) res.old res.new result }
+    ensures { Answered (fold_call (as_limits (limits_of check)) mode schema.now list.now (length res.old) job_work) res.old res.new (seen result) }
 {
     let mut work = [0u8; Buffers::WORK];
     reduce_to_least_upper_bound_checked(schema, check, mode, list, res, &mut work)
 }
 
 // A question put to its entry, under the check of the schema.
-pub fn ask(q: Question<'_>, schema: &[u8], check: Checked, res: &mut [u8]) -> Answer
+pub fn ask(
+    q: Question<'_>,
+    schema: &[u8],
+    check: Checked,
+    res: &mut [u8],
+) -> Result<Answer, Refusal>
     requires own_check { check ≡ checked (limits_of check) schema.now }
     requires own_limits { limits_of check ≡ job_limits }
     requires res_len { length res.old ≡ job_room }
-    ensures { Answered (outcome_of schema.now (asks q.entry)) res.old res.new result }
+    ensures { Answered (outcome_of schema.now (asks q.entry)) res.old res.new (seen result) }
 {
     let Question {
         operation,

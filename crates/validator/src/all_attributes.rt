@@ -5,6 +5,7 @@ ghost use Rattle.cedar.specs.Calls.{names_call};
 ghost use Rattle.forms.specs.Limits.{as_limits};
 ghost use Rattle.schemas.specs.SchemaBytes.{limits_of, checked};
 ghost use Rattle.schemas.specs.Entries.{Sectioned};
+ghost use Rattle.writing.specs.FormLengths.{seen};
 ghost use Rattle.validator.specs.Answers.{Answered, AnsweredIn};
 
 use crate::answers::Answer;
@@ -28,40 +29,46 @@ fn named(
     kept: &mut [u8],
     out: &mut [u8],
     work: &mut [u8],
-) -> Answer
+) -> Result<Answer, Refusal>
     requires sectioned { Sectioned schema.now «at» }
     requires last_room { «at».limits.bytes ≤ length last.old }
     requires kept_room { («at».limits.bytes ≤ length kept.old) × (length kept.old ≤ most_bytes) }
-    ensures { Answered (names_call (as_limits «at».limits) schema.now t.now (length out.old) (length work.old)) out.old out.new result }
+    ensures { Answered (names_call (as_limits «at».limits) schema.now t.now (length out.old) (length work.old)) out.old out.new (seen result) }
 {
     let limits = at.limits;
     if !whole_type(t, limits) {
-        return Answer::Refused(Refusal::FIRST);
+        return Err(Refusal::First);
     }
     let checked = Schema {
         bytes: schema,
         sections: at,
     };
     let Ok(n) = all_names(&checked, t, last, work, kept) else {
-        return Answer::Refused(Refusal::WORKSPACE);
+        return Err(Refusal::Workspace);
     };
     if !answer_fits(limits, n, out.len()) {
-        return Answer::Refused(Refusal::RESULT);
+        return Err(Refusal::Answer);
     }
     copy(&kept[0..n], out);
-    Answer::Named(n)
+    Ok(Answer::Named(n))
 }
 
 // The answer by the limits of a check. No more bytes are cleared for a form than the smaller of two sizes has that fits.
-fn named_under(schema: &[u8], check: Checked, t: &[u8], out: &mut [u8], work: &mut [u8]) -> Answer
+fn named_under(
+    schema: &[u8],
+    check: Checked,
+    t: &[u8],
+    out: &mut [u8],
+    work: &mut [u8],
+) -> Result<Answer, Refusal>
     requires { check ≡ checked (limits_of check) schema.now }
-    ensures { Answered (names_call (as_limits (limits_of check)) schema.now t.now (length out.old) (length work.old)) out.old out.new result }
+    ensures { Answered (names_call (as_limits (limits_of check)) schema.now t.now (length out.old) (length work.old)) out.old out.new (seen result) }
 {
     if !check.limits().are_allowed() {
-        return Answer::Refused(Refusal::LIMITS);
+        return Err(Refusal::Limits);
     }
     let Checked::Whole(at) = check else {
-        return Answer::Refused(Refusal::SCHEMA);
+        return Err(Refusal::Schema);
     };
     if at.limits.bytes <= Limits::BYTES {
         let mut last = [0u8; Limits::BYTES];
@@ -80,9 +87,9 @@ pub fn all_attributes_checked(
     t: &[u8],
     out: &mut [u8],
     work: &mut [u8],
-) -> Answer
+) -> Result<Answer, Refusal>
     requires { check ≡ checked (limits_of check) schema.now }
-    ensures { AnsweredIn (names_call (as_limits (limits_of check)) schema.now t.now (length out.old) (length work.old)) out.old out.new work.old work.new result }
+    ensures { AnsweredIn (names_call (as_limits (limits_of check)) schema.now t.now (length out.old) (length work.old)) out.old out.new work.old work.new (seen result) }
 {
     let answer = named_under(schema, check, t, out, work);
     clear(work);
@@ -95,8 +102,8 @@ pub fn all_attributes(
     t: &[u8],
     out: &mut [u8],
     work: &mut [u8],
-) -> Answer
-    ensures { AnsweredIn (names_call (as_limits limits) schema.now t.now (length out.old) (length work.old)) out.old out.new work.old work.new result }
+) -> Result<Answer, Refusal>
+    ensures { AnsweredIn (names_call (as_limits limits) schema.now t.now (length out.old) (length work.old)) out.old out.new work.old work.new (seen result) }
 {
     all_attributes_checked(schema, check_schema(limits, schema), t, out, work)
 }

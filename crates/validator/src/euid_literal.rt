@@ -6,6 +6,7 @@ ghost use Rattle.forms.specs.Limits.{as_limits};
 ghost use Rattle.schemas.specs.SchemaBytes.{limits_of, checked};
 ghost use Rattle.schemas.specs.Entries.{Sectioned};
 ghost use Rattle.validator.specs.Answers.{Answered};
+ghost use Rattle.writing.specs.FormLengths.{seen};
 ghost use Rattle.validator.specs.Uids.{uid_of};
 
 use crate::answers::Answer;
@@ -32,13 +33,13 @@ fn whole_uid(v: &[u8], limits: Limits) -> bool
 }
 
 // The answer for a whole schema.
-fn literal_under(schema: &[u8], at: Sections, v: &[u8], out: &mut [u8]) -> Answer
+fn literal_under(schema: &[u8], at: Sections, v: &[u8], out: &mut [u8]) -> Result<Answer, Refusal>
     requires { Sectioned schema.now «at» }
-    ensures { Answered (literal_call (as_limits «at».limits) schema.now v.now (length out.old)) out.old out.new result }
+    ensures { Answered (literal_call (as_limits «at».limits) schema.now v.now (length out.old)) out.old out.new (seen result) }
 {
     let limits = at.limits;
     if !whole_uid(v, limits) {
-        return Answer::Refused(Refusal::VALUE);
+        return Err(Refusal::Value);
     }
     let entity = u16_at(v, ValueOffset::UID_TYPE);
     let checked = Schema {
@@ -46,32 +47,42 @@ fn literal_under(schema: &[u8], at: Sections, v: &[u8], out: &mut [u8]) -> Answe
         sections: at,
     };
     let Some(found) = find_literal(&checked, entity, u16_at(v, ValueOffset::UID_ID)) else {
-        return Answer::Nothing;
+        return Ok(Answer::Nothing);
     };
     let n = found.length();
     if !answer_fits(limits, n, out.len()) {
-        return Answer::Refused(Refusal::RESULT);
+        return Err(Refusal::Answer);
     }
     found.write(entity, out);
-    Answer::Typed(n, found.levels(limits))
+    Ok(Answer::Typed(n, found.levels(limits)))
 }
 
 // The answer under a schema that was checked before, and the limits of its check.
-pub fn euid_literal_checked(schema: &[u8], check: Checked, v: &[u8], out: &mut [u8]) -> Answer
+pub fn euid_literal_checked(
+    schema: &[u8],
+    check: Checked,
+    v: &[u8],
+    out: &mut [u8],
+) -> Result<Answer, Refusal>
     requires { check ≡ checked (limits_of check) schema.now }
-    ensures { Answered (literal_call (as_limits (limits_of check)) schema.now v.now (length out.old)) out.old out.new result }
+    ensures { Answered (literal_call (as_limits (limits_of check)) schema.now v.now (length out.old)) out.old out.new (seen result) }
 {
     if !check.limits().are_allowed() {
-        return Answer::Refused(Refusal::LIMITS);
+        return Err(Refusal::Limits);
     }
     let Checked::Whole(at) = check else {
-        return Answer::Refused(Refusal::SCHEMA);
+        return Err(Refusal::Schema);
     };
     literal_under(schema, at, v, out)
 }
 
-pub fn euid_literal(limits: Limits, schema: &[u8], v: &[u8], out: &mut [u8]) -> Answer
-    ensures { Answered (literal_call (as_limits limits) schema.now v.now (length out.old)) out.old out.new result }
+pub fn euid_literal(
+    limits: Limits,
+    schema: &[u8],
+    v: &[u8],
+    out: &mut [u8],
+) -> Result<Answer, Refusal>
+    ensures { Answered (literal_call (as_limits limits) schema.now v.now (length out.old)) out.old out.new (seen result) }
 {
     euid_literal_checked(schema, check_schema(limits, schema), v, out)
 }

@@ -4,6 +4,7 @@ ghost use Rattle.cedar.specs.Calls.{lookup_call};
 ghost use Rattle.forms.specs.Limits.{as_limits};
 ghost use Rattle.schemas.specs.SchemaBytes.{limits_of, checked};
 ghost use Rattle.schemas.specs.Entries.{Sectioned};
+ghost use Rattle.writing.specs.FormLengths.{seen};
 ghost use Rattle.validator.specs.Answers.{Answered, AnsweredIn};
 
 use crate::answers::Answer;
@@ -28,35 +29,35 @@ fn looked_up(
     last: &mut [u8],
     out: &mut [u8],
     work: &mut [u8],
-) -> Answer
+) -> Result<Answer, Refusal>
     requires sectioned { Sectioned schema.now «at» }
     requires last_room { «at».limits.bytes ≤ length last.old }
-    ensures { Answered (lookup_call (as_limits «at».limits) schema.now attr t.now (length out.old) (length work.old)) out.old out.new result }
+    ensures { Answered (lookup_call (as_limits «at».limits) schema.now attr t.now (length out.old) (length work.old)) out.old out.new (seen result) }
 {
     let limits = at.limits;
     if !whole_type(t, limits) {
-        return Answer::Refused(Refusal::FIRST);
+        return Err(Refusal::First);
     }
     let checked = Schema {
         bytes: schema,
         sections: at,
     };
     let Ok(looked) = look_up(&checked, t, attr as usize, last, work) else {
-        return Answer::Refused(Refusal::WORKSPACE);
+        return Err(Refusal::Workspace);
     };
     let Some(found) = looked else {
-        return Answer::Nothing;
+        return Ok(Answer::Nothing);
     };
     if !answer_fits(limits, found.bytes, out.len()) {
-        return Answer::Refused(Refusal::RESULT);
+        return Err(Refusal::Answer);
     }
     let form = &last[0..found.bytes];
     copy(form, out);
-    Answer::Attribute(
+    Ok(Answer::Attribute(
         found.required,
         found.bytes,
         type_levels(form, limits.levels - 1),
-    )
+    ))
 }
 
 // The answer by the limits of a check. No more bytes are cleared for a form than the smaller of two sizes has that fits.
@@ -67,15 +68,15 @@ fn looked_up_under(
     t: &[u8],
     out: &mut [u8],
     work: &mut [u8],
-) -> Answer
+) -> Result<Answer, Refusal>
     requires { check ≡ checked (limits_of check) schema.now }
-    ensures { Answered (lookup_call (as_limits (limits_of check)) schema.now attr t.now (length out.old) (length work.old)) out.old out.new result }
+    ensures { Answered (lookup_call (as_limits (limits_of check)) schema.now attr t.now (length out.old) (length work.old)) out.old out.new (seen result) }
 {
     if !check.limits().are_allowed() {
-        return Answer::Refused(Refusal::LIMITS);
+        return Err(Refusal::Limits);
     }
     let Checked::Whole(at) = check else {
-        return Answer::Refused(Refusal::SCHEMA);
+        return Err(Refusal::Schema);
     };
     if at.limits.bytes <= Limits::BYTES {
         let mut last = [0u8; Limits::BYTES];
@@ -93,9 +94,9 @@ pub fn lookup_attribute_type_checked(
     t: &[u8],
     out: &mut [u8],
     work: &mut [u8],
-) -> Answer
+) -> Result<Answer, Refusal>
     requires { check ≡ checked (limits_of check) schema.now }
-    ensures { AnsweredIn (lookup_call (as_limits (limits_of check)) schema.now attr t.now (length out.old) (length work.old)) out.old out.new work.old work.new result }
+    ensures { AnsweredIn (lookup_call (as_limits (limits_of check)) schema.now attr t.now (length out.old) (length work.old)) out.old out.new work.old work.new (seen result) }
 {
     let answer = looked_up_under(schema, check, attr, t, out, work);
     clear(work);
@@ -109,8 +110,8 @@ pub fn lookup_attribute_type(
     t: &[u8],
     out: &mut [u8],
     work: &mut [u8],
-) -> Answer
-    ensures { AnsweredIn (lookup_call (as_limits limits) schema.now attr t.now (length out.old) (length work.old)) out.old out.new work.old work.new result }
+) -> Result<Answer, Refusal>
+    ensures { AnsweredIn (lookup_call (as_limits limits) schema.now attr t.now (length out.old) (length work.old)) out.old out.new work.old work.new (seen result) }
 {
     lookup_attribute_type_checked(schema, check_schema(limits, schema), attr, t, out, work)
 }

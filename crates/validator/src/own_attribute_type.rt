@@ -5,6 +5,7 @@ ghost use Rattle.cedar.specs.Calls.{own_attribute_call};
 ghost use Rattle.forms.specs.Limits.{as_limits};
 ghost use Rattle.schemas.specs.SchemaBytes.{limits_of, checked};
 ghost use Rattle.schemas.specs.Entries.{Sectioned};
+ghost use Rattle.writing.specs.FormLengths.{seen};
 ghost use Rattle.validator.specs.Handed.{part_of, Handed};
 
 use attributes::own_attribute::own_attribute;
@@ -26,46 +27,65 @@ impl Told {
     pub const REQUIRED: u8 = b'r';
 }
 
-// Where the attribute stands in the form that lists it: a refusal's number; none; its start and end, and whether it is required.
+// Where the attribute stands in the form that lists it, and whether it is required.
 #[derive(Clone, Copy)]
-pub enum OwnPart {
-    Refused(u8),
-    Nothing,
-    At(usize, usize, bool),
+pub struct OwnPart {
+    pub start: usize,
+    pub end: usize,
+    pub required: bool,
 }
 
 // The place for a whole schema.
-fn own_part_under(schema: &[u8], at: Sections, attr: u16, t: &[u8]) -> OwnPart
+fn own_part_under(
+    schema: &[u8],
+    at: Sections,
+    attr: u16,
+    t: &[u8],
+) -> Result<Option<OwnPart>, Refusal>
     requires { Sectioned schema.now «at» }
-    ensures { result ≡ part_of (own_attribute_call (as_limits «at».limits) schema.now attr t.now) (body_in (as_limits «at».limits) attr t.now) }
+    ensures { seen result ≡ part_of (own_attribute_call (as_limits «at».limits) schema.now attr t.now) (body_in (as_limits «at».limits) attr t.now) }
 {
     let limits = at.limits;
     if !whole_type(t, limits) {
-        return OwnPart::Refused(Refusal::FIRST);
+        return Err(Refusal::First);
     }
     let Some(part) = own_attribute(t, attr as usize, limits.levels) else {
-        return OwnPart::Nothing;
+        return Ok(None);
     };
-    OwnPart::At(part.start, part.start + part.form.len(), part.required)
+    Ok(Some(OwnPart {
+        start: part.start,
+        end: part.start + part.form.len(),
+        required: part.required,
+    }))
 }
 
 // The place under a schema that was checked before, and the limits of its check.
-pub fn own_attribute_part_checked(schema: &[u8], check: Checked, attr: u16, t: &[u8]) -> OwnPart
+pub fn own_attribute_part_checked(
+    schema: &[u8],
+    check: Checked,
+    attr: u16,
+    t: &[u8],
+) -> Result<Option<OwnPart>, Refusal>
     requires { check ≡ checked (limits_of check) schema.now }
-    ensures { result ≡ part_of (own_attribute_call (as_limits (limits_of check)) schema.now attr t.now) (body_in (as_limits (limits_of check)) attr t.now) }
+    ensures { seen result ≡ part_of (own_attribute_call (as_limits (limits_of check)) schema.now attr t.now) (body_in (as_limits (limits_of check)) attr t.now) }
 {
     if !check.limits().are_allowed() {
-        return OwnPart::Refused(Refusal::LIMITS);
+        return Err(Refusal::Limits);
     }
     let Checked::Whole(at) = check else {
-        return OwnPart::Refused(Refusal::SCHEMA);
+        return Err(Refusal::Schema);
     };
     own_part_under(schema, at, attr, t)
 }
 
 // The place.
-pub fn own_attribute_part(limits: Limits, schema: &[u8], attr: u16, t: &[u8]) -> OwnPart
-    ensures { result ≡ part_of (own_attribute_call (as_limits limits) schema.now attr t.now) (body_in (as_limits limits) attr t.now) }
+pub fn own_attribute_part(
+    limits: Limits,
+    schema: &[u8],
+    attr: u16,
+    t: &[u8],
+) -> Result<Option<OwnPart>, Refusal>
+    ensures { seen result ≡ part_of (own_attribute_call (as_limits limits) schema.now attr t.now) (body_in (as_limits limits) attr t.now) }
 {
     own_attribute_part_checked(schema, check_schema(limits, schema), attr, t)
 }
@@ -82,21 +102,21 @@ pub fn own_attribute_type_checked<'a>(
     ensures { Handed (own_attribute_call (as_limits (limits_of check)) schema.now attr t.now) (body_in (as_limits (limits_of check)) attr t.now) t.entry result told.new }
 {
     match own_attribute_part_checked(schema, check, attr, t) {
-        OwnPart::Refused(e) => {
-            *told = e;
+        Err(refusal) => {
+            *told = u8::from(refusal);
             &t[..0]
         }
-        OwnPart::Nothing => {
+        Ok(None) => {
             *told = Told::NOTHING;
             &t[..0]
         }
-        OwnPart::At(start, end, required) => {
-            if required {
+        Ok(Some(part)) => {
+            if part.required {
                 *told = Told::REQUIRED;
-                return &t[start..end];
+                return &t[part.start..part.end];
             }
             *told = Told::OPTIONAL;
-            &t[start..end]
+            &t[part.start..part.end]
         }
     }
 }

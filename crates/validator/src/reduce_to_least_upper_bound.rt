@@ -4,6 +4,7 @@ ghost use Rattle.cedar.specs.Limits.{allowed};
 ghost use Rattle.cedar.specs.Calls.{fold_call};
 ghost use Rattle.forms.specs.Limits.{as_limits};
 ghost use Rattle.schemas.specs.SchemaBytes.{limits_of, checked};
+ghost use Rattle.writing.specs.FormLengths.{seen};
 ghost use Rattle.validator.specs.Answers.{Answered, AnsweredIn};
 
 use crate::answers::Answer;
@@ -28,32 +29,26 @@ fn reduced(
     last: &mut [u8],
     out: &mut [u8],
     work: &mut [u8],
-) -> Answer
+) -> Result<Answer, Refusal>
     requires fair { allowed (as_limits limits) ≡ true }
     requires own_check { check ≡ checked limits schema.now }
     requires last_room { limits.bytes ≤ length last.old }
-    ensures { Answered (fold_call (as_limits limits) mode schema.now list.now (length out.old) (length work.old)) out.old out.new result }
+    ensures { Answered (fold_call (as_limits limits) mode schema.now list.now (length out.old) (length work.old)) out.old out.new (seen result) }
 {
-    let Ok(m) = Mode::try_from(mode) else {
-        return Answer::Refused(Refusal::MODE);
-    };
+    let m = Mode::try_from(mode)?;
     let Checked::Whole(_) = check else {
-        return Answer::Refused(Refusal::SCHEMA);
+        return Err(Refusal::Schema);
     };
     if !whole_list(list, limits) {
-        return Answer::Refused(Refusal::FIRST);
+        return Err(Refusal::First);
     }
-    match fold_types(m, list, limits, last, work) {
-        Ok(n) => {
-            if !answer_fits(limits, n, out.len()) {
-                return Answer::Refused(Refusal::RESULT);
-            }
-            let form = &last[0..n];
-            copy(form, out);
-            Answer::Typed(n, type_levels(form, limits.levels))
-        }
-        Err(refusal) => Answer::Refused(u8::from(refusal)),
+    let n = fold_types(m, list, limits, last, work)?;
+    if !answer_fits(limits, n, out.len()) {
+        return Err(Refusal::Answer);
     }
+    let form = &last[0..n];
+    copy(form, out);
+    Ok(Answer::Typed(n, type_levels(form, limits.levels)))
 }
 
 // The answer by the limits of a check. No more bytes are cleared for a form than the smaller of two sizes has that fits.
@@ -64,13 +59,13 @@ fn reduced_under(
     list: &[u8],
     out: &mut [u8],
     work: &mut [u8],
-) -> Answer
+) -> Result<Answer, Refusal>
     requires { check ≡ checked (limits_of check) schema.now }
-    ensures { Answered (fold_call (as_limits (limits_of check)) mode schema.now list.now (length out.old) (length work.old)) out.old out.new result }
+    ensures { Answered (fold_call (as_limits (limits_of check)) mode schema.now list.now (length out.old) (length work.old)) out.old out.new (seen result) }
 {
     let limits = check.limits();
     if !limits.are_allowed() {
-        return Answer::Refused(Refusal::LIMITS);
+        return Err(Refusal::Limits);
     }
     if limits.bytes <= Limits::BYTES {
         let mut last = [0u8; Limits::BYTES];
@@ -88,9 +83,9 @@ pub fn reduce_to_least_upper_bound_checked(
     list: &[u8],
     out: &mut [u8],
     work: &mut [u8],
-) -> Answer
+) -> Result<Answer, Refusal>
     requires { check ≡ checked (limits_of check) schema.now }
-    ensures { AnsweredIn (fold_call (as_limits (limits_of check)) mode schema.now list.now (length out.old) (length work.old)) out.old out.new work.old work.new result }
+    ensures { AnsweredIn (fold_call (as_limits (limits_of check)) mode schema.now list.now (length out.old) (length work.old)) out.old out.new work.old work.new (seen result) }
 {
     let answer = reduced_under(schema, check, mode, list, out, work);
     clear(work);
@@ -104,8 +99,8 @@ pub fn reduce_to_least_upper_bound(
     list: &[u8],
     out: &mut [u8],
     work: &mut [u8],
-) -> Answer
-    ensures { AnsweredIn (fold_call (as_limits limits) mode schema.now list.now (length out.old) (length work.old)) out.old out.new work.old work.new result }
+) -> Result<Answer, Refusal>
+    ensures { AnsweredIn (fold_call (as_limits limits) mode schema.now list.now (length out.old) (length work.old)) out.old out.new work.old work.new (seen result) }
 {
     reduce_to_least_upper_bound_checked(schema, check_schema(limits, schema), mode, list, out, work)
 }

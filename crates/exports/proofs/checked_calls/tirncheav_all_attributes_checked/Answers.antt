@@ -1,3 +1,4 @@
+use Rattle.writing.specs.FormLengths.{seen}
 use Rattle.cedar.specs.Calls.{names_call}
 use Rattle.exports.specs.Numbers.{NumberedIn}
 use Rattle.cedar.specs.Limits.{Limits}
@@ -19,7 +20,7 @@ answer_number-requires c =
     let all-attributes-checked-2 = c.all_attributes_checked in
     let by-names-call-short = names-call-short (as_limits (limits_of c.check_again.result)) args.schema.now args.t.now (length
     args.out.now) (length args.work.now) in
-    brief all-attributes-checked-2.result by-names-call-short all-attributes-checked-2.ensures.answer
+    brief (seen all-attributes-checked-2.result) by-names-call-short all-attributes-checked-2.ensures.answer
 
 pub returns : goal.returns
 returns c =

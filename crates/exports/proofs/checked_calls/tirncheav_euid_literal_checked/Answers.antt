@@ -1,3 +1,4 @@
+use Rattle.writing.specs.FormLengths.{seen}
 use Rattle.cedar.specs.Calls.{literal_call}
 use Rattle.exports.specs.Numbers.{Numbered}
 use Rattle.cedar.specs.Limits.{Limits}
@@ -17,7 +18,7 @@ pub answer_number-requires : goal.answer_number-requires
 answer_number-requires c =
     let args = c.args in
     let euid-literal-checked-2 = c.euid_literal_checked in
-    brief euid-literal-checked-2.result (literal-short (as_limits (limits_of c.check_again.result)) args.schema.now args.v.now (length
+    brief (seen euid-literal-checked-2.result) (literal-short (as_limits (limits_of c.check_again.result)) args.schema.now args.v.now (length
     args.out.now))
     euid-literal-checked-2.ensures.answer
 

@@ -1,3 +1,4 @@
+use Rattle.writing.specs.FormLengths.{seen}
 use Rattle.cedar.specs.Calls.{subtype_call}
 use Rattle.validator.specs.Answers.{answer_of}
 use Rattle.cedar.specs.Limits.{Limits}
@@ -16,7 +17,7 @@ is_subtype_checked-requires c = checked-own (limits_in c.args.check) c.args.sche
 pub answer_number-requires : goal.answer_number-requires
 answer_number-requires c =
     let args = c.args in
-    brief c.is_subtype_checked.result (subtype-short (as_limits (limits_of c.check_again.result)) args.schema.now args.mode args.t0.now
+    brief (seen c.is_subtype_checked.result) (subtype-short (as_limits (limits_of c.check_again.result)) args.schema.now args.mode args.t0.now
     args.t1.now) c.is_subtype_checked.ensures
 
 pub returns : goal.returns

@@ -1,3 +1,4 @@
+use Rattle.writing.specs.FormLengths.{seen}
 use Rattle.cedar.specs.Calls.{bound_call}
 use Rattle.exports.specs.Numbers.{Numbered}
 use Rattle.cedar.specs.Limits.{Limits}
@@ -19,7 +20,7 @@ answer_number-requires c =
     let least-upper-bound-checked-2 = c.least_upper_bound_checked in
     let by-bound-short = bound-short (as_limits (limits_of c.check_again.result)) args.schema.now args.mode args.t0.now args.t1.now
     (length args.out.now) in
-    brief least-upper-bound-checked-2.result by-bound-short least-upper-bound-checked-2.ensures.answer
+    brief (seen least-upper-bound-checked-2.result) by-bound-short least-upper-bound-checked-2.ensures.answer
 
 pub returns : goal.returns
 returns c =

@@ -1,3 +1,4 @@
+use Rattle.writing.specs.FormLengths.{seen}
 use Rattle.cedar.specs.Calls.{lookup_call}
 use Rattle.exports.specs.Numbers.{NumberedIn}
 use Rattle.cedar.specs.Limits.{Limits}
@@ -19,7 +20,7 @@ answer_number-requires c =
     let lookup-attribute-type-checked-2 = c.lookup_attribute_type_checked in
     let by-lookup-short = lookup-short (as_limits (limits_of c.check_again.result)) args.schema.now args.attr args.t.now (length
     args.out.now) (length args.work.now) in
-    brief lookup-attribute-type-checked-2.result by-lookup-short lookup-attribute-type-checked-2.ensures.answer
+    brief (seen lookup-attribute-type-checked-2.result) by-lookup-short lookup-attribute-type-checked-2.ensures.answer
 
 pub returns : goal.returns
 returns c =

@@ -1,3 +1,4 @@
+use Rattle.writing.specs.FormLengths.{seen}
 use Rattle.cedar.specs.Calls.{may_have_call}
 use Rattle.validator.specs.Answers.{answer_of}
 use Rattle.cedar.specs.Limits.{Limits}
@@ -16,7 +17,7 @@ may_have_attr_checked-requires c = checked-own (limits_in c.args.check) c.args.s
 pub answer_number-requires : goal.answer_number-requires
 answer_number-requires c =
     let args = c.args in
-    brief c.may_have_attr_checked.result (may-have-short (as_limits (limits_of c.check_again.result)) args.schema.now args.attr
+    brief (seen c.may_have_attr_checked.result) (may-have-short (as_limits (limits_of c.check_again.result)) args.schema.now args.attr
     args.t.now) c.may_have_attr_checked.ensures
 
 pub returns : goal.returns

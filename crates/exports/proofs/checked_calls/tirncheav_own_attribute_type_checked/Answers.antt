@@ -1,3 +1,4 @@
+use Rattle.writing.specs.FormLengths.{seen}
 use Rattle.cedar.specs.Calls.{own_attribute_call}
 use Rattle.cedar.specs.BodyPlace.{body_in}
 use Rattle.validator.specs.Handed.{part_of}
@@ -19,7 +20,7 @@ pub part_number-requires : goal.part_number-requires
 part_number-requires c =
     let args = c.args in
     narrow (as_limits (limits_of c.check_again.result)) args.schema.now args.attr args.t (λ i. omega
-    (arith, c.type_inv.t i)) c.own_attribute_part_checked.result
+    (arith, c.type_inv.t i)) (seen c.own_attribute_part_checked.result)
     c.own_attribute_part_checked.ensures
 
 pub returns : goal.returns

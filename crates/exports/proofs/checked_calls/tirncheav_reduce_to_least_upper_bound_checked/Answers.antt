@@ -1,3 +1,4 @@
+use Rattle.writing.specs.FormLengths.{seen}
 use Rattle.cedar.specs.Calls.{fold_call}
 use Rattle.exports.specs.Numbers.{NumberedIn}
 use Rattle.cedar.specs.Limits.{Limits}
@@ -19,7 +20,7 @@ answer_number-requires c =
     let reduce-to-least-upper-bound-checked-2 = c.reduce_to_least_upper_bound_checked in
     let by-fold-short = fold-short (as_limits (limits_of c.check_again.result)) args.schema.now args.mode args.list.now (length
     args.out.now) (length args.work.now) in
-    brief reduce-to-least-upper-bound-checked-2.result by-fold-short reduce-to-least-upper-bound-checked-2.ensures.answer
+    brief (seen reduce-to-least-upper-bound-checked-2.result) by-fold-short reduce-to-least-upper-bound-checked-2.ensures.answer
 
 pub returns : goal.returns
 returns c =

@@ -1,3 +1,4 @@
+use Rattle.writing.specs.FormLengths.{seen}
 use Rattle.cedar.specs.Calls.{conforms_call}
 use Rattle.validator.specs.Answers.{answer_of}
 use Rattle.cedar.specs.Conformance.{shorter}
@@ -17,7 +18,7 @@ typecheck_restricted_expr_checked-requires c = checked-own (limits_in c.args.che
 pub answer_number-requires : goal.answer_number-requires
 answer_number-requires c =
     let args = c.args in
-    brief c.typecheck_restricted_expr_checked.result (conforms-short (as_limits (limits_of c.check_again.result)) shorter args.schema.now
+    brief (seen c.typecheck_restricted_expr_checked.result) (conforms-short (as_limits (limits_of c.check_again.result)) shorter args.schema.now
     args.t.now args.v.now)
     c.typecheck_restricted_expr_checked.ensures
 

@@ -1,5 +1,6 @@
 use lib.ListN.{length}
 use Rattle.cedar.specs.Calls.{names_call}
+use Rattle.writing.specs.FormLengths.{seen}
 use Rattle.validator.specs.Answers.{AnsweredIn}
 use Rattle.cedar.specs.Limits.{Limits}
 use Rattle.validator.specs.Laws.Schemas.{checked-own, checked_under}
@@ -16,4 +17,4 @@ returns c =
     checked_under args.limits args.schema.now c.check_schema.result c.check_schema.ensures
     (λ (lim : Limits). AnsweredIn (names_call lim args.schema.now args.t.now (length args.out.now) (length args.work.now)) args.out.now
     c.all_attributes_checked.new.out args.work.now
-    c.all_attributes_checked.new.work c.all_attributes_checked.result) c.all_attributes_checked.ensures
+    c.all_attributes_checked.new.work (seen c.all_attributes_checked.result)) c.all_attributes_checked.ensures

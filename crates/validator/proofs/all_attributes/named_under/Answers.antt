@@ -5,6 +5,7 @@ use Rattle.cedar.specs.Calls.{names_call}
 use Rattle.cedar.proofs.Laws.Limits.{allowed-bytes, names-refused}
 use Rattle.forms.specs.Limits.{as_limits}
 use Rattle.schemas.specs.SchemaBytes.{limits_of}
+use Rattle.writing.specs.FormLengths.{seen}
 use Rattle.validator.specs.Laws.Schemas.{kept-refused, kept-allowed, kept-missing, kept-sections, kept_under}
 use Rattle.validator.specs.Answers.{Answered}
 use Rattle.validator.specs.Laws.Names.{names-no-schema}
@@ -37,7 +38,7 @@ returns-then-at-le-BYTES c =
     let args = c.args in
     kept_under args.schema.now args.check c.requires c.in-Whole.at c.in-Whole.is
     (λ (lim : Limits). Answered (names_call lim args.schema.now args.t.now (length args.out.now) (length args.work.now)) args.out.now
-    c.named.new.out c.named.result) c.named.ensures
+    c.named.new.out (seen c.named.result)) c.named.ensures
 
 pub named-requires-2 : goal.named-requires-2
 named-requires-2 c =
@@ -51,4 +52,4 @@ returns c =
     let args = c.args in
     kept_under args.schema.now args.check c.requires c.in-Whole.at c.in-Whole.is
     (λ (lim : Limits). Answered (names_call lim args.schema.now args.t.now (length args.out.now) (length args.work.now)) args.out.now
-    c.named-2.new.out c.named-2.result) c.named-2.ensures
+    c.named-2.new.out (seen c.named-2.result)) c.named-2.ensures

@@ -1,5 +1,6 @@
 use lib.ListN.{length}
 use Rattle.cedar.specs.Calls.{literal_call}
+use Rattle.writing.specs.FormLengths.{seen}
 use Rattle.validator.specs.Answers.{Answered}
 use Rattle.cedar.specs.Limits.{Limits}
 use Rattle.cedar.proofs.Laws.Limits.{literal-refused}
@@ -35,4 +36,4 @@ returns c =
     let args = c.args in
     kept_under args.schema.now args.check c.requires c.in-Whole.at c.in-Whole.is
     (λ (lim : Limits). Answered (literal_call lim args.schema.now args.v.now (length args.out.now)) args.out.now
-    c.literal_under.new.out c.literal_under.result) c.literal_under.ensures
+    c.literal_under.new.out (seen c.literal_under.result)) c.literal_under.ensures

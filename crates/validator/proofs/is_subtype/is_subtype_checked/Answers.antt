@@ -5,6 +5,7 @@ use Rattle.cedar.proofs.Laws.Limits.{subtype-refused}
 use Rattle.forms.specs.Limits.{as_limits}
 use Rattle.forms.specs.declared.limits.Limits.{Limits as LimitsStruct}
 use Rattle.schemas.specs.SchemaBytes.{limits_of}
+use Rattle.writing.specs.FormLengths.{seen}
 use Rattle.validator.specs.Laws.Schemas.{kept-refused, kept-check}
 use Rattle.validator.specs.Answers.{answer_of}
 use Rattle.validator.proofs.is_subtype.is_subtype_checked.Goals as goal
@@ -28,6 +29,6 @@ is_subtype_under-requires c =
 pub returns : goal.returns
 returns c =
     let args = c.args in
-    subst (λ (l : LimitsStruct). c.is_subtype_under.result ≡ answer_of (subtype_call (as_limits l) args.mode args.schema.now args.t0.now
+    subst (λ (l : LimitsStruct). seen c.is_subtype_under.result ≡ answer_of (subtype_call (as_limits l) args.mode args.schema.now args.t0.now
     args.t1.now))
     c.limits-limits.ensures c.is_subtype_under.ensures

@@ -1,28 +1,33 @@
+use mathlib.Core.Path.{◌∙◌}
+use Rattle.cedar.specs.Result.{ok}
 use Rattle.forms.specs.Limits.{as_limits}
 use Rattle.forms.specs.Laws.Modes.{mode-known, mode-none}
+use Rattle.forms.specs.declared.refusals.Refusal.TheVariants.{Mode}
+use Rattle.writing.specs.Laws.FormLengths.{seen-err}
 use Rattle.validator.specs.Laws.Questions.{type-missing, type-there, type-whole}
 use Rattle.validator.specs.Laws.Schemas.{checked-missing, checked-there}
 use Rattle.validator.specs.Laws.Subtype.{subtype-mode, subtype-schema, subtype-first, subtype-second, subtype-said}
 use Rattle.validator.proofs.is_subtype.is_subtype_under.Goals as goal
 
+pub returns-in_err-m : goal.returns-in_err-m
+returns-in_err-m c =
+    let args = c.args in
+    let by-mode-none = mode-none args.mode c.try_from.result c.try_from.ensures c.in_err-m.was in
+    seen-err c.from_residual.result Mode c.from_residual.ensures.1 ∙
+    subtype-mode (as_limits args.limits) c.requires.fair args.mode args.schema.now args.t0.now args.t1.now by-mode-none
+
 pub returns-in_default : goal.returns-in_default
 returns-in_default c =
     let args = c.args in
-    let by-mode-none = mode-none args.mode c.try_from.result c.try_from.ensures c.in_default.is in
-    subtype-mode (as_limits args.limits) c.requires.fair args.mode args.schema.now args.t0.now args.t1.now by-mode-none
-
-pub returns-in_default-check : goal.returns-in_default-check
-returns-in_default-check c =
-    let args = c.args in
-    let by-mode-known = mode-known args.mode c.try_from.result c.try_from.ensures c.in-Ok.m c.in-Ok.is in
-    let by-checked-missing = checked-missing args.limits args.schema.now args.check c.requires.own_check c.requires.fair c.in_default-check.field-0
-    c.in_default-check.is in
+    let by-mode-known = mode-known args.mode c.try_from.result c.try_from.ensures c.in_ok-m.m c.in_ok-m.was in
+    let by-checked-missing = checked-missing args.limits args.schema.now args.check c.requires.own_check c.requires.fair c.in_default.field-0
+    c.in_default.is in
     subtype-schema (as_limits args.limits) c.requires.fair args.mode args.schema.now args.t0.now args.t1.now _ by-mode-known by-checked-missing
 
 pub returns-then-not-whole_type : goal.returns-then-not-whole_type
 returns-then-not-whole_type c =
     let args = c.args in
-    let by-mode-known = mode-known args.mode c.try_from.result c.try_from.ensures c.in-Ok.m c.in-Ok.is in
+    let by-mode-known = mode-known args.mode c.try_from.result c.try_from.ensures c.in_ok-m.m c.in_ok-m.was in
     let by-checked-there = checked-there args.limits args.schema.now args.check c.requires.own_check c.in-Whole.field-0
     c.in-Whole.is in
     let by-type-missing = type-missing (as_limits args.limits) args.t0.now c.whole_type.result c.whole_type.ensures
@@ -33,7 +38,7 @@ returns-then-not-whole_type c =
 pub returns-then-not-whole_type-2 : goal.returns-then-not-whole_type-2
 returns-then-not-whole_type-2 c =
     let args = c.args in
-    let by-mode-known = mode-known args.mode c.try_from.result c.try_from.ensures c.in-Ok.m c.in-Ok.is in
+    let by-mode-known = mode-known args.mode c.try_from.result c.try_from.ensures c.in_ok-m.m c.in_ok-m.was in
     let by-checked-there = checked-there args.limits args.schema.now args.check c.requires.own_check c.in-Whole.field-0
     c.in-Whole.is in
     let by-type-there = type-there (as_limits args.limits) args.t0.now c.whole_type.result c.whole_type.ensures
@@ -55,7 +60,7 @@ is_subtype-requires c =
 pub returns : goal.returns
 returns c =
     let args = c.args in
-    let by-mode-known = mode-known args.mode c.try_from.result c.try_from.ensures c.in-Ok.m c.in-Ok.is in
+    let by-mode-known = mode-known args.mode c.try_from.result c.try_from.ensures c.in_ok-m.m c.in_ok-m.was in
     let by-checked-there = checked-there args.limits args.schema.now args.check c.requires.own_check c.in-Whole.field-0
     c.in-Whole.is in
     let by-type-there = type-there (as_limits args.limits) args.t0.now c.whole_type.result c.whole_type.ensures
@@ -64,4 +69,4 @@ returns c =
     c.if-not-whole_type-2.false-raw in
     subtype-said (as_limits args.limits) c.requires.fair args.mode args.schema.now args.t0.now
     args.t1.now _ by-mode-known _ by-checked-there _ by-type-there _ by-type-there-2
-    c.yes_or_no.result c.is_subtype.result c.yes_or_no.ensures c.is_subtype.ensures
+    (ok c.yes_or_no.result) c.is_subtype.result c.yes_or_no.ensures c.is_subtype.ensures

@@ -1,5 +1,6 @@
 use lib.ListN.{length}
 use Rattle.cedar.specs.Calls.{bound_call}
+use Rattle.writing.specs.FormLengths.{seen}
 use Rattle.validator.specs.Answers.{Answered}
 use Rattle.cedar.specs.Limits.{Limits}
 use Rattle.validator.specs.Laws.Schemas.{checked-own, checked_under}
@@ -15,4 +16,4 @@ returns c =
     let args = c.args in
     checked_under args.limits args.schema.now c.check_schema.result c.check_schema.ensures
     (λ (lim : Limits). Answered (bound_call lim args.mode args.schema.now args.t0.now args.t1.now (length args.out.now)) args.out.now
-    c.least_upper_bound_checked.new.out c.least_upper_bound_checked.result) c.least_upper_bound_checked.ensures
+    c.least_upper_bound_checked.new.out (seen c.least_upper_bound_checked.result)) c.least_upper_bound_checked.ensures

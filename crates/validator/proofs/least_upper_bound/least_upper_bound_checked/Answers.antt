@@ -6,6 +6,7 @@ use Rattle.cedar.proofs.Laws.Limits.{bound-refused}
 use Rattle.forms.specs.Limits.{as_limits}
 use Rattle.forms.specs.declared.limits.Limits.{Limits as LimitsStruct}
 use Rattle.schemas.specs.SchemaBytes.{limits_of}
+use Rattle.writing.specs.FormLengths.{seen}
 use Rattle.validator.specs.Laws.Schemas.{kept-refused, kept-check}
 use Rattle.validator.specs.Answers.{Answered}
 use Rattle.validator.specs.Laws.Writing.{refuses}
@@ -32,5 +33,5 @@ pub returns : goal.returns
 returns c =
     let args = c.args in
     subst (λ (l : LimitsStruct). Answered (bound_call (as_limits l) args.mode args.schema.now args.t0.now args.t1.now (length
-    args.out.now)) args.out.now c.least_upper_bound_under.new.out c.least_upper_bound_under.result)
+    args.out.now)) args.out.now c.least_upper_bound_under.new.out (seen c.least_upper_bound_under.result))
     c.limits-limits.ensures c.least_upper_bound_under.ensures

@@ -10,33 +10,34 @@ use Rattle.cedar.specs.Laws.DirectBound.{direct}
 use Rattle.forms.specs.TypeBytes.{dec}
 use Rattle.forms.specs.Modes.{as_mode}
 use Rattle.forms.specs.Laws.Modes.{mode-known, mode-none}
+use Rattle.forms.specs.declared.refusals.Refusal.TheVariants.{Mode}
 use Rattle.validator.specs.Laws.Questions.{type-missing, type-there, type-whole}
 use Rattle.validator.specs.Laws.Schemas.{checked-missing, checked-there}
-use Rattle.validator.specs.Laws.Writing.{refuses, writes-not, writes-over, writes-ready, writes-length, wrote, wrote-small, wrote-whole, wrote-levels}
+use Rattle.validator.specs.Laws.Writing.{refuses, refuses-as, writes-not, writes-over, writes-ready, writes-length, wrote, wrote-small, wrote-whole, wrote-levels}
 use Rattle.validator.specs.Laws.Bound.{bound-mode, bound-schema, bound-first, bound-second, bound-direct, bound-within}
 use Rattle.validator.proofs.least_upper_bound.least_upper_bound_under.Goals as goal
+
+pub returns-in_err-m : goal.returns-in_err-m
+returns-in_err-m c =
+    let args = c.args in
+    let by-mode-none = mode-none args.mode c.try_from.result c.try_from.ensures c.in_err-m.was in
+    let by-bound-mode = bound-mode (as_limits args.limits) c.requires.fair args.mode args.schema.now args.t0.now args.t1.now (length
+    args.out.now) by-mode-none in
+    refuses-as c.from_residual.result Mode c.from_residual.ensures.1 (refuses 1 by-bound-mode)
 
 pub returns-in_default : goal.returns-in_default
 returns-in_default c =
     let args = c.args in
-    let by-mode-none = mode-none args.mode c.try_from.result c.try_from.ensures c.in_default.is in
-    let by-bound-mode = bound-mode (as_limits args.limits) c.requires.fair args.mode args.schema.now args.t0.now args.t1.now (length
-    args.out.now) by-mode-none in
-    refuses 1 by-bound-mode
-
-pub returns-in_default-check : goal.returns-in_default-check
-returns-in_default-check c =
-    let args = c.args in
-    let by-mode-known = mode-known args.mode c.try_from.result c.try_from.ensures c.in-Ok.m c.in-Ok.is in
-    let by-checked-missing = checked-missing args.limits args.schema.now args.check c.requires.own_check c.requires.fair c.in_default-check.field-0
-    c.in_default-check.is in
+    let by-mode-known = mode-known args.mode c.try_from.result c.try_from.ensures c.in_ok-m.m c.in_ok-m.was in
+    let by-checked-missing = checked-missing args.limits args.schema.now args.check c.requires.own_check c.requires.fair c.in_default.field-0
+    c.in_default.is in
     refuses 2 (bound-schema (as_limits args.limits) c.requires.fair args.mode args.schema.now args.t0.now args.t1.now (length
     args.out.now) _ by-mode-known by-checked-missing)
 
 pub returns-then-not-whole_type : goal.returns-then-not-whole_type
 returns-then-not-whole_type c =
     let args = c.args in
-    let by-mode-known = mode-known args.mode c.try_from.result c.try_from.ensures c.in-Ok.m c.in-Ok.is in
+    let by-mode-known = mode-known args.mode c.try_from.result c.try_from.ensures c.in_ok-m.m c.in_ok-m.was in
     let by-checked-there = checked-there args.limits args.schema.now args.check c.requires.own_check c.in-Whole.field-0
     c.in-Whole.is in
     let by-type-missing = type-missing (as_limits args.limits) args.t0.now c.whole_type.result c.whole_type.ensures
@@ -48,7 +49,7 @@ returns-then-not-whole_type c =
 pub returns-then-not-whole_type-2 : goal.returns-then-not-whole_type-2
 returns-then-not-whole_type-2 c =
     let args = c.args in
-    let by-mode-known = mode-known args.mode c.try_from.result c.try_from.ensures c.in-Ok.m c.in-Ok.is in
+    let by-mode-known = mode-known args.mode c.try_from.result c.try_from.ensures c.in_ok-m.m c.in_ok-m.was in
     let by-checked-there = checked-there args.limits args.schema.now args.check c.requires.own_check c.in-Whole.field-0
     c.in-Whole.is in
     let by-type-there = type-there (as_limits args.limits) args.t0.now c.whole_type.result c.whole_type.ensures
@@ -71,8 +72,8 @@ bound_length-requires c =
 pub returns-then-not-answer_fits : goal.returns-then-not-answer_fits
 returns-then-not-answer_fits c =
     let args = c.args in
-    let by-direct = direct (as_mode c.in-Ok.m) (dec args.limits.levels args.t0.now) (dec args.limits.levels args.t1.now) in
-    let by-mode-known = mode-known args.mode c.try_from.result c.try_from.ensures c.in-Ok.m c.in-Ok.is in
+    let by-direct = direct (as_mode c.in_ok-m.m) (dec args.limits.levels args.t0.now) (dec args.limits.levels args.t1.now) in
+    let by-mode-known = mode-known args.mode c.try_from.result c.try_from.ensures c.in_ok-m.m c.in_ok-m.was in
     let by-checked-there = checked-there args.limits args.schema.now args.check c.requires.own_check c.in-Whole.field-0
     c.in-Whole.is in
     let by-type-there = type-there (as_limits args.limits) args.t0.now c.whole_type.result c.whole_type.ensures
@@ -83,7 +84,7 @@ returns-then-not-answer_fits c =
     _ (bound-direct (as_limits args.limits) c.requires.fair args.mode args.schema.now args.t0.now args.t1.now (length
     args.out.now) _ by-mode-known _ by-checked-there
     by-type-there (λ i. (c.type_inv.t0 i).fits) (λ i. (c.type_inv.t1 i).fits)
-    by-type-there-2) (seen c.bound_length.result) c.bound_length.ensures c.in-Ok-bound_length.n (ap seen c.in-Ok-bound_length.is)
+    by-type-there-2) (seen c.bound_length.result) c.bound_length.ensures c.in_ok-n.n (ap seen c.in_ok-n.was)
     c.answer_fits.result c.answer_fits.ensures c.if-not-answer_fits.true-raw
 
 pub write_bound-requires : goal.write_bound-requires
@@ -93,23 +94,23 @@ write_bound-requires c =
     c.if-not-whole_type.false-raw in
     let by-type-whole-2 = type-whole (as_limits args.limits) args.t1.now c.whole_type-2.result c.whole_type-2.ensures
     c.if-not-whole_type-2.false-raw in
-    let by-direct = direct (as_mode c.in-Ok.m) (dec args.limits.levels args.t0.now) (dec args.limits.levels args.t1.now) in record {
+    let by-direct = direct (as_mode c.in_ok-m.m) (dec args.limits.levels args.t0.now) (dec args.limits.levels args.t1.now) in record {
       a_whole = by-type-whole;
       b_whole = by-type-whole-2;
       ready = writes-ready (as_limits args.limits) (allowed-bytes (as_limits args.limits) c.requires.fair).1 by-direct args.out.now _ refl
           (seen c.bound_length.result) c.bound_length.ensures
-          c.in-Ok-bound_length.n (ap seen c.in-Ok-bound_length.is) c.answer_fits.result c.answer_fits.ensures c.if-not-answer_fits.false-raw;
+          c.in_ok-n.n (ap seen c.in_ok-n.was) c.answer_fits.result c.answer_fits.ensures c.if-not-answer_fits.false-raw;
       known_length = writes-length (as_limits args.limits) (allowed-bytes (as_limits args.limits) c.requires.fair).1 by-direct args.out.now _ refl
           (seen c.bound_length.result) c.bound_length.ensures
-          c.in-Ok-bound_length.n (ap seen c.in-Ok-bound_length.is) c.answer_fits.result c.answer_fits.ensures c.if-not-answer_fits.false-raw;
+          c.in_ok-n.n (ap seen c.in_ok-n.was) c.answer_fits.result c.answer_fits.ensures c.if-not-answer_fits.false-raw;
     }
 
 pub slice_bounds-form-end : goal.slice_bounds-form-end
 slice_bounds-form-end c =
     let args = c.args in
     let fair = c.requires.fair in
-    let by-direct = direct (as_mode c.in-Ok.m) (dec args.limits.levels args.t0.now) (dec args.limits.levels args.t1.now) in
-    let by-mode-known = mode-known args.mode c.try_from.result c.try_from.ensures c.in-Ok.m c.in-Ok.is in
+    let by-direct = direct (as_mode c.in_ok-m.m) (dec args.limits.levels args.t0.now) (dec args.limits.levels args.t1.now) in
+    let by-mode-known = mode-known args.mode c.try_from.result c.try_from.ensures c.in_ok-m.m c.in_ok-m.was in
     let by-checked-there = checked-there args.limits args.schema.now args.check c.requires.own_check c.in-Whole.field-0 c.in-Whole.is in
     let by-type-there = type-there (as_limits args.limits) args.t0.now c.whole_type.result c.whole_type.ensures c.if-not-whole_type.false-raw in
     let by-type-there-2 = type-there (as_limits args.limits) args.t1.now c.whole_type-2.result c.whole_type-2.ensures
@@ -121,7 +122,7 @@ slice_bounds-form-end c =
     let by-bound-within = bound-within (as_limits args.limits) fair args.mode args.schema.now args.t0.now args.t1.now (length args.out.now)
     _ by-mode-known _ by-checked-there by-type-there known-first known-second by-type-there-2 in
     let was-written = wrote (as_limits args.limits) (allowed-bytes (as_limits args.limits) fair).1 by-direct args.out.now _ by-bound-direct
-    (seen c.bound_length.result) c.bound_length.ensures c.in-Ok-bound_length.n (ap seen c.in-Ok-bound_length.is) c.answer_fits.result
+    (seen c.bound_length.result) c.bound_length.ensures c.in_ok-n.n (ap seen c.in_ok-n.was) c.answer_fits.result
     c.answer_fits.ensures c.if-not-answer_fits.false-raw c.write_bound.new.out c.write_bound.result c.write_bound.ensures
     by-bound-within in
     omega (arith, wrote-small was-written)
@@ -130,8 +131,8 @@ pub type_levels-requires : goal.type_levels-requires
 type_levels-requires c =
     let args = c.args in
     let fair = c.requires.fair in
-    let by-direct = direct (as_mode c.in-Ok.m) (dec args.limits.levels args.t0.now) (dec args.limits.levels args.t1.now) in
-    let by-mode-known = mode-known args.mode c.try_from.result c.try_from.ensures c.in-Ok.m c.in-Ok.is in
+    let by-direct = direct (as_mode c.in_ok-m.m) (dec args.limits.levels args.t0.now) (dec args.limits.levels args.t1.now) in
+    let by-mode-known = mode-known args.mode c.try_from.result c.try_from.ensures c.in_ok-m.m c.in_ok-m.was in
     let by-checked-there = checked-there args.limits args.schema.now args.check c.requires.own_check c.in-Whole.field-0 c.in-Whole.is in
     let by-type-there = type-there (as_limits args.limits) args.t0.now c.whole_type.result c.whole_type.ensures c.if-not-whole_type.false-raw in
     let by-type-there-2 = type-there (as_limits args.limits) args.t1.now c.whole_type-2.result c.whole_type-2.ensures
@@ -143,17 +144,17 @@ type_levels-requires c =
     let by-bound-within = bound-within (as_limits args.limits) fair args.mode args.schema.now args.t0.now args.t1.now (length args.out.now)
     _ by-mode-known _ by-checked-there by-type-there known-first known-second by-type-there-2 in
     let was-written = wrote (as_limits args.limits) (allowed-bytes (as_limits args.limits) fair).1 by-direct args.out.now _ by-bound-direct
-    (seen c.bound_length.result) c.bound_length.ensures c.in-Ok-bound_length.n (ap seen c.in-Ok-bound_length.is) c.answer_fits.result
+    (seen c.bound_length.result) c.bound_length.ensures c.in_ok-n.n (ap seen c.in_ok-n.was) c.answer_fits.result
     c.answer_fits.ensures c.if-not-answer_fits.false-raw c.write_bound.new.out c.write_bound.result c.write_bound.ensures
     by-bound-within in
     wrote-whole was-written
 
-pub returns-else-not-answer_fits : goal.returns-else-not-answer_fits
-returns-else-not-answer_fits c =
+pub returns : goal.returns
+returns c =
     let args = c.args in
     let fair = c.requires.fair in
-    let by-direct = direct (as_mode c.in-Ok.m) (dec args.limits.levels args.t0.now) (dec args.limits.levels args.t1.now) in
-    let by-mode-known = mode-known args.mode c.try_from.result c.try_from.ensures c.in-Ok.m c.in-Ok.is in
+    let by-direct = direct (as_mode c.in_ok-m.m) (dec args.limits.levels args.t0.now) (dec args.limits.levels args.t1.now) in
+    let by-mode-known = mode-known args.mode c.try_from.result c.try_from.ensures c.in_ok-m.m c.in_ok-m.was in
     let by-checked-there = checked-there args.limits args.schema.now args.check c.requires.own_check c.in-Whole.field-0 c.in-Whole.is in
     let by-type-there = type-there (as_limits args.limits) args.t0.now c.whole_type.result c.whole_type.ensures c.if-not-whole_type.false-raw in
     let by-type-there-2 = type-there (as_limits args.limits) args.t1.now c.whole_type-2.result c.whole_type-2.ensures
@@ -165,24 +166,25 @@ returns-else-not-answer_fits c =
     let by-bound-within = bound-within (as_limits args.limits) fair args.mode args.schema.now args.t0.now args.t1.now (length args.out.now)
     _ by-mode-known _ by-checked-there by-type-there known-first known-second by-type-there-2 in
     let was-written = wrote (as_limits args.limits) (allowed-bytes (as_limits args.limits) fair).1 by-direct args.out.now _ by-bound-direct
-    (seen c.bound_length.result) c.bound_length.ensures c.in-Ok-bound_length.n (ap seen c.in-Ok-bound_length.is) c.answer_fits.result
+    (seen c.bound_length.result) c.bound_length.ensures c.in_ok-n.n (ap seen c.in_ok-n.was) c.answer_fits.result
     c.answer_fits.ensures c.if-not-answer_fits.false-raw c.write_bound.new.out c.write_bound.result c.write_bound.ensures
     by-bound-within in
     wrote-levels was-written c.type_levels.result c.type_levels.ensures
 
-pub returns-in-Err : goal.returns-in-Err
-returns-in-Err c =
+pub returns-in_err-n : goal.returns-in_err-n
+returns-in_err-n c =
     let args = c.args in
-    let by-direct = direct (as_mode c.in-Ok.m) (dec args.limits.levels args.t0.now) (dec args.limits.levels args.t1.now) in
-    let by-mode-known = mode-known args.mode c.try_from.result c.try_from.ensures c.in-Ok.m c.in-Ok.is in
+    let by-direct = direct (as_mode c.in_ok-m.m) (dec args.limits.levels args.t0.now) (dec args.limits.levels args.t1.now) in
+    let by-mode-known = mode-known args.mode c.try_from.result c.try_from.ensures c.in_ok-m.m c.in_ok-m.was in
     let by-checked-there = checked-there args.limits args.schema.now args.check c.requires.own_check c.in-Whole.field-0
     c.in-Whole.is in
     let by-type-there = type-there (as_limits args.limits) args.t0.now c.whole_type.result c.whole_type.ensures
     c.if-not-whole_type.false-raw in
     let by-type-there-2 = type-there (as_limits args.limits) args.t1.now c.whole_type-2.result c.whole_type-2.ensures
     c.if-not-whole_type-2.false-raw in
-    rw c.from.ensures (writes-not (as_limits args.limits) (allowed-bytes (as_limits args.limits) c.requires.fair).1 by-direct args.out.now
+    let refusal = c.in_err-n.field-0.0 in
+    refuses-as c.from_residual-in_err-n.result refusal c.from_residual-in_err-n.ensures.1 (writes-not (as_limits args.limits) (allowed-bytes (as_limits args.limits) c.requires.fair).1 by-direct args.out.now
     _ (bound-direct (as_limits args.limits) c.requires.fair args.mode args.schema.now args.t0.now args.t1.now (length
     args.out.now) _ by-mode-known _ by-checked-there
     by-type-there (λ i. (c.type_inv.t0 i).fits) (λ i. (c.type_inv.t1 i).fits)
-    by-type-there-2) (seen c.bound_length.result) c.bound_length.ensures (number_of c.in-Err.refusal) (ap seen c.in-Err.is))
+    by-type-there-2) (seen c.bound_length.result) c.bound_length.ensures (number_of refusal) (ap seen c.in_err-n.was))

@@ -4,6 +4,7 @@ use Rattle.cedar.specs.Calls.{lookup_call}
 use Rattle.cedar.proofs.Laws.Limits.{allowed-bytes, lookup-refused}
 use Rattle.forms.specs.Limits.{as_limits}
 use Rattle.schemas.specs.SchemaBytes.{limits_of}
+use Rattle.writing.specs.FormLengths.{seen}
 use Rattle.validator.specs.Laws.Schemas.{kept-refused, kept-allowed, kept-missing, kept-sections, kept_under}
 use Rattle.validator.specs.Answers.{Answered}
 use Rattle.validator.specs.Laws.Lookup.{lookup-no-schema}
@@ -38,7 +39,7 @@ returns-then-at-le-BYTES c =
     kept_under args.schema.now args.check c.requires c.in-Whole.at c.in-Whole.is
     (λ (lim : Limits). Answered (lookup_call lim args.schema.now args.attr args.t.now (length args.out.now) (length args.work.now))
     args.out.now
-    c.looked_up.new.out c.looked_up.result) c.looked_up.ensures
+    c.looked_up.new.out (seen c.looked_up.result)) c.looked_up.ensures
 
 pub looked_up-requires-2 : goal.looked_up-requires-2
 looked_up-requires-2 c =
@@ -53,4 +54,4 @@ returns c =
     kept_under args.schema.now args.check c.requires c.in-Whole.at c.in-Whole.is
     (λ (lim : Limits). Answered (lookup_call lim args.schema.now args.attr args.t.now (length args.out.now) (length args.work.now))
     args.out.now
-    c.looked_up-2.new.out c.looked_up-2.result) c.looked_up-2.ensures
+    c.looked_up-2.new.out (seen c.looked_up-2.result)) c.looked_up-2.ensures

@@ -1,5 +1,6 @@
 use lib.ListN.{length}
 use Rattle.cedar.specs.Calls.{lookup_call}
+use Rattle.writing.specs.FormLengths.{seen}
 use Rattle.validator.specs.Answers.{AnsweredIn}
 use Rattle.cedar.specs.Limits.{Limits}
 use Rattle.validator.specs.Laws.Schemas.{checked-own, checked_under}
@@ -16,4 +17,4 @@ returns c =
     checked_under args.limits args.schema.now c.check_schema.result c.check_schema.ensures
     (λ (lim : Limits). AnsweredIn (lookup_call lim args.schema.now args.attr args.t.now (length args.out.now) (length args.work.now))
     args.out.now c.lookup_attribute_type_checked.new.out args.work.now
-    c.lookup_attribute_type_checked.new.work c.lookup_attribute_type_checked.result) c.lookup_attribute_type_checked.ensures
+    c.lookup_attribute_type_checked.new.work (seen c.lookup_attribute_type_checked.result)) c.lookup_attribute_type_checked.ensures

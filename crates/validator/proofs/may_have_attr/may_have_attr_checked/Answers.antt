@@ -1,5 +1,6 @@
 use mathlib.Core.Path.{◌≡◌, sym, ap}
 use Rattle.cedar.specs.Calls.{may_have_call}
+use Rattle.writing.specs.FormLengths.{seen}
 use Rattle.validator.specs.Answers.{answer_of}
 use Rattle.cedar.specs.Limits.{Limits}
 use Rattle.cedar.proofs.Laws.Limits.{may-have-refused}
@@ -33,4 +34,4 @@ pub returns : goal.returns
 returns c =
     let args = c.args in
     kept_under args.schema.now args.check c.requires c.in-Whole.at c.in-Whole.is
-    (λ (lim : Limits). c.may_have_under.result ≡ answer_of (may_have_call lim args.schema.now args.attr args.t.now)) c.may_have_under.ensures
+    (λ (lim : Limits). seen c.may_have_under.result ≡ answer_of (may_have_call lim args.schema.now args.attr args.t.now)) c.may_have_under.ensures

@@ -1,3 +1,4 @@
+use Rattle.cedar.specs.Result.{ok}
 use Rattle.forms.specs.Limits.{as_limits}
 use Rattle.validator.specs.Laws.Questions.{type-missing, type-there, type-whole}
 use Rattle.validator.specs.Laws.Schemas.{sectioned-there}
@@ -24,5 +25,5 @@ returns c =
     let by-type-there = type-there (as_limits args.at.limits) args.t.now c.whole_type.result c.whole_type.ensures
     c.if-not-whole_type.false-raw in
     may-have-said (as_limits args.at.limits) c.requires.fair args.attr args.schema.now args.t.now _ by-checked-there _ by-type-there
-    c.yes_or_no.result
+    (ok c.yes_or_no.result)
     c.may_have_attr.result c.yes_or_no.ensures c.may_have_attr.ensures

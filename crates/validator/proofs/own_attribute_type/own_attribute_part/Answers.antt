@@ -1,6 +1,7 @@
 use mathlib.Core.Path.{◌≡◌}
 use Rattle.cedar.specs.BodyPlace.{body_in}
 use Rattle.cedar.specs.Calls.{own_attribute_call}
+use Rattle.writing.specs.FormLengths.{seen}
 use Rattle.validator.specs.Handed.{part_of}
 use Rattle.cedar.specs.Limits.{Limits}
 use Rattle.validator.specs.Laws.Schemas.{checked-own, checked_under}
@@ -15,5 +16,5 @@ pub returns : goal.returns
 returns c =
     let args = c.args in
     checked_under args.limits args.schema.now c.check_schema.result c.check_schema.ensures
-    (λ (lim : Limits). c.own_attribute_part_checked.result ≡ part_of (own_attribute_call lim args.schema.now args.attr args.t.now) (body_in lim
+    (λ (lim : Limits). seen c.own_attribute_part_checked.result ≡ part_of (own_attribute_call lim args.schema.now args.attr args.t.now) (body_in lim
     args.attr args.t.now)) c.own_attribute_part_checked.ensures

@@ -2,6 +2,7 @@ use mathlib.Core.Path.{◌≡◌, sym, ap}
 use Rattle.cedar.specs.Outcome.{Outcome}
 use Rattle.cedar.specs.BodyPlace.{body_in}
 use Rattle.cedar.specs.Calls.{own_attribute_call}
+use Rattle.writing.specs.FormLengths.{seen}
 use Rattle.validator.specs.Handed.{part_of}
 use Rattle.cedar.specs.Limits.{Limits}
 use Rattle.cedar.proofs.Laws.Limits.{own-attribute-refused}
@@ -36,5 +37,5 @@ pub returns : goal.returns
 returns c =
     let args = c.args in
     kept_under args.schema.now args.check c.requires c.in-Whole.at c.in-Whole.is
-    (λ (lim : Limits). c.own_part_under.result ≡ part_of (own_attribute_call lim args.schema.now args.attr args.t.now) (body_in lim args.attr
+    (λ (lim : Limits). seen c.own_part_under.result ≡ part_of (own_attribute_call lim args.schema.now args.attr args.t.now) (body_in lim args.attr
     args.t.now)) c.own_part_under.ensures

@@ -6,6 +6,7 @@ use Rattle.cedar.proofs.Laws.Limits.{allowed-bytes, fold-refused}
 use Rattle.forms.specs.Limits.{as_limits}
 use Rattle.forms.specs.declared.limits.Limits.{Limits as LimitsStruct}
 use Rattle.schemas.specs.SchemaBytes.{limits_of}
+use Rattle.writing.specs.FormLengths.{seen}
 use Rattle.validator.specs.Laws.Schemas.{kept-refused, kept-check}
 use Rattle.validator.specs.Answers.{Answered}
 use Rattle.validator.specs.Laws.Writing.{refuses}
@@ -33,7 +34,7 @@ returns-then-limits-le-BYTES c =
     let args = c.args in
     subst (λ (l : LimitsStruct). Answered (fold_call (as_limits l) args.mode args.schema.now args.list.now (length args.out.now) (length
     args.work.now)) args.out.now
-    c.reduced.new.out c.reduced.result)
+    c.reduced.new.out (seen c.reduced.result))
     c.limits-limits.ensures c.reduced.ensures
 
 pub reduced-requires-2 : goal.reduced-requires-2
@@ -51,5 +52,5 @@ returns c =
     let args = c.args in
     subst (λ (l : LimitsStruct). Answered (fold_call (as_limits l) args.mode args.schema.now args.list.now (length args.out.now) (length
     args.work.now)) args.out.now
-    c.reduced-2.new.out c.reduced-2.result)
+    c.reduced-2.new.out (seen c.reduced-2.result))
     c.limits-limits.ensures c.reduced-2.ensures

@@ -1,5 +1,6 @@
 use mathlib.Core.Path.{◌≡◌, sym, ap}
 use Rattle.cedar.specs.Calls.{conforms_by}
+use Rattle.writing.specs.FormLengths.{seen}
 use Rattle.validator.specs.Answers.{answer_of}
 use Rattle.cedar.specs.Limits.{Limits}
 use Rattle.cedar.proofs.Laws.Limits.{conforms-refused}
@@ -34,4 +35,4 @@ pub returns : goal.returns
 returns c =
     let args = c.args in
     kept_under args.schema.now args.check c.requires c.in-Whole.at c.in-Whole.is
-    (λ (lim : Limits). c.conforms_under.result ≡ answer_of (conforms_by (counts_of args.counts) lim args.schema.now args.t.now args.v.now)) c.conforms_under.ensures
+    (λ (lim : Limits). seen c.conforms_under.result ≡ answer_of (conforms_by (counts_of args.counts) lim args.schema.now args.t.now args.v.now)) c.conforms_under.ensures

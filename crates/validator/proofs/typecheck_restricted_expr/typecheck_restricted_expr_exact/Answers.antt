@@ -1,5 +1,6 @@
 use mathlib.Core.Path.{◌≡◌}
 use Rattle.cedar.specs.Calls.{full_call}
+use Rattle.writing.specs.FormLengths.{seen}
 use Rattle.validator.specs.Answers.{answer_of}
 use Rattle.cedar.specs.Limits.{Limits}
 use Rattle.validator.specs.Laws.Schemas.{checked-own, checked_under}
@@ -14,5 +15,5 @@ pub returns : goal.returns
 returns c =
     let args = c.args in
     checked_under args.limits args.schema.now c.check_schema.result c.check_schema.ensures
-    (λ (lim : Limits). c.typecheck_restricted_expr_exact_checked.result ≡ answer_of (full_call lim args.schema.now args.t.now args.v.now))
+    (λ (lim : Limits). seen c.typecheck_restricted_expr_exact_checked.result ≡ answer_of (full_call lim args.schema.now args.t.now args.v.now))
     c.typecheck_restricted_expr_exact_checked.ensures
