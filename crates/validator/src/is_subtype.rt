@@ -1,9 +1,7 @@
 // Whether a type is a subtype of another.
-ghost use Rattle.std.specs.Prelude.{◌≡◌, true};
-ghost use Rattle.cedar.specs.Limits.{allowed};
+ghost use Rattle.std.specs.Prelude.{◌≡◌};
 ghost use Rattle.cedar.specs.Calls.{subtype_call};
 ghost use Rattle.forms.specs.Limits.{as_limits};
-ghost use Rattle.schemas.specs.SchemaBytes.{limits_of, checked};
 ghost use Rattle.writing.specs.FormLengths.{seen};
 ghost use Rattle.validator.specs.Answers.{answer_of};
 
@@ -12,23 +10,23 @@ use forms::limits::Limits;
 use forms::modes::Mode;
 use forms::refusals::Refusal;
 use forms::types::whole_type;
-use schemas::whole::{Checked, check_schema};
+use schemas::checked::Checked;
 
-// The answer under limits that are allowed.
-fn is_subtype_under(
-    limits: Limits,
-    schema: &[u8],
-    check: Checked,
+// The answer under a schema that was checked before, and the limits of its check.
+pub fn is_subtype_checked(
+    schema: &Checked<'_>,
     mode: u8,
     t0: &[u8],
     t1: &[u8],
 ) -> Result<Answer, Refusal>
-    requires fair { allowed (as_limits limits) ≡ true }
-    requires own_check { check ≡ checked limits schema.now }
-    ensures { seen result ≡ answer_of (subtype_call (as_limits limits) mode schema.now t0.now t1.now) }
+    ensures { seen result ≡ answer_of (subtype_call (as_limits schema.now.limits) mode schema.now.bytes.now t0.now t1.now) }
 {
+    let limits = schema.limits;
+    if !limits.are_allowed() {
+        return Err(Refusal::Limits);
+    }
     let m = Mode::try_from(mode)?;
-    let Checked::Whole(_) = check else {
+    let Some(_) = schema.sections else {
         return Err(Refusal::Schema);
     };
     if !whole_type(t0, limits) {
@@ -40,24 +38,6 @@ fn is_subtype_under(
     Ok(yes_or_no(relations::is_subtype::is_subtype(m, t0, t1, limits.levels)))
 }
 
-// The answer under a schema that was checked before, and the limits of its check.
-pub fn is_subtype_checked(
-    schema: &[u8],
-    check: Checked,
-    mode: u8,
-    t0: &[u8],
-    t1: &[u8],
-) -> Result<Answer, Refusal>
-    requires { check ≡ checked (limits_of check) schema.now }
-    ensures { seen result ≡ answer_of (subtype_call (as_limits (limits_of check)) mode schema.now t0.now t1.now) }
-{
-    let limits = check.limits();
-    if !limits.are_allowed() {
-        return Err(Refusal::Limits);
-    }
-    is_subtype_under(limits, schema, check, mode, t0, t1)
-}
-
 pub fn is_subtype(
     limits: Limits,
     mode: u8,
@@ -67,5 +47,5 @@ pub fn is_subtype(
 ) -> Result<Answer, Refusal>
     ensures { seen result ≡ answer_of (subtype_call (as_limits limits) mode schema.now t0.now t1.now) }
 {
-    is_subtype_checked(schema, check_schema(limits, schema), mode, t0, t1)
+    is_subtype_checked(&Checked::new(limits, schema), mode, t0, t1)
 }

@@ -1,9 +1,7 @@
 // The least upper bound of two types.
-ghost use Rattle.std.specs.Prelude.{◌≡◌, true, length};
-ghost use Rattle.cedar.specs.Limits.{allowed};
+ghost use Rattle.std.specs.Prelude.{◌≡◌, length};
 ghost use Rattle.cedar.specs.Calls.{bound_call};
 ghost use Rattle.forms.specs.Limits.{as_limits};
-ghost use Rattle.schemas.specs.SchemaBytes.{limits_of, checked};
 ghost use Rattle.writing.specs.FormLengths.{seen};
 ghost use Rattle.validator.specs.Answers.{Answered};
 
@@ -16,24 +14,24 @@ use forms::modes::Mode;
 use forms::refusals::Refusal;
 use forms::types::whole_type;
 use levels::depths::type_levels;
-use schemas::whole::{Checked, check_schema};
+use schemas::checked::Checked;
 
-// The answer under limits that are allowed.
-fn least_upper_bound_under(
-    limits: Limits,
-    schema: &[u8],
-    check: Checked,
+// The answer under a schema that was checked before, and the limits of its check.
+pub fn least_upper_bound_checked(
+    schema: &Checked<'_>,
     mode: u8,
     t0: &[u8],
     t1: &[u8],
     out: &mut [u8],
 ) -> Result<Answer, Refusal>
-    requires fair { allowed (as_limits limits) ≡ true }
-    requires own_check { check ≡ checked limits schema.now }
-    ensures { Answered (bound_call (as_limits limits) mode schema.now t0.now t1.now (length out.old)) out.old out.new (seen result) }
+    ensures { Answered (bound_call (as_limits schema.now.limits) mode schema.now.bytes.now t0.now t1.now (length out.old)) out.old out.new (seen result) }
 {
+    let limits = schema.limits;
+    if !limits.are_allowed() {
+        return Err(Refusal::Limits);
+    }
     let m = Mode::try_from(mode)?;
-    let Checked::Whole(_) = check else {
+    let Some(_) = schema.sections else {
         return Err(Refusal::Schema);
     };
     if !whole_type(t0, limits) {
@@ -51,25 +49,6 @@ fn least_upper_bound_under(
     Ok(Answer::Typed(n, type_levels(form, limits.levels)))
 }
 
-// The answer under a schema that was checked before, and the limits of its check.
-pub fn least_upper_bound_checked(
-    schema: &[u8],
-    check: Checked,
-    mode: u8,
-    t0: &[u8],
-    t1: &[u8],
-    out: &mut [u8],
-) -> Result<Answer, Refusal>
-    requires { check ≡ checked (limits_of check) schema.now }
-    ensures { Answered (bound_call (as_limits (limits_of check)) mode schema.now t0.now t1.now (length out.old)) out.old out.new (seen result) }
-{
-    let limits = check.limits();
-    if !limits.are_allowed() {
-        return Err(Refusal::Limits);
-    }
-    least_upper_bound_under(limits, schema, check, mode, t0, t1, out)
-}
-
 pub fn least_upper_bound(
     limits: Limits,
     mode: u8,
@@ -80,5 +59,5 @@ pub fn least_upper_bound(
 ) -> Result<Answer, Refusal>
     ensures { Answered (bound_call (as_limits limits) mode schema.now t0.now t1.now (length out.old)) out.old out.new (seen result) }
 {
-    least_upper_bound_checked(schema, check_schema(limits, schema), mode, t0, t1, out)
+    least_upper_bound_checked(&Checked::new(limits, schema), mode, t0, t1, out)
 }

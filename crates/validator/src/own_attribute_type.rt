@@ -3,8 +3,7 @@ ghost use Rattle.std.specs.Prelude.{◌≡◌};
 ghost use Rattle.cedar.specs.BodyPlace.{body_in};
 ghost use Rattle.cedar.specs.Calls.{own_attribute_call};
 ghost use Rattle.forms.specs.Limits.{as_limits};
-ghost use Rattle.schemas.specs.SchemaBytes.{limits_of, checked};
-ghost use Rattle.schemas.specs.Entries.{Sectioned};
+ghost use Rattle.schemas.specs.Schema.{limits_in};
 ghost use Rattle.writing.specs.FormLengths.{seen};
 ghost use Rattle.validator.specs.Handed.{part_of, Handed};
 
@@ -12,8 +11,8 @@ use attributes::own_attribute::own_attribute;
 use forms::limits::Limits;
 use forms::refusals::Refusal;
 use forms::types::whole_type;
-use schemas::sections::Sections;
-use schemas::whole::{Checked, check_schema};
+use schemas::checked::Checked;
+use schemas::schema::Schema;
 
 // What the entry says beside the part, where it is no refusal's number.
 #[derive(Clone, Copy)]
@@ -36,16 +35,10 @@ pub struct OwnPart {
 }
 
 // The place for a whole schema.
-fn own_part_under(
-    schema: &[u8],
-    at: Sections,
-    attr: u16,
-    t: &[u8],
-) -> Result<Option<OwnPart>, Refusal>
-    requires { Sectioned schema.now «at» }
-    ensures { seen result ≡ part_of (own_attribute_call (as_limits «at».limits) schema.now attr t.now) (body_in (as_limits «at».limits) attr t.now) }
+fn own_part_under(schema: &Schema<'_>, attr: u16, t: &[u8]) -> Result<Option<OwnPart>, Refusal>
+    ensures { seen result ≡ part_of (own_attribute_call (limits_in schema.now) schema.now.bytes.now attr t.now) (body_in (limits_in schema.now) attr t.now) }
 {
-    let limits = at.limits;
+    let limits = schema.sections.limits;
     if !whole_type(t, limits) {
         return Err(Refusal::First);
     }
@@ -61,21 +54,19 @@ fn own_part_under(
 
 // The place under a schema that was checked before, and the limits of its check.
 pub fn own_attribute_part_checked(
-    schema: &[u8],
-    check: Checked,
+    schema: &Checked<'_>,
     attr: u16,
     t: &[u8],
 ) -> Result<Option<OwnPart>, Refusal>
-    requires { check ≡ checked (limits_of check) schema.now }
-    ensures { seen result ≡ part_of (own_attribute_call (as_limits (limits_of check)) schema.now attr t.now) (body_in (as_limits (limits_of check)) attr t.now) }
+    ensures { seen result ≡ part_of (own_attribute_call (as_limits schema.now.limits) schema.now.bytes.now attr t.now) (body_in (as_limits schema.now.limits) attr t.now) }
 {
-    if !check.limits().are_allowed() {
+    if !schema.limits.are_allowed() {
         return Err(Refusal::Limits);
     }
-    let Checked::Whole(at) = check else {
+    let Some(whole) = schema.whole() else {
         return Err(Refusal::Schema);
     };
-    own_part_under(schema, at, attr, t)
+    own_part_under(&whole, attr, t)
 }
 
 // The place.
@@ -87,21 +78,19 @@ pub fn own_attribute_part(
 ) -> Result<Option<OwnPart>, Refusal>
     ensures { seen result ≡ part_of (own_attribute_call (as_limits limits) schema.now attr t.now) (body_in (as_limits limits) attr t.now) }
 {
-    own_attribute_part_checked(schema, check_schema(limits, schema), attr, t)
+    own_attribute_part_checked(&Checked::new(limits, schema), attr, t)
 }
 
 // The answer under a schema that was checked before, and the limits of its check.
 pub fn own_attribute_type_checked<'a>(
-    schema: &[u8],
-    check: Checked,
+    schema: &Checked<'_>,
     attr: u16,
     t: &'a [u8],
     told: &mut u8,
 ) -> &'a [u8]
-    requires { check ≡ checked (limits_of check) schema.now }
-    ensures { Handed (own_attribute_call (as_limits (limits_of check)) schema.now attr t.now) (body_in (as_limits (limits_of check)) attr t.now) t.entry result told.new }
+    ensures { Handed (own_attribute_call (as_limits schema.now.limits) schema.now.bytes.now attr t.now) (body_in (as_limits schema.now.limits) attr t.now) t.entry result told.new }
 {
-    match own_attribute_part_checked(schema, check, attr, t) {
+    match own_attribute_part_checked(schema, attr, t) {
         Err(refusal) => {
             *told = u8::from(refusal);
             &t[..0]
@@ -131,5 +120,5 @@ pub fn own_attribute_type<'a>(
 ) -> &'a [u8]
     ensures { Handed (own_attribute_call (as_limits limits) schema.now attr t.now) (body_in (as_limits limits) attr t.now) t.entry result told.new }
 {
-    own_attribute_type_checked(schema, check_schema(limits, schema), attr, t, told)
+    own_attribute_type_checked(&Checked::new(limits, schema), attr, t, told)
 }
