@@ -13,11 +13,6 @@ use Rattle.validator.specs.Laws.Names.{names-no-schema}
 use Rattle.validator.specs.Laws.Writing.{refuses}
 use Rattle.validator.proofs.all_attributes.named_under.Goals as goal
 
-pub returns-then-not-are_allowed : goal.returns-then-not-are_allowed
-returns-then-not-are_allowed c =
-    let args = c.args in
-    let bad = limits-bad (as_limits args.schema.now.limits) c.are_allowed.result c.are_allowed.ensures c.if-not-are_allowed.true-raw in
-    refuses 20 (names-refused (as_limits args.schema.now.limits) bad args.schema.now.bytes.now args.t.now (length args.out.now) (length args.work.now))
 
 pub returns-in_default : goal.returns-in_default
 returns-in_default c =
@@ -26,24 +21,10 @@ returns-in_default c =
     names-no-schema (as_limits args.schema.now.limits) fair args.schema.now.bytes.now args.t.now args.out.now (length args.work.now)
     (checked-missing args.schema.now fair c.in_default.ensures)
 
-pub named-requires : goal.named-requires
-named-requires c = record { last_room = c.if-whole-le-BYTES.true; kept_room = (c.if-whole-le-BYTES.true, omega arith) }
 
-pub returns-then-whole-le-BYTES : goal.returns-then-whole-le-BYTES
-returns-then-whole-le-BYTES c =
-    let args = c.args in
-    of-check c.in-Some.ensures
-    (λ (lim : Limits) (s : List ℕ). Answered (names_call lim s args.t.now (length args.out.now) (length args.work.now)) args.out.now
-    c.named.new.out (seen c.named.result)) c.named.ensures
 
 pub named-requires-2 : goal.named-requires-2
 named-requires-2 c =
     let most = (allowed-bytes (limits_in c.in-Some.whole) c.in-Some.whole.sectioned.fair).1 in
     record { last_room = most; kept_room = (most, omega arith) }
 
-pub returns : goal.returns
-returns c =
-    let args = c.args in
-    of-check c.in-Some.ensures
-    (λ (lim : Limits) (s : List ℕ). Answered (names_call lim s args.t.now (length args.out.now) (length args.work.now)) args.out.now
-    c.named-2.new.out (seen c.named-2.result)) c.named-2.ensures

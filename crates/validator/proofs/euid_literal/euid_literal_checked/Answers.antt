@@ -15,11 +15,6 @@ use Rattle.validator.specs.Laws.Literal.{literal-no-schema}
 use Rattle.validator.specs.Laws.Writing.{refuses}
 use Rattle.validator.proofs.euid_literal.euid_literal_checked.Goals as goal
 
-pub returns-then-not-are_allowed : goal.returns-then-not-are_allowed
-returns-then-not-are_allowed c =
-    let args = c.args in
-    let bad = limits-bad (as_limits args.schema.now.limits) c.are_allowed.result c.are_allowed.ensures c.if-not-are_allowed.true-raw in
-    refuses 20 (literal-refused (as_limits args.schema.now.limits) bad args.schema.now.bytes.now args.v.now (length args.out.now))
 
 pub returns-in_default : goal.returns-in_default
 returns-in_default c =
@@ -30,10 +25,3 @@ returns-in_default c =
 
 pub literal_under-requires : goal.literal_under-requires
 literal_under-requires c = subst (λ (b : Bor (List ℕ)). Bytes b.now) (sym c.in-Some.ensures.bytes) (Bytes-index c.args.schema.now.bytes.now c.args.schema.now.fit)
-
-pub returns : goal.returns
-returns c =
-    let args = c.args in
-    of-check c.in-Some.ensures
-    (λ (lim : Limits) (s : List ℕ). Answered (literal_call lim s args.v.now (length args.out.now)) args.out.now
-    c.literal_under.new.out (seen c.literal_under.result)) c.literal_under.ensures

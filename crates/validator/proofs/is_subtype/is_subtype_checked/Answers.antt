@@ -11,11 +11,6 @@ use Rattle.validator.specs.Laws.Schemas.{limits-bad, limits-fair, checked-missin
 use Rattle.validator.specs.Laws.Subtype.{subtype-mode, subtype-schema, subtype-first, subtype-second, subtype-said}
 use Rattle.validator.proofs.is_subtype.is_subtype_checked.Goals as goal
 
-pub returns-then-not-are_allowed : goal.returns-then-not-are_allowed
-returns-then-not-are_allowed c =
-    let args = c.args in
-    let bad = limits-bad (as_limits args.schema.now.limits) c.are_allowed.result c.are_allowed.ensures c.if-not-are_allowed.true-raw in
-    sym (ap answer_of (subtype-refused (as_limits args.schema.now.limits) bad args.mode args.schema.now.bytes.now args.t0.now args.t1.now))
 
 pub returns-in_err-m : goal.returns-in_err-m
 returns-in_err-m c =
@@ -57,15 +52,6 @@ returns-then-not-whole_type-2 c =
     subtype-second (as_limits args.schema.now.limits) fair args.mode args.schema.now.bytes.now args.t0.now
     args.t1.now _ by-mode-known _ by-checked-there _ by-type-there by-type-missing
 
-pub is_subtype-requires : goal.is_subtype-requires
-is_subtype-requires c =
-    let args = c.args in
-    let by-type-whole = type-whole (as_limits args.schema.now.limits) args.t0.now c.whole_type.result
-    c.whole_type.ensures c.if-not-whole_type.false-raw in record {
-      t0_whole = by-type-whole;
-      t1_whole = type-whole (as_limits args.schema.now.limits) args.t1.now c.whole_type-2.result
-          c.whole_type-2.ensures c.if-not-whole_type-2.false-raw;
-    }
 
 pub returns : goal.returns
 returns c =
@@ -80,3 +66,13 @@ returns c =
     subtype-said (as_limits args.schema.now.limits) fair args.mode args.schema.now.bytes.now args.t0.now
     args.t1.now _ by-mode-known _ by-checked-there _ by-type-there _ by-type-there-2
     (ok c.yes_or_no.result) c.is_subtype.result c.yes_or_no.ensures c.is_subtype.ensures
+
+pub is_subtype-requires : goal.is_subtype-requires
+is_subtype-requires c =
+    let args = c.args in
+    let by-type-whole = type-whole (as_limits args.schema.now.limits) args.t0.now c.whole_type.result
+    c.whole_type.ensures c.if-not-whole_type.false-raw in record {
+      t0_whole = by-type-whole;
+      t1_whole = type-whole (as_limits args.schema.now.limits) args.t1.now c.whole_type-2.result
+          c.whole_type-2.ensures c.if-not-whole_type-2.false-raw;
+    }

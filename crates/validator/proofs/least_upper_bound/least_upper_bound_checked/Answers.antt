@@ -17,12 +17,6 @@ use Rattle.validator.specs.Laws.Writing.{refuses, refuses-as, writes-not, writes
 use Rattle.validator.specs.Laws.Bound.{bound-mode, bound-schema, bound-first, bound-second, bound-direct, bound-within}
 use Rattle.validator.proofs.least_upper_bound.least_upper_bound_checked.Goals as goal
 
-pub returns-then-not-are_allowed : goal.returns-then-not-are_allowed
-returns-then-not-are_allowed c =
-    let args = c.args in
-    let bad = limits-bad (as_limits args.schema.now.limits) c.are_allowed.result c.are_allowed.ensures c.if-not-are_allowed.true-raw in
-    refuses 20 (bound-refused (as_limits args.schema.now.limits) bad args.mode args.schema.now.bytes.now args.t0.now args.t1.now (length
-    args.out.now))
 
 pub returns-in_err-m : goal.returns-in_err-m
 returns-in_err-m c =

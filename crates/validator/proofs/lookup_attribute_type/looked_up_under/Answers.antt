@@ -12,12 +12,6 @@ use Rattle.validator.specs.Laws.Lookup.{lookup-no-schema}
 use Rattle.validator.specs.Laws.Writing.{refuses}
 use Rattle.validator.proofs.lookup_attribute_type.looked_up_under.Goals as goal
 
-pub returns-then-not-are_allowed : goal.returns-then-not-are_allowed
-returns-then-not-are_allowed c =
-    let args = c.args in
-    let bad = limits-bad (as_limits args.schema.now.limits) c.are_allowed.result c.are_allowed.ensures c.if-not-are_allowed.true-raw in
-    refuses 20 (lookup-refused (as_limits args.schema.now.limits) bad args.schema.now.bytes.now args.attr args.t.now (length args.out.now) (length
-    args.work.now))
 
 pub returns-in_default : goal.returns-in_default
 returns-in_default c =
@@ -26,24 +20,8 @@ returns-in_default c =
     lookup-no-schema (as_limits args.schema.now.limits) fair args.schema.now.bytes.now args.attr args.t.now args.out.now (length args.work.now)
     (checked-missing args.schema.now fair c.in_default.ensures)
 
-pub looked_up-requires : goal.looked_up-requires
-looked_up-requires c = record { last_room = c.if-whole-le-BYTES.true }
 
-pub returns-then-whole-le-BYTES : goal.returns-then-whole-le-BYTES
-returns-then-whole-le-BYTES c =
-    let args = c.args in
-    of-check c.in-Some.ensures
-    (λ (lim : Limits) (s : List ℕ). Answered (lookup_call lim s args.attr args.t.now (length args.out.now) (length args.work.now))
-    args.out.now
-    c.looked_up.new.out (seen c.looked_up.result)) c.looked_up.ensures
 
 pub looked_up-requires-2 : goal.looked_up-requires-2
 looked_up-requires-2 c = record { last_room = (allowed-bytes (limits_in c.in-Some.whole) c.in-Some.whole.sectioned.fair).1 }
 
-pub returns : goal.returns
-returns c =
-    let args = c.args in
-    of-check c.in-Some.ensures
-    (λ (lim : Limits) (s : List ℕ). Answered (lookup_call lim s args.attr args.t.now (length args.out.now) (length args.work.now))
-    args.out.now
-    c.looked_up-2.new.out (seen c.looked_up-2.result)) c.looked_up-2.ensures

@@ -10,11 +10,6 @@ use Rattle.validator.specs.Laws.Schemas.{limits-bad, limits-fair, checked-missin
 use Rattle.validator.specs.Laws.MayHave.{may-have-no-schema}
 use Rattle.validator.proofs.may_have_attr.may_have_attr_checked.Goals as goal
 
-pub returns-then-not-are_allowed : goal.returns-then-not-are_allowed
-returns-then-not-are_allowed c =
-    let args = c.args in
-    let bad = limits-bad (as_limits args.schema.now.limits) c.are_allowed.result c.are_allowed.ensures c.if-not-are_allowed.true-raw in
-    sym (ap answer_of (may-have-refused (as_limits args.schema.now.limits) bad args.schema.now.bytes.now args.attr args.t.now))
 
 pub returns-in_default : goal.returns-in_default
 returns-in_default c =
@@ -23,8 +18,3 @@ returns-in_default c =
     may-have-no-schema (as_limits args.schema.now.limits) fair args.attr args.schema.now.bytes.now args.t.now
     (checked-missing args.schema.now fair c.in_default.ensures)
 
-pub returns : goal.returns
-returns c =
-    let args = c.args in
-    of-check c.in-Some.ensures
-    (λ (lim : Limits) (s : List ℕ). seen c.may_have_under.result ≡ answer_of (may_have_call lim s args.attr args.t.now)) c.may_have_under.ensures

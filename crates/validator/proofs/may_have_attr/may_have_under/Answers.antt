@@ -13,10 +13,6 @@ returns-then-not-whole_type c =
     c.if-not-whole_type.true-raw in
     may-have-no-type (limits_in args.schema.now) c.args.schema.now.sectioned.fair args.attr args.schema.now.bytes.now args.t.now _ by-checked-there by-type-missing
 
-pub may_have_attr-requires : goal.may_have_attr-requires
-may_have_attr-requires c =
-    let args = c.args in
-    type-whole (limits_in args.schema.now) args.t.now c.whole_type.result c.whole_type.ensures c.if-not-whole_type.false-raw
 
 pub returns : goal.returns
 returns c =
@@ -27,3 +23,8 @@ returns c =
     may-have-said (limits_in args.schema.now) c.args.schema.now.sectioned.fair args.attr args.schema.now.bytes.now args.t.now _ by-checked-there _ by-type-there
     (ok c.yes_or_no.result)
     c.may_have_attr.result c.yes_or_no.ensures c.may_have_attr.ensures
+
+pub may_have_attr-requires : goal.may_have_attr-requires
+may_have_attr-requires c =
+    let args = c.args in
+    type-whole (limits_in args.schema.now) args.t.now c.whole_type.result c.whole_type.ensures c.if-not-whole_type.false-raw

@@ -26,8 +26,6 @@ slice_bounds-result-count c =
     (seen c.own_attribute_part_checked.result) c.own_attribute_part_checked.ensures c.in-Ok-Some.part (ap seen c.in-Ok-Some.is ∙ ap ok c.in-Ok-Some.field-0-is) in
     omega (arith, f.order, f.inside)
 
-pub slice_bounds-result-start : goal.slice_bounds-result-start
-slice_bounds-result-start c = slice_bounds-result-count c
 
 pub slice_bounds-result-end-then-part : goal.slice_bounds-result-end-then-part
 slice_bounds-result-end-then-part c =
@@ -50,8 +48,6 @@ slice_bounds-result-count-in-Ok-Some c =
     (seen c.own_attribute_part_checked.result) c.own_attribute_part_checked.ensures c.in-Ok-Some.part (ap seen c.in-Ok-Some.is ∙ ap ok c.in-Ok-Some.field-0-is) in
     omega (arith, f.order, f.inside)
 
-pub slice_bounds-result-start-in-Ok-Some : goal.slice_bounds-result-start-in-Ok-Some
-slice_bounds-result-start-in-Ok-Some c = slice_bounds-result-count-in-Ok-Some c
 
 pub slice_bounds-result-end-in-Ok-Some : goal.slice_bounds-result-end-in-Ok-Some
 slice_bounds-result-end-in-Ok-Some c =
@@ -66,3 +62,9 @@ returns-else-part c =
     here-optional (as_limits args.schema.now.limits) args.schema.now.bytes.now args.attr args.t (λ i. omega (arith, c.type_inv.t i))
     (seen c.own_attribute_part_checked.result) c.own_attribute_part_checked.ensures c.in-Ok-Some.part (ap seen c.in-Ok-Some.is ∙ ap ok c.in-Ok-Some.field-0-is)
     _ refl (omega arith) refl c.if-part.false
+
+pub slice_bounds-result-start : goal.slice_bounds-result-start
+slice_bounds-result-start c = slice_bounds-result-count c
+
+pub slice_bounds-result-start-in-Ok-Some : goal.slice_bounds-result-start-in-Ok-Some
+slice_bounds-result-start-in-Ok-Some c = slice_bounds-result-count-in-Ok-Some c

@@ -17,9 +17,6 @@ returns-then-not-whole_type c =
     c.if-not-whole_type.true-raw in
     part-no-type (limits_in args.schema.now) c.args.schema.now.sectioned.fair args.schema.now.bytes.now args.attr args.t.now _ there by-type-missing
 
-pub own_attribute-requires : goal.own_attribute-requires
-own_attribute-requires c =
-    type-whole (limits_in c.args.schema.now) c.args.t.now c.whole_type.result c.whole_type.ensures c.if-not-whole_type.false-raw
 
 pub returns-in_default : goal.returns-in_default
 returns-in_default c =
@@ -41,7 +38,6 @@ returns c =
     part_at (limits_in args.schema.now) c.args.schema.now.sectioned.fair args.schema.now.bytes.now args.attr args.t.now _ there _ whole _ c.own_attribute.result c.in-Some.part
     placed.is c.in-Some.is c.own_attribute.ensures.spanned
 
-pub overflow_add-result : goal.overflow_add-result
-overflow_add-result c =
-    let placed = placed_at c.own_attribute.result c.own_attribute.ensures.placed c.in-Some.part c.in-Some.is in
-    omega (arith, placed.inside)
+pub own_attribute-requires : goal.own_attribute-requires
+own_attribute-requires c =
+    type-whole (limits_in c.args.schema.now) c.args.t.now c.whole_type.result c.whole_type.ensures c.if-not-whole_type.false-raw

@@ -11,11 +11,6 @@ use Rattle.validator.specs.Laws.Schemas.{limits-bad, limits-fair, checked-missin
 use Rattle.validator.specs.Laws.Conformance.{conforms-no-schema}
 use Rattle.validator.proofs.typecheck_restricted_expr.conforms_checked.Goals as goal
 
-pub returns-then-not-are_allowed : goal.returns-then-not-are_allowed
-returns-then-not-are_allowed c =
-    let args = c.args in
-    let bad = limits-bad (as_limits args.schema.now.limits) c.are_allowed.result c.are_allowed.ensures c.if-not-are_allowed.true-raw in
-    sym (ap answer_of (conforms-refused (as_limits args.schema.now.limits) bad (counts_of args.counts) args.schema.now.bytes.now args.t.now args.v.now))
 
 pub returns-in_default : goal.returns-in_default
 returns-in_default c =
@@ -24,8 +19,3 @@ returns-in_default c =
     conforms-no-schema (counts_of args.counts) (as_limits args.schema.now.limits) fair args.schema.now.bytes.now args.t.now args.v.now
     (checked-missing args.schema.now fair c.in_default.ensures)
 
-pub returns : goal.returns
-returns c =
-    let args = c.args in
-    of-check c.in-Some.ensures
-    (λ (lim : Limits) (s : List ℕ). seen c.conforms_under.result ≡ answer_of (conforms_by (counts_of args.counts) lim s args.t.now args.v.now)) c.conforms_under.ensures
