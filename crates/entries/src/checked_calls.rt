@@ -1,6 +1,5 @@
 // The calls on a schema that was checked before, with the questions of the others.
 ghost use Rattle.std.specs.Prelude.{◌≡◌};
-ghost use Rattle.schemas.specs.SchemaBytes.{checked};
 ghost use Rattle.exports.specs.Checks.{check_number, limits_in};
 
 use crate::print::print_line;
@@ -18,7 +17,7 @@ use trial::{Form, result, workspace};
 
 // The check of a schema under the standard limits, as a caller keeps it.
 fn kept(schema: &[u8]) -> u64
-    ensures { result ≡ check_number (checked (limits_in result) schema.now) }
+    ensures { result ≡ check_number (limits_in result) schema.now }
 {
     tirncheav_check_schema(Limits::LEVELS, Limits::BYTES, schema)
 }

@@ -1,10 +1,14 @@
 // One number for an answer, and one for a part of the caller's form.
 ghost use Rattle.std.specs.Prelude.{◌≡◌, ◌+◌, ◌*◌, ◌<◌, ◌≤◌};
 ghost use Rattle.cedar.specs.Limits.{most_bytes};
+ghost use Rattle.cedar.specs.Result.{ok};
+ghost use Rattle.forms.specs.Refusals.{number_of};
+ghost use Rattle.writing.specs.FormLengths.{seen};
 ghost use Rattle.exports.specs.Steps.{kind_step};
 ghost use Rattle.exports.specs.Numbers.{sizes, answer_number, Brief, part_number, Narrow};
 
 use crate::checks::Packed;
+use forms::refusals::Refusal;
 use validator::answers::Answer;
 use validator::own_attribute_type::OwnPart;
 
@@ -46,13 +50,12 @@ fn sized_number(kind: u64, length: usize, levels: usize) -> u64
     kind + Kind::STEP * (above as u64)
 }
 
-// A kind, with a refusal's number or what is told of a form above it.
-pub fn answer_number(a: Answer) -> u64
-    requires { Brief a }
-    ensures { result ≡ answer_number a }
+// A kind, with what is told of a form above it.
+fn said_number(a: Answer) -> u64
+    requires { Brief (ok a) }
+    ensures { result ≡ answer_number (ok a) }
 {
     match a {
-        Answer::Refused(e) => Kind::REFUSED + Kind::STEP * (e as u64),
         Answer::Yes => Kind::YES,
         Answer::No => Kind::NO,
         Answer::Nothing => Kind::NOTHING,
@@ -68,20 +71,46 @@ pub fn answer_number(a: Answer) -> u64
     }
 }
 
-// A kind, with a refusal's number or a part's start and end above it.
-pub fn part_number(p: OwnPart) -> u64
-    requires { Narrow p }
-    ensures { result ≡ part_number p }
+// A kind, with a part's start and end above it.
+fn found_number(found: Option<OwnPart>) -> u64
+    requires { Narrow (ok found) }
+    ensures { result ≡ part_number (ok found) }
+{
+    let Some(part) = found else {
+        return Kind::NOTHING;
+    };
+    let place = part.start + Packed::STEP * part.end;
+    if part.required {
+        return Kind::REQUIRED_PART + Kind::STEP * (place as u64);
+    }
+    Kind::OPTIONAL_PART + Kind::STEP * (place as u64)
+}
+
+// The kind of a refusal, with its number above it.
+fn refusal_number(refusal: Refusal) -> u64
+    ensures { result ≡ kind_step * number_of refusal }
+{
+    Kind::REFUSED + Kind::STEP * (u8::from(refusal) as u64)
+}
+
+// The number of what an entry answered.
+pub fn answer_number(a: Result<Answer, Refusal>) -> u64
+    requires { Brief (seen a) }
+    ensures { result ≡ answer_number (seen a) }
+{
+    match a {
+        Ok(answer) => said_number(answer),
+        Err(refusal) => refusal_number(refusal),
+    }
+}
+
+// The number of a part of the caller's form.
+pub fn part_number(p: Result<Option<OwnPart>, Refusal>) -> u64
+    requires { Narrow (seen p) }
+    ensures { result ≡ part_number (seen p) }
 {
     match p {
-        OwnPart::Refused(e) => Kind::REFUSED + Kind::STEP * (e as u64),
-        OwnPart::Nothing => Kind::NOTHING,
-        OwnPart::At(start, end, required) => {
-            let place = start + Packed::STEP * end;
-            if required {
-                return Kind::REQUIRED_PART + Kind::STEP * (place as u64);
-            }
-            Kind::OPTIONAL_PART + Kind::STEP * (place as u64)
-        }
+        Ok(found) => found_number(found),
+        Err(refusal) => refusal_number(refusal),
     }
 }

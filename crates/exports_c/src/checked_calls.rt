@@ -3,7 +3,6 @@ ghost use Rattle.std.specs.Prelude.{◌≡◌, length};
 ghost use Rattle.cedar.specs.BodyPlace.{body_in};
 ghost use Rattle.cedar.specs.Calls.{subtype_call, bound_call, fold_call, lookup_call, own_attribute_call, may_have_call, names_call, literal_call, conforms_call, full_call};
 ghost use Rattle.forms.specs.Limits.{as_limits};
-ghost use Rattle.schemas.specs.SchemaBytes.{checked};
 ghost use Rattle.validator.specs.Answers.{answer_of};
 ghost use Rattle.validator.specs.Handed.{part_of};
 ghost use Rattle.exports.specs.Checks.{check_number, limits_in};
@@ -18,7 +17,7 @@ pub extern "C" fn tirncheav_is_subtype_checked(
     t0: &[u8],
     t1: &[u8],
 ) -> u64
-    requires { check ≡ check_number (checked (limits_in check) schema.now) }
+    requires { check ≡ check_number (limits_in check) schema.now }
     ensures { result ≡ answer_number (answer_of (subtype_call (as_limits (limits_in check)) mode schema.now t0.now t1.now)) }
 {
     exports::checked_calls::tirncheav_is_subtype_checked(schema, check, mode, t0, t1)
@@ -34,7 +33,7 @@ pub extern "C" fn tirncheav_least_upper_bound_checked(
     t1: &[u8],
     out: &mut [u8],
 ) -> u64
-    requires { check ≡ check_number (checked (limits_in check) schema.now) }
+    requires { check ≡ check_number (limits_in check) schema.now }
     ensures { Numbered (bound_call (as_limits (limits_in check)) mode schema.now t0.now t1.now (length out.old)) out.old out.new result }
 {
     exports::checked_calls::tirncheav_least_upper_bound_checked(schema, check, mode, t0, t1, out)
@@ -50,7 +49,7 @@ pub extern "C" fn tirncheav_reduce_to_least_upper_bound_checked(
     out: &mut [u8],
     work: &mut [u8],
 ) -> u64
-    requires { check ≡ check_number (checked (limits_in check) schema.now) }
+    requires { check ≡ check_number (limits_in check) schema.now }
     ensures { NumberedIn (fold_call (as_limits (limits_in check)) mode schema.now list.now (length out.old) (length work.old)) out.old out.new work.old work.new result }
 {
     exports::checked_calls::tirncheav_reduce_to_least_upper_bound_checked(
@@ -68,7 +67,7 @@ pub extern "C" fn tirncheav_lookup_attribute_type_checked(
     out: &mut [u8],
     work: &mut [u8],
 ) -> u64
-    requires { check ≡ check_number (checked (limits_in check) schema.now) }
+    requires { check ≡ check_number (limits_in check) schema.now }
     ensures { NumberedIn (lookup_call (as_limits (limits_in check)) schema.now attr t.now (length out.old) (length work.old)) out.old out.new work.old work.new result }
 {
     exports::checked_calls::tirncheav_lookup_attribute_type_checked(
@@ -84,7 +83,7 @@ pub extern "C" fn tirncheav_own_attribute_type_checked(
     attr: u16,
     t: &[u8],
 ) -> u64
-    requires { check ≡ check_number (checked (limits_in check) schema.now) }
+    requires { check ≡ check_number (limits_in check) schema.now }
     ensures { result ≡ part_number (part_of (own_attribute_call (as_limits (limits_in check)) schema.now attr t.now) (body_in (as_limits (limits_in check)) attr t.now)) }
 {
     exports::checked_calls::tirncheav_own_attribute_type_checked(schema, check, attr, t)
@@ -98,7 +97,7 @@ pub extern "C" fn tirncheav_may_have_attr_checked(
     attr: u16,
     t: &[u8],
 ) -> u64
-    requires { check ≡ check_number (checked (limits_in check) schema.now) }
+    requires { check ≡ check_number (limits_in check) schema.now }
     ensures { result ≡ answer_number (answer_of (may_have_call (as_limits (limits_in check)) schema.now attr t.now)) }
 {
     exports::checked_calls::tirncheav_may_have_attr_checked(schema, check, attr, t)
@@ -113,7 +112,7 @@ pub extern "C" fn tirncheav_all_attributes_checked(
     out: &mut [u8],
     work: &mut [u8],
 ) -> u64
-    requires { check ≡ check_number (checked (limits_in check) schema.now) }
+    requires { check ≡ check_number (limits_in check) schema.now }
     ensures { NumberedIn (names_call (as_limits (limits_in check)) schema.now t.now (length out.old) (length work.old)) out.old out.new work.old work.new result }
 {
     exports::checked_calls::tirncheav_all_attributes_checked(schema, check, t, out, work)
@@ -127,7 +126,7 @@ pub extern "C" fn tirncheav_typecheck_restricted_expr_checked(
     t: &[u8],
     v: &[u8],
 ) -> u64
-    requires { check ≡ check_number (checked (limits_in check) schema.now) }
+    requires { check ≡ check_number (limits_in check) schema.now }
     ensures { result ≡ answer_number (answer_of (conforms_call (as_limits (limits_in check)) schema.now t.now v.now)) }
 {
     exports::checked_calls::tirncheav_typecheck_restricted_expr_checked(schema, check, t, v)
@@ -141,7 +140,7 @@ pub extern "C" fn tirncheav_typecheck_restricted_expr_exact_checked(
     t: &[u8],
     v: &[u8],
 ) -> u64
-    requires { check ≡ check_number (checked (limits_in check) schema.now) }
+    requires { check ≡ check_number (limits_in check) schema.now }
     ensures { result ≡ answer_number (answer_of (full_call (as_limits (limits_in check)) schema.now t.now v.now)) }
 {
     exports::checked_calls::tirncheav_typecheck_restricted_expr_exact_checked(schema, check, t, v)
@@ -155,7 +154,7 @@ pub extern "C" fn tirncheav_euid_literal_checked(
     v: &[u8],
     out: &mut [u8],
 ) -> u64
-    requires { check ≡ check_number (checked (limits_in check) schema.now) }
+    requires { check ≡ check_number (limits_in check) schema.now }
     ensures { Numbered (literal_call (as_limits (limits_in check)) schema.now v.now (length out.old)) out.old out.new result }
 {
     exports::checked_calls::tirncheav_euid_literal_checked(schema, check, v, out)

@@ -3,6 +3,9 @@ ghost use Rattle.std.specs.Prelude.{◌≡◌};
 ghost use Rattle.cedar.specs.Types.{is_permissive, is_loose};
 ghost use Rattle.cedar.specs.Calls.{mode_of};
 ghost use Rattle.forms.specs.Modes.{as_mode, mode_in};
+ghost use Rattle.forms.specs.declared.refusals.Refusal.TheVariants as refusals;
+
+use crate::refusals::Refusal;
 
 #[derive(Clone, Copy, Debug, PartialEq, Eq)]
 pub enum Mode {
@@ -14,6 +17,15 @@ pub enum Mode {
 // A number that is no mode's.
 #[derive(Clone, Copy, Debug, PartialEq, Eq)]
 pub struct UnknownMode;
+
+// The refusal of such a number.
+impl From<UnknownMode> for Refusal {
+    ghost from_gives = { λ unknown refusal. refusal ≡ refusals.Mode };
+
+    fn from(_unknown: UnknownMode) -> Refusal {
+        Refusal::Mode
+    }
+}
 
 impl TryFrom<u8> for Mode {
     type Error = UnknownMode;

@@ -1,14 +1,11 @@
 -- The job form in the borrow checker's terms: the test that one is whole, and where its parts lie. Assumes nothing: these are definitions.
-use Rattle.std.specs.Prelude.{ℕ, zero, suc, ◌+◌, ◌*◌, ◌-◌, List, [], ◌∷◌, Bool, ◌&&◌, cond, eqb, leb, length, get_or}
+use Rattle.std.specs.Prelude.{ℕ, zero, suc, ◌+◌, ◌*◌, ◌-◌, List, [], ◌∷◌, Bool, ◌&&◌, eqb, leb, length, get_or}
 use Rattle.cedar.specs.JobForm.{Operation, subtype_op, bound_op, disjoint_op, lookup_op, may_have_op, names_op, consistent_op, convert_op, conforms_op, fold_op, literal_op, full_op}
 use Rattle.cedar.specs.JobForm.{takes_mode, takes_attribute, takes_second, taken_or_zero, Question, Job}
 use Rattle.cedar.specs.Limits.{block_bytes}
 use Rattle.forms.specs.Parts.{part, rd}
 use Rattle.cedar.specs.Limits.{standard}
 use Rattle.forms.specs.declared.limits.Limits.{Limits as LimitsStruct}
-use Rattle.schemas.specs.SchemaBytes.{checked}
-use Rattle.schemas.specs.declared.whole.Checked.{Checked}
-use Rattle.schemas.specs.declared.whole.Checked.TheVariants.{Broken}
 
 -- The number of the last operation.
 abbrev pub last_operation : ℕ
@@ -65,10 +62,6 @@ schema_of b = part (schema_from b) (bodies_from b) b
 -- The limits of a job, as the code's struct.
 abbrev pub job_limits : LimitsStruct
 job_limits = record { levels = standard.levels; bytes = standard.bytes }
-
--- The check of that schema; of a job that is cut short before its bodies, a broken one.
-unfoldable pub job_check : List ℕ → Checked
-job_check b = cond (leb (bodies_from b) (length b)) (checked job_limits (schema_of b)) (Broken job_limits)
 
 -- A whole job, and its tree.
 abbrev pub job_fits : List ℕ → Bool

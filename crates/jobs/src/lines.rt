@@ -1,22 +1,24 @@
 // The line of an answer.
 ghost use Rattle.std.specs.Prelude.{◌≡◌, ◌++◌, ◌≤◌, ◌<◌, length};
 ghost use Rattle.cedar.specs.Lines.{hex, bad_line};
+ghost use Rattle.writing.specs.FormLengths.{seen};
 ghost use Rattle.writing.specs.Written.{Written};
 ghost use Rattle.jobs.specs.LineBytes.{number_in, many_in, required_word, text_in, field, line_in, LineRoom};
 
 use crate::steps::Buffers;
 use crate::text::{put_decimal, put_hex};
 use forms::numbers::wide;
+use forms::refusals::Refusal;
 use validator::answers::Answer;
 use writing::writers::{put_bytes, put_one};
 
 // The refusal's number, or 0.
-fn number(answer: Answer) -> usize
-    ensures { (result ≡ number_in answer) × (result < 256) }
+fn number(answer: Result<Answer, Refusal>) -> usize
+    ensures { (result ≡ number_in (seen answer)) × (result < 256) }
 {
     match answer {
-        Answer::Refused(n) => wide(n),
-        _ => 0,
+        Ok(_) => 0,
+        Err(refusal) => wide(u8::from(refusal)),
     }
 }
 
@@ -48,27 +50,27 @@ fn put_attribute(required: bool, form: &[u8], out: &mut [u8]) -> usize
 }
 
 // Writes an answer whose bytes begin the result buffer. No question of a job measures.
-fn put_answer(answer: Answer, res: &[u8], out: &mut [u8]) -> usize
-    requires answer_in_bounds { many_in answer ≤ length res.now }
-    requires res_in_bounds { length (text_in answer res.now) ≤ length out.old }
-    ensures { Written (text_in answer res.now) out.old out.new result }
+fn put_answer(answer: Result<Answer, Refusal>, res: &[u8], out: &mut [u8]) -> usize
+    requires answer_in_bounds { many_in (seen answer) ≤ length res.now }
+    requires res_in_bounds { length (text_in (seen answer) res.now) ≤ length out.old }
+    ensures { Written (text_in (seen answer) res.now) out.old out.new result }
 {
     match answer {
-        Answer::Refused(_) => put_bytes(b"-", out),
-        Answer::Yes => put_bytes(b"yes", out),
-        Answer::No => put_bytes(b"no", out),
-        Answer::Nothing => put_bytes(b"none", out),
-        Answer::Measured(_, _) => 0,
-        Answer::Typed(n, _) => put_hex(&res[..n], out),
-        Answer::Attribute(required, n, _) => put_attribute(required, &res[..n], out),
-        Answer::Named(n) => put_hex(&res[..n], out),
+        Err(_) => put_bytes(b"-", out),
+        Ok(Answer::Yes) => put_bytes(b"yes", out),
+        Ok(Answer::No) => put_bytes(b"no", out),
+        Ok(Answer::Nothing) => put_bytes(b"none", out),
+        Ok(Answer::Measured(_, _)) => 0,
+        Ok(Answer::Typed(n, _)) => put_hex(&res[..n], out),
+        Ok(Answer::Attribute(required, n, _)) => put_attribute(required, &res[..n], out),
+        Ok(Answer::Named(n)) => put_hex(&res[..n], out),
     }
 }
 
 // Writes the line of an answer: index, refusal or 0, answer.
-pub fn put_line(index: usize, answer: Answer, res: &[u8], out: &mut [u8]) -> usize
-    requires { LineRoom index answer res.now out.old }
-    ensures { Written (line_in index answer res.now) out.old out.new result }
+pub fn put_line(index: usize, answer: Result<Answer, Refusal>, res: &[u8], out: &mut [u8]) -> usize
+    requires { LineRoom index (seen answer) res.now out.old }
+    ensures { Written (line_in index (seen answer) res.now) out.old out.new result }
 {
     let refusal = number(answer);
     let number_at = put_field(index, out);

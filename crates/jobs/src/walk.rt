@@ -1,6 +1,6 @@
 // The lines of a job, one after the other.
 ghost use Rattle.std.specs.Prelude.{◌≡◌, ◌<◌, OnSome};
-ghost use Rattle.jobs.specs.JobBytes.{job_check};
+ghost use Rattle.jobs.specs.Checks.{JobCheck};
 ghost use Rattle.jobs.specs.Walk.{start_of, ahead, LineWritten};
 
 use crate::answers::ask;
@@ -8,16 +8,15 @@ use crate::checks::check_job;
 use crate::lines::put_line;
 use crate::questions::{Cursor, question_at, start};
 use crate::steps::Buffers;
-use crate::whole::{bodies_from, schema_from};
-use schemas::whole::Checked;
+use schemas::checked::Checked;
 
-// A walk over a job's questions: the job, the check of its schema, and where the walk stands.
+// A walk over a job's questions: the job, its schema as it was checked, and where the walk stands.
 #[derive(Clone, Copy)]
 pub struct Walk<'a> {
     pub job: &'a [u8],
-    pub check: Checked,
+    pub schema: Checked<'a>,
     pub cursor: Cursor,
-    ghost own_check: { check ≡ job_check job.now },
+    ghost own_check: { JobCheck job.now schema },
 }
 
 impl<'a> Walk<'a> {
@@ -27,7 +26,7 @@ impl<'a> Walk<'a> {
     {
         Walk {
             job,
-            check: check_job(job),
+            schema: check_job(job),
             cursor: start(job),
         }
     }
@@ -42,11 +41,8 @@ impl<'a> Walk<'a> {
         let Cursor { index, .. } = self.cursor;
         let (question, next) = question_at(job, self.cursor)?;
         self.cursor = next;
-        let start = schema_from(job);
-        let end = bodies_from(job);
-        let schema = &job[start..end];
         let mut result = [0u8; Buffers::RESULT];
-        let answer = ask(question, schema, self.check, &mut result);
+        let answer = ask(question, &self.schema, &mut result);
         Some(put_line(index, answer, &result, out))
     }
 }

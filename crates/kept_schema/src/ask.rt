@@ -1,10 +1,8 @@
 // Each call on a schema that was checked before, and its line.
-ghost use Rattle.std.specs.Prelude.{◌≡◌};
-ghost use Rattle.schemas.specs.SchemaBytes.{limits_of, checked};
 
 use crate::beyond::{deep_type, long_type};
 use crate::print::{print_kept, print_line, print_part};
-use schemas::whole::Checked;
+use schemas::checked::Checked;
 use streams::Stopped;
 use trial::{Form, result, workspace};
 use validator::all_attributes::all_attributes_checked;
@@ -19,32 +17,28 @@ use validator::typecheck_restricted_expr::{
     typecheck_restricted_expr_checked, typecheck_restricted_expr_exact_checked,
 };
 
-// A schema, and what its check came to.
+// A schema as it was checked.
 #[derive(Clone, Copy)]
-pub(crate) struct Kept<'a> {
-    pub(crate) schema: &'a [u8],
-    pub(crate) check: Checked,
-    ghost own_check: { check ≡ checked (limits_of check) schema.now },
-}
+pub(crate) struct Kept<'a>(pub(crate) Checked<'a>);
 
 impl Kept<'_> {
     fn ask_subtype(self, rt: &HostRuntime, mode: u8) -> Result<(), Stopped> {
-        let below = is_subtype_checked(self.schema, self.check, mode, &Form::ENTITY_2, &Form::BOTH);
+        let below = is_subtype_checked(&self.0, mode, &Form::ENTITY_2, &Form::BOTH);
         print_line(rt, "is_subtype", below, &[])
     }
 
     fn ask_may_have(self, rt: &HostRuntime, t: &[u8]) -> Result<(), Stopped> {
-        let may = may_have_attr_checked(self.schema, self.check, 1, t);
+        let may = may_have_attr_checked(&self.0, 1, t);
         print_line(rt, "may_have_attr", may, &[])
     }
 
     fn ask_conforms(self, rt: &HostRuntime, t: &[u8], v: &[u8]) -> Result<(), Stopped> {
-        let conforms = typecheck_restricted_expr_checked(self.schema, self.check, t, v);
+        let conforms = typecheck_restricted_expr_checked(&self.0, t, v);
         print_line(rt, "typecheck_restricted_expr", conforms, &[])
     }
 
     fn ask_full(self, rt: &HostRuntime, t: &[u8], v: &[u8]) -> Result<(), Stopped> {
-        let conforms = typecheck_restricted_expr_exact_checked(self.schema, self.check, t, v);
+        let conforms = typecheck_restricted_expr_exact_checked(&self.0, t, v);
         print_line(rt, "typecheck_restricted_expr_exact", conforms, &[])
     }
 
@@ -58,7 +52,7 @@ impl Kept<'_> {
 
     fn ask_bound(self, rt: &HostRuntime, mode: u8, t0: &[u8], t1: &[u8]) -> Result<(), Stopped> {
         let mut out = result();
-        let answer = least_upper_bound_checked(self.schema, self.check, mode, t0, t1, &mut out);
+        let answer = least_upper_bound_checked(&self.0, mode, t0, t1, &mut out);
         print_line(rt, "least_upper_bound", answer, &[&out])
     }
 
@@ -66,8 +60,7 @@ impl Kept<'_> {
         let mut out = result();
         let mut work = workspace();
         let answer = reduce_to_least_upper_bound_checked(
-            self.schema,
-            self.check,
+            &self.0,
             mode,
             &Form::LIST,
             &mut out,
@@ -79,39 +72,26 @@ impl Kept<'_> {
     fn ask_lookup(self, rt: &HostRuntime) -> Result<(), Stopped> {
         let mut out = result();
         let mut work = workspace();
-        let answer = lookup_attribute_type_checked(
-            self.schema,
-            self.check,
-            1,
-            &Form::BOTH,
-            &mut out,
-            &mut work,
-        );
+        let answer = lookup_attribute_type_checked(&self.0, 1, &Form::BOTH, &mut out, &mut work);
         print_line(rt, "lookup_attribute_type", answer, &[&out, &work])
     }
 
     fn ask_own(self, rt: &HostRuntime) -> Result<(), Stopped> {
         let mut told = 0u8;
-        let part = own_attribute_type_checked(self.schema, self.check, 1, &Form::RECORD, &mut told);
+        let part = own_attribute_type_checked(&self.0, 1, &Form::RECORD, &mut told);
         print_part(rt, "own_attribute_type", told, part)
     }
 
     fn ask_names(self, rt: &HostRuntime) -> Result<(), Stopped> {
         let mut out = result();
         let mut work = workspace();
-        let answer = all_attributes_checked(
-            self.schema,
-            self.check,
-            &Form::BOTH,
-            &mut out,
-            &mut work,
-        );
+        let answer = all_attributes_checked(&self.0, &Form::BOTH, &mut out, &mut work);
         print_line(rt, "all_attributes", answer, &[&out, &work])
     }
 
     fn ask_literal(self, rt: &HostRuntime) -> Result<(), Stopped> {
         let mut out = result();
-        let answer = euid_literal_checked(self.schema, self.check, &Form::UID_3, &mut out);
+        let answer = euid_literal_checked(&self.0, &Form::UID_3, &mut out);
         print_line(rt, "euid_literal", answer, &[&out])
     }
 
@@ -138,7 +118,7 @@ impl Kept<'_> {
 
     // The block and the limits, each call, and two types that the standard limits refuse.
     pub(crate) fn ask_all(self, rt: &HostRuntime) -> Result<(), Stopped> {
-        print_kept(rt, self.schema.len(), self.check.limits())?;
+        print_kept(rt, self.0.bytes.len(), self.0.limits)?;
         self.ask_each(rt)?;
         self.ask_no_mode(rt)?;
         self.ask_may_have(rt, &deep_type())?;

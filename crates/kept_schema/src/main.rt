@@ -14,11 +14,7 @@ use trial::Form;
 // Puts each call to a block that is kept under limits.
 fn ask_kept(rt: &HostRuntime, limits: Limits, block: &[u8]) -> Result<(), Stopped> {
     let kept = ValidatorSchema::new(limits, block);
-    let kept = Kept {
-        schema: kept.block(),
-        check: kept.check(),
-    };
-    kept.ask_all(rt)
+    Kept(kept.check()).ask_all(rt)
 }
 
 // The schema under limits of so many levels and bytes.

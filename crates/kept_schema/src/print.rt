@@ -1,5 +1,6 @@
 // The line of a kept schema, and that of a call.
 use forms::limits::Limits;
+use forms::refusals::Refusal;
 use std::fmt::Write;
 use streams::{Output, Stopped};
 use trial::{Buffers, Shown};
@@ -19,7 +20,7 @@ pub(crate) fn print_kept(rt: &HostRuntime, length: usize, limits: Limits) -> Res
 pub(crate) fn print_line(
     rt: &HostRuntime,
     call: &str,
-    answer: Answer,
+    answer: Result<Answer, Refusal>,
     lent: &[&[u8]],
 ) -> Result<(), Stopped> {
     writeln!(Output(rt), "{call} {}{}", Shown(answer), Buffers(lent))?;

@@ -1,6 +1,7 @@
 // A call put to its entry.
 use crate::calls::{Bodies, Call, LARGEST};
 use crate::print::{print_left, print_part};
+use forms::refusals::Refusal;
 use jobs::Operation;
 use streams::Stopped;
 use validator::all_attributes::all_attributes;
@@ -51,7 +52,7 @@ fn answer(
     given: Bodies<'_>,
     out: &mut [u8],
     work: &mut [u8],
-) -> Answer {
+) -> Result<Answer, Refusal> {
     let Bodies {
         schema,
         first,

@@ -1,4 +1,5 @@
 // The line of a call.
+use forms::refusals::Refusal;
 use std::fmt::Write;
 use streams::{Output, Stopped};
 use trial::{Buffers, Shown};
@@ -6,7 +7,11 @@ use validator::answers::Answer;
 use validator::own_attribute_type::{OwnPart, Told};
 
 // Prints the answer, and between brackets the bytes of each buffer that the entry was lent.
-pub(crate) fn print_left(rt: &HostRuntime, answer: Answer, lent: &[&[u8]]) -> Result<(), Stopped> {
+pub(crate) fn print_left(
+    rt: &HostRuntime,
+    answer: Result<Answer, Refusal>,
+    lent: &[&[u8]],
+) -> Result<(), Stopped> {
     writeln!(Output(rt), "{}{}", Shown(answer), Buffers(lent))?;
     Ok(())
 }
@@ -16,14 +21,14 @@ pub(crate) fn print_left(rt: &HostRuntime, answer: Answer, lent: &[&[u8]]) -> Re
 pub(crate) fn print_part(
     rt: &HostRuntime,
     told: u8,
-    place: OwnPart,
+    place: Result<Option<OwnPart>, Refusal>,
     part: &[u8],
 ) -> Result<(), Stopped> {
     let mut out = Output(rt);
     match (told, place) {
         (Told::NOTHING, _) => write!(out, "0 none")?,
-        (Told::REQUIRED, OwnPart::At(start, end, _)) => write!(out, "0 r:{start}..{end}")?,
-        (Told::OPTIONAL, OwnPart::At(start, end, _)) => write!(out, "0 o:{start}..{end}")?,
+        (Told::REQUIRED, Ok(Some(at))) => write!(out, "0 r:{}..{}", at.start, at.end)?,
+        (Told::OPTIONAL, Ok(Some(at))) => write!(out, "0 o:{}..{}", at.start, at.end)?,
         _ => write!(out, "{told} -")?,
     }
     writeln!(out, "{}", Buffers(&[part]))?;

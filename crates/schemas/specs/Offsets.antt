@@ -1,9 +1,12 @@
--- What is kept of a check. Assumes nothing: this is a definition.
+-- What is kept of a check. Assumes nothing: these are definitions.
+use Rattle.std.specs.Prelude.{Option as Maybe, option_map}
 use Rattle.schemas.specs.declared.offsets.Offsets.{Offsets}
-use Rattle.schemas.specs.declared.whole.Checked.{Checked}
-use Rattle.schemas.specs.declared.whole.Checked.TheVariants.{Whole, Broken}
+use Rattle.schemas.specs.declared.sections.Sections.{Sections}
 
--- Its limits, and where the bodies of each section start; all 0 for a schema that is broken.
-abbrev pub offsets_of : Checked → Offsets
-offsets_of (Whole x) = record { limits = x.limits; entities = x.entities.bodies; actions = x.actions.bodies; functions = x.functions.bodies }
-offsets_of (Broken l) = record { limits = l; entities = 0; actions = 0; functions = 0 }
+-- Where the bodies of each section start.
+abbrev pub starts_of : Sections → Offsets
+starts_of x = record { entities = x.entities.bodies; actions = x.actions.bodies; functions = x.functions.bodies }
+
+-- The same of a check: none where it found no whole schema.
+abbrev pub offsets_of : Maybe Sections → Maybe Offsets
+offsets_of x = option_map starts_of x

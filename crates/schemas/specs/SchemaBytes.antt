@@ -15,8 +15,6 @@ use Rattle.schemas.specs.declared.kinds.SectionKind.TheVariants.{Entities, Actio
 use Rattle.schemas.specs.declared.order.Low.{Low}
 use Rattle.schemas.specs.declared.sections.Section.{Section}
 use Rattle.schemas.specs.declared.sections.Sections.{Sections}
-use Rattle.schemas.specs.declared.whole.Checked.{Checked}
-use Rattle.schemas.specs.declared.whole.Checked.TheVariants as checks
 
 -- An entity entry: even name, kind, length. Names ascend strictly.
 abbrev pub entity_row : Row ℕ (ℕ × Bool)
@@ -199,20 +197,10 @@ pub record Inside (w : ℕ) (x : Section) (b : List ℕ) : Type 0 where
 unfoldable pub passed_by : Limits → SectionKind → Section → List ℕ → Maybe ℕ
 passed_by lim k x b = cond (section_fits lim k x b) (Some (section_end (row_of k).width x b)) None
 
--- The limits that a schema was checked under.
-abbrev pub limits_of : Checked → LimitsStruct
-limits_of (checks.Whole x) = x.limits
-limits_of (checks.Broken l) = l
-
--- A check that found the sections of a whole schema, or none.
-abbrev pub checked_as : LimitsStruct → Maybe Sections → Checked
-checked_as l (Some x) = checks.Whole x
-checked_as l None = checks.Broken l
-
 -- What the check of a schema finds within limits that are allowed.
-unfoldable pub checked_within : LimitsStruct → List ℕ → Checked
-checked_within l b = cond (leb (length b) block_bytes && whole_s (as_limits l) b) (checks.Whole (sections_of l b)) (checks.Broken l)
+unfoldable pub checked_within : LimitsStruct → List ℕ → Maybe Sections
+checked_within l b = cond (leb (length b) block_bytes && whole_s (as_limits l) b) (Some (sections_of l b)) None
 
--- The answer of `check_schema`.
-unfoldable pub checked : LimitsStruct → List ℕ → Checked
-checked l b = cond (allowed (as_limits l)) (checked_within l b) (checks.Broken l)
+-- What the check of a schema finds: its sections, if it is whole within limits that are allowed.
+unfoldable pub checked : LimitsStruct → List ℕ → Maybe Sections
+checked l b = cond (allowed (as_limits l)) (checked_within l b) None

@@ -3,6 +3,7 @@
 
 pub mod arguments;
 pub mod bodies;
+pub mod checked;
 pub mod entries;
 pub mod kinds;
 pub mod offsets;

@@ -1,32 +1,16 @@
 // Whether bytes are a whole schema.
-ghost use Rattle.std.specs.Prelude.{◌≡◌};
-ghost use Rattle.schemas.specs.SchemaBytes.{head_fits, limits_of, checked_as, checked_within, checked};
+ghost use Rattle.std.specs.Prelude.{◌≡◌, None, MatchOption};
+ghost use Rattle.schemas.specs.SchemaBytes.{head_fits, checked_within, checked};
+ghost use Rattle.schemas.specs.Schema.{OfCheck};
 
+use crate::checked::Checked;
 use crate::kinds::SectionKind;
+use crate::schema::Schema;
 use crate::sections::{Counts, Sections, entries_end, section_at, section_within};
 use forms::limits::Limits;
 use forms::numbers::u16_at;
 use forms::offsets::SchemaOffset;
 use forms::widths::Width;
-
-// What a check found, with the limits that it was asked under: a whole schema's sections, or that it is not whole.
-#[derive(Clone, Copy)]
-pub enum Checked {
-    Whole(Sections),
-    Broken(Limits),
-}
-
-impl Checked {
-    // The limits that a schema was checked under.
-    pub fn limits(self) -> Limits
-        ensures { result ≡ limits_of self }
-    {
-        match self {
-            Checked::Whole(at) => at.limits,
-            Checked::Broken(limits) => limits,
-        }
-    }
-}
 
 // Whether the counts are within their limits and the entries within the bytes.
 fn counts_within(s: &[u8]) -> bool
@@ -41,7 +25,7 @@ fn counts_within(s: &[u8]) -> bool
 
 // The sections of a schema that is whole within the limits.
 fn sections_within(s: &[u8], limits: Limits) -> Option<Sections>
-    ensures { checked_as limits result ≡ checked_within limits s.now }
+    ensures { result ≡ checked_within limits s.now }
 {
     if Limits::BLOCK_BYTES < s.len() {
         return None;
@@ -66,15 +50,25 @@ fn sections_within(s: &[u8], limits: Limits) -> Option<Sections>
     })
 }
 
-// Checks a schema under limits. Limits out of their ranges find no schema whole: every call on the check is refused by their number.
-pub fn check_schema(limits: Limits, s: &[u8]) -> Checked
+// The sections of a schema that is whole within limits that are allowed.
+pub fn check_schema(limits: Limits, s: &[u8]) -> Option<Sections>
     ensures { result ≡ checked limits s.now }
 {
     if !limits.are_allowed() {
-        return Checked::Broken(limits);
+        return None;
     }
-    match sections_within(s, limits) {
-        Some(at) => Checked::Whole(at),
-        None => Checked::Broken(limits),
+    sections_within(s, limits)
+}
+
+impl<'a> Checked<'a> {
+    // The schema, if it is whole.
+    pub fn whole(&self) -> Option<Schema<'a>>
+        ensures { MatchOption result (self.now.sections ≡ None) (OfCheck self.now) }
+    {
+        let sections = self.sections?;
+        Some(Schema {
+            bytes: self.bytes,
+            sections,
+        })
     }
 }

@@ -1,24 +1,25 @@
 // How answers and buffers are shown.
+use forms::refusals::Refusal;
 use std::fmt;
 use validator::answers::Answer;
 
 // An answer: refusal or 0; yes, no, none, or the answer's length, or -. A type's length stands with its levels, as in 10/2; behind r: or
 // o: for an attribute, behind m: where a form is measured.
 #[derive(Clone, Copy)]
-pub struct Shown(pub Answer);
+pub struct Shown(pub Result<Answer, Refusal>);
 
 impl fmt::Display for Shown {
     fn fmt<W: fmt::Write>(&self, f: &mut fmt::Formatter<W>) -> fmt::Result {
         match self.0 {
-            Answer::Refused(n) => write!(f, "{n} -"),
-            Answer::Yes => write!(f, "0 yes"),
-            Answer::No => write!(f, "0 no"),
-            Answer::Nothing => write!(f, "0 none"),
-            Answer::Measured(n, levels) => write!(f, "0 m:{n}/{levels}"),
-            Answer::Typed(n, levels) => write!(f, "0 {n}/{levels}"),
-            Answer::Attribute(true, n, levels) => write!(f, "0 r:{n}/{levels}"),
-            Answer::Attribute(false, n, levels) => write!(f, "0 o:{n}/{levels}"),
-            Answer::Named(n) => write!(f, "0 {n}"),
+            Err(refusal) => write!(f, "{} -", u8::from(refusal)),
+            Ok(Answer::Yes) => write!(f, "0 yes"),
+            Ok(Answer::No) => write!(f, "0 no"),
+            Ok(Answer::Nothing) => write!(f, "0 none"),
+            Ok(Answer::Measured(n, levels)) => write!(f, "0 m:{n}/{levels}"),
+            Ok(Answer::Typed(n, levels)) => write!(f, "0 {n}/{levels}"),
+            Ok(Answer::Attribute(true, n, levels)) => write!(f, "0 r:{n}/{levels}"),
+            Ok(Answer::Attribute(false, n, levels)) => write!(f, "0 o:{n}/{levels}"),
+            Ok(Answer::Named(n)) => write!(f, "0 {n}"),
         }
     }
 }

@@ -1,28 +1,28 @@
 -- What the entry that hands back a part says. Assumes nothing: these are definitions.
-use Rattle.std.specs.Prelude.{ℕ, ◌+◌, List, true, false, ◌≡◌}
+use Rattle.std.specs.Prelude.{ℕ, ◌+◌, List, true, false, ◌≡◌, Option as Maybe, Some, None}
 use Rattle.std.proofs.Math.Option.{Option}
 use Rattle.std.specs.Borrow.{Bor}
 use Rattle.cedar.specs.Types.{maybe}
+use Rattle.cedar.specs.Result.{Result, ok, err}
 use Rattle.cedar.specs.Outcome.{Outcome, refused, said, nothing, measured, typed, attribute, named, bytes_of}
 use Rattle.forms.specs.Parts.{part}
 use Rattle.validator.specs.declared.own_attribute_type.OwnPart.{OwnPart}
-use Rattle.validator.specs.declared.own_attribute_type.OwnPart.TheVariants.{Refused, Nothing, At}
 
 -- Where the part stands, by what the call comes to and the place of the attribute's body: a refusal, none, or start, end and flag.
-abbrev pub part_of : Outcome → Option (ℕ × ℕ) → OwnPart
-part_of (refused n) place = Refused n
-part_of (said b) place = Nothing
-part_of nothing place = Nothing
-part_of (measured n l) place = Nothing
-part_of (typed t) place = Nothing
-part_of (attribute q t) place = maybe Nothing (λ p. At p.0 p.1 q) place
-part_of (named ns) place = Nothing
+abbrev pub part_of : Outcome → Option (ℕ × ℕ) → Result (Maybe OwnPart)
+part_of (refused n) place = err n
+part_of (said b) place = ok None
+part_of nothing place = ok None
+part_of (measured n l) place = ok None
+part_of (typed t) place = ok None
+part_of (attribute q t) place = ok (maybe None (λ p. Some (record { start = p.0; end = p.1; required = q })) place)
+part_of (named ns) place = ok None
 
 -- Its start and end; for none or a refusal, the empty part before the form's first byte.
-abbrev pub span_of : OwnPart → ℕ × ℕ
-span_of (Refused n) = (0, 0)
-span_of Nothing = (0, 0)
-span_of (At s e q) = (s, e)
+abbrev pub span_of : Result (Maybe OwnPart) → ℕ × ℕ
+span_of (err n) = (0, 0)
+span_of (ok None) = (0, 0)
+span_of (ok (Some x)) = (x.start, x.end)
 
 -- The byte beside the part: a refusal's number; 0 for none; the letters of a line, r (114) for required and o (111) for optional.
 abbrev pub told_of : Outcome → ℕ

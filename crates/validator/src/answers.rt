@@ -1,12 +1,12 @@
 ghost use Rattle.std.specs.Prelude.{◌≡◌};
 ghost use Rattle.cedar.specs.Outcome.{said};
+ghost use Rattle.cedar.specs.Result.{ok};
 ghost use Rattle.validator.specs.Answers.{answer_of};
 
-// What an entry answers: a refusal's number; yes or no; none; how many bytes and levels a form has that it measured; the same of a type
+// What an entry answers that does not refuse: yes or no; none; how many bytes and levels a form has that it measured; the same of a type
 // that it wrote; of an attribute's type, behind whether it is required; how many bytes a name list has that it wrote.
 #[derive(Clone, Copy)]
 pub enum Answer {
-    Refused(u8),
     Yes,
     No,
     Nothing,
@@ -18,7 +18,7 @@ pub enum Answer {
 
 // A test's answer.
 pub fn yes_or_no(yes: bool) -> Answer
-    ensures { result ≡ answer_of (said yes) }
+    ensures { ok result ≡ answer_of (said yes) }
 {
     if yes {
         return Answer::Yes;

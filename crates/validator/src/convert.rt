@@ -3,6 +3,7 @@ ghost use Rattle.std.specs.Prelude.{◌≡◌, true, length};
 ghost use Rattle.cedar.specs.Limits.{allowed};
 ghost use Rattle.cedar.specs.Calls.{convert_call};
 ghost use Rattle.forms.specs.Limits.{as_limits};
+ghost use Rattle.writing.specs.FormLengths.{seen};
 ghost use Rattle.validator.specs.Answers.{Answered};
 
 use crate::answers::Answer;
@@ -14,32 +15,28 @@ use forms::types::whole_type;
 use levels::depths::type_levels;
 
 // The answer under limits that are allowed.
-fn convert_under(limits: Limits, t: &[u8], out: &mut [u8]) -> Answer
+fn convert_under(limits: Limits, t: &[u8], out: &mut [u8]) -> Result<Answer, Refusal>
     requires { allowed (as_limits limits) ≡ true }
-    ensures { Answered (convert_call (as_limits limits) t.now (length out.old)) out.old out.new result }
+    ensures { Answered (convert_call (as_limits limits) t.now (length out.old)) out.old out.new (seen result) }
 {
     if !whole_type(t, limits) {
-        return Answer::Refused(Refusal::FIRST);
+        return Err(Refusal::First);
     }
-    match core_length(t, limits.levels) {
-        Ok(n) => {
-            if !answer_fits(limits, n, out.len()) {
-                return Answer::Refused(Refusal::RESULT);
-            }
-            write_core(t, limits.levels, out);
-            let form = &out[0..n];
-            Answer::Typed(n, type_levels(form, limits.levels))
-        }
-        Err(refusal) => Answer::Refused(u8::from(refusal)),
+    let n = core_length(t, limits.levels)?;
+    if !answer_fits(limits, n, out.len()) {
+        return Err(Refusal::Answer);
     }
+    write_core(t, limits.levels, out);
+    let form = &out[0..n];
+    Ok(Answer::Typed(n, type_levels(form, limits.levels)))
 }
 
 // The core type of a type.
-pub fn convert(limits: Limits, t: &[u8], out: &mut [u8]) -> Answer
-    ensures { Answered (convert_call (as_limits limits) t.now (length out.old)) out.old out.new result }
+pub fn convert(limits: Limits, t: &[u8], out: &mut [u8]) -> Result<Answer, Refusal>
+    ensures { Answered (convert_call (as_limits limits) t.now (length out.old)) out.old out.new (seen result) }
 {
     if !limits.are_allowed() {
-        return Answer::Refused(Refusal::LIMITS);
+        return Err(Refusal::Limits);
     }
     convert_under(limits, t, out)
 }

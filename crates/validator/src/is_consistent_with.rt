@@ -3,6 +3,7 @@ ghost use Rattle.std.specs.Prelude.{◌≡◌, true};
 ghost use Rattle.cedar.specs.Limits.{allowed};
 ghost use Rattle.cedar.specs.Calls.{consistent_call};
 ghost use Rattle.forms.specs.Limits.{as_limits};
+ghost use Rattle.writing.specs.FormLengths.{seen};
 ghost use Rattle.validator.specs.Answers.{answer_of};
 
 use crate::answers::{Answer, yes_or_no};
@@ -12,27 +13,27 @@ use forms::types::whole_type;
 use relations::is_plain::is_plain;
 
 // The answer under limits that are allowed.
-fn consistent_under(limits: Limits, t0: &[u8], t1: &[u8]) -> Answer
+fn consistent_under(limits: Limits, t0: &[u8], t1: &[u8]) -> Result<Answer, Refusal>
     requires { allowed (as_limits limits) ≡ true }
-    ensures { result ≡ answer_of (consistent_call (as_limits limits) t0.now t1.now) }
+    ensures { seen result ≡ answer_of (consistent_call (as_limits limits) t0.now t1.now) }
 {
     if !whole_type(t0, limits) {
-        return Answer::Refused(Refusal::FIRST);
+        return Err(Refusal::First);
     }
     if !whole_type(t1, limits) {
-        return Answer::Refused(Refusal::SECOND);
+        return Err(Refusal::Second);
     }
     if !is_plain(t1, limits.levels) {
-        return Answer::Refused(Refusal::PLAIN);
+        return Err(Refusal::NotPlain);
     }
-    yes_or_no(relations::is_consistent_with::is_consistent_with(t0, t1, limits.levels))
+    Ok(yes_or_no(relations::is_consistent_with::is_consistent_with(t0, t1, limits.levels)))
 }
 
-pub fn is_consistent_with(limits: Limits, t0: &[u8], t1: &[u8]) -> Answer
-    ensures { result ≡ answer_of (consistent_call (as_limits limits) t0.now t1.now) }
+pub fn is_consistent_with(limits: Limits, t0: &[u8], t1: &[u8]) -> Result<Answer, Refusal>
+    ensures { seen result ≡ answer_of (consistent_call (as_limits limits) t0.now t1.now) }
 {
     if !limits.are_allowed() {
-        return Answer::Refused(Refusal::LIMITS);
+        return Err(Refusal::Limits);
     }
     consistent_under(limits, t0, t1)
 }

@@ -1,9 +1,8 @@
 // Whether a type is a subtype of another.
-ghost use Rattle.std.specs.Prelude.{◌≡◌, true};
-ghost use Rattle.cedar.specs.Limits.{allowed};
+ghost use Rattle.std.specs.Prelude.{◌≡◌};
 ghost use Rattle.cedar.specs.Calls.{subtype_call};
 ghost use Rattle.forms.specs.Limits.{as_limits};
-ghost use Rattle.schemas.specs.SchemaBytes.{limits_of, checked};
+ghost use Rattle.writing.specs.FormLengths.{seen};
 ghost use Rattle.validator.specs.Answers.{answer_of};
 
 use crate::answers::{Answer, yes_or_no};
@@ -11,50 +10,42 @@ use forms::limits::Limits;
 use forms::modes::Mode;
 use forms::refusals::Refusal;
 use forms::types::whole_type;
-use schemas::whole::{Checked, check_schema};
+use schemas::checked::Checked;
 
-// The answer under limits that are allowed.
-fn is_subtype_under(
-    limits: Limits,
-    schema: &[u8],
-    check: Checked,
+// The answer under a schema that was checked before, and the limits of its check.
+pub fn is_subtype_checked(
+    schema: &Checked<'_>,
     mode: u8,
     t0: &[u8],
     t1: &[u8],
-) -> Answer
-    requires fair { allowed (as_limits limits) ≡ true }
-    requires own_check { check ≡ checked limits schema.now }
-    ensures { result ≡ answer_of (subtype_call (as_limits limits) mode schema.now t0.now t1.now) }
+) -> Result<Answer, Refusal>
+    ensures { seen result ≡ answer_of (subtype_call (as_limits schema.now.limits) mode schema.now.bytes.now t0.now t1.now) }
 {
-    let Ok(m) = Mode::try_from(mode) else {
-        return Answer::Refused(Refusal::MODE);
-    };
-    let Checked::Whole(_) = check else {
-        return Answer::Refused(Refusal::SCHEMA);
+    let limits = schema.limits;
+    if !limits.are_allowed() {
+        return Err(Refusal::Limits);
+    }
+    let m = Mode::try_from(mode)?;
+    let Some(_) = schema.sections else {
+        return Err(Refusal::Schema);
     };
     if !whole_type(t0, limits) {
-        return Answer::Refused(Refusal::FIRST);
+        return Err(Refusal::First);
     }
     if !whole_type(t1, limits) {
-        return Answer::Refused(Refusal::SECOND);
+        return Err(Refusal::Second);
     }
-    yes_or_no(relations::is_subtype::is_subtype(m, t0, t1, limits.levels))
+    Ok(yes_or_no(relations::is_subtype::is_subtype(m, t0, t1, limits.levels)))
 }
 
-// The answer under a schema that was checked before, and the limits of its check.
-pub fn is_subtype_checked(schema: &[u8], check: Checked, mode: u8, t0: &[u8], t1: &[u8]) -> Answer
-    requires { check ≡ checked (limits_of check) schema.now }
-    ensures { result ≡ answer_of (subtype_call (as_limits (limits_of check)) mode schema.now t0.now t1.now) }
+pub fn is_subtype(
+    limits: Limits,
+    mode: u8,
+    schema: &[u8],
+    t0: &[u8],
+    t1: &[u8],
+) -> Result<Answer, Refusal>
+    ensures { seen result ≡ answer_of (subtype_call (as_limits limits) mode schema.now t0.now t1.now) }
 {
-    let limits = check.limits();
-    if !limits.are_allowed() {
-        return Answer::Refused(Refusal::LIMITS);
-    }
-    is_subtype_under(limits, schema, check, mode, t0, t1)
-}
-
-pub fn is_subtype(limits: Limits, mode: u8, schema: &[u8], t0: &[u8], t1: &[u8]) -> Answer
-    ensures { result ≡ answer_of (subtype_call (as_limits limits) mode schema.now t0.now t1.now) }
-{
-    is_subtype_checked(schema, check_schema(limits, schema), mode, t0, t1)
+    is_subtype_checked(&Checked::new(limits, schema), mode, t0, t1)
 }

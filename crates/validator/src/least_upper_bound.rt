@@ -1,9 +1,8 @@
 // The least upper bound of two types.
-ghost use Rattle.std.specs.Prelude.{◌≡◌, true, length};
-ghost use Rattle.cedar.specs.Limits.{allowed};
+ghost use Rattle.std.specs.Prelude.{◌≡◌, length};
 ghost use Rattle.cedar.specs.Calls.{bound_call};
 ghost use Rattle.forms.specs.Limits.{as_limits};
-ghost use Rattle.schemas.specs.SchemaBytes.{limits_of, checked};
+ghost use Rattle.writing.specs.FormLengths.{seen};
 ghost use Rattle.validator.specs.Answers.{Answered};
 
 use crate::answers::Answer;
@@ -15,64 +14,39 @@ use forms::modes::Mode;
 use forms::refusals::Refusal;
 use forms::types::whole_type;
 use levels::depths::type_levels;
-use schemas::whole::{Checked, check_schema};
-
-// The answer under limits that are allowed.
-fn least_upper_bound_under(
-    limits: Limits,
-    schema: &[u8],
-    check: Checked,
-    mode: u8,
-    t0: &[u8],
-    t1: &[u8],
-    out: &mut [u8],
-) -> Answer
-    requires fair { allowed (as_limits limits) ≡ true }
-    requires own_check { check ≡ checked limits schema.now }
-    ensures { Answered (bound_call (as_limits limits) mode schema.now t0.now t1.now (length out.old)) out.old out.new result }
-{
-    let Ok(m) = Mode::try_from(mode) else {
-        return Answer::Refused(Refusal::MODE);
-    };
-    let Checked::Whole(_) = check else {
-        return Answer::Refused(Refusal::SCHEMA);
-    };
-    if !whole_type(t0, limits) {
-        return Answer::Refused(Refusal::FIRST);
-    }
-    if !whole_type(t1, limits) {
-        return Answer::Refused(Refusal::SECOND);
-    }
-    match bound_length(m, t0, t1, limits.levels) {
-        Ok(n) => {
-            if !answer_fits(limits, n, out.len()) {
-                return Answer::Refused(Refusal::RESULT);
-            }
-            write_bound(m, t0, t1, limits.levels, Some(n), out);
-            let form = &out[0..n];
-            Answer::Typed(n, type_levels(form, limits.levels))
-        }
-        Err(refusal) => Answer::Refused(u8::from(refusal)),
-    }
-}
+use schemas::checked::Checked;
 
 // The answer under a schema that was checked before, and the limits of its check.
 pub fn least_upper_bound_checked(
-    schema: &[u8],
-    check: Checked,
+    schema: &Checked<'_>,
     mode: u8,
     t0: &[u8],
     t1: &[u8],
     out: &mut [u8],
-) -> Answer
-    requires { check ≡ checked (limits_of check) schema.now }
-    ensures { Answered (bound_call (as_limits (limits_of check)) mode schema.now t0.now t1.now (length out.old)) out.old out.new result }
+) -> Result<Answer, Refusal>
+    ensures { Answered (bound_call (as_limits schema.now.limits) mode schema.now.bytes.now t0.now t1.now (length out.old)) out.old out.new (seen result) }
 {
-    let limits = check.limits();
+    let limits = schema.limits;
     if !limits.are_allowed() {
-        return Answer::Refused(Refusal::LIMITS);
+        return Err(Refusal::Limits);
     }
-    least_upper_bound_under(limits, schema, check, mode, t0, t1, out)
+    let m = Mode::try_from(mode)?;
+    let Some(_) = schema.sections else {
+        return Err(Refusal::Schema);
+    };
+    if !whole_type(t0, limits) {
+        return Err(Refusal::First);
+    }
+    if !whole_type(t1, limits) {
+        return Err(Refusal::Second);
+    }
+    let n = bound_length(m, t0, t1, limits.levels)?;
+    if !answer_fits(limits, n, out.len()) {
+        return Err(Refusal::Answer);
+    }
+    write_bound(m, t0, t1, limits.levels, Some(n), out);
+    let form = &out[0..n];
+    Ok(Answer::Typed(n, type_levels(form, limits.levels)))
 }
 
 pub fn least_upper_bound(
@@ -82,8 +56,8 @@ pub fn least_upper_bound(
     t0: &[u8],
     t1: &[u8],
     out: &mut [u8],
-) -> Answer
-    ensures { Answered (bound_call (as_limits limits) mode schema.now t0.now t1.now (length out.old)) out.old out.new result }
+) -> Result<Answer, Refusal>
+    ensures { Answered (bound_call (as_limits limits) mode schema.now t0.now t1.now (length out.old)) out.old out.new (seen result) }
 {
-    least_upper_bound_checked(schema, check_schema(limits, schema), mode, t0, t1, out)
+    least_upper_bound_checked(&Checked::new(limits, schema), mode, t0, t1, out)
 }

@@ -2,8 +2,8 @@
 ghost use Rattle.std.specs.Prelude.{◌≡◌, ◌≤◌, length};
 ghost use Rattle.cedar.specs.Calls.{lookup_call};
 ghost use Rattle.forms.specs.Limits.{as_limits};
-ghost use Rattle.schemas.specs.SchemaBytes.{limits_of, checked};
-ghost use Rattle.schemas.specs.Entries.{Sectioned};
+ghost use Rattle.schemas.specs.Schema.{limits_in};
+ghost use Rattle.writing.specs.FormLengths.{seen};
 ghost use Rattle.validator.specs.Answers.{Answered, AnsweredIn};
 
 use crate::answers::Answer;
@@ -14,90 +14,79 @@ use forms::refusals::Refusal;
 use forms::types::whole_type;
 use levels::depths::type_levels;
 use lookups::lookup_attribute_type::look_up;
+use schemas::checked::Checked;
 use schemas::schema::Schema;
-use schemas::sections::Sections;
-use schemas::whole::{Checked, check_schema};
 use writing::writers::copy;
 
 // The answer for a whole schema, with the workspace as the steps left it; `last` has room for any form.
 fn looked_up(
-    schema: &[u8],
-    at: Sections,
+    schema: &Schema<'_>,
     attr: u16,
     t: &[u8],
     last: &mut [u8],
     out: &mut [u8],
     work: &mut [u8],
-) -> Answer
-    requires sectioned { Sectioned schema.now «at» }
-    requires last_room { «at».limits.bytes ≤ length last.old }
-    ensures { Answered (lookup_call (as_limits «at».limits) schema.now attr t.now (length out.old) (length work.old)) out.old out.new result }
+) -> Result<Answer, Refusal>
+    requires last_room { schema.now.sections.limits.bytes ≤ length last.old }
+    ensures { Answered (lookup_call (limits_in schema.now) schema.now.bytes.now attr t.now (length out.old) (length work.old)) out.old out.new (seen result) }
 {
-    let limits = at.limits;
+    let limits = schema.sections.limits;
     if !whole_type(t, limits) {
-        return Answer::Refused(Refusal::FIRST);
+        return Err(Refusal::First);
     }
-    let checked = Schema {
-        bytes: schema,
-        sections: at,
-    };
-    let Ok(looked) = look_up(&checked, t, attr as usize, last, work) else {
-        return Answer::Refused(Refusal::WORKSPACE);
+    let Ok(looked) = look_up(schema, t, attr as usize, last, work) else {
+        return Err(Refusal::Workspace);
     };
     let Some(found) = looked else {
-        return Answer::Nothing;
+        return Ok(Answer::Nothing);
     };
     if !answer_fits(limits, found.bytes, out.len()) {
-        return Answer::Refused(Refusal::RESULT);
+        return Err(Refusal::Answer);
     }
     let form = &last[0..found.bytes];
     copy(form, out);
-    Answer::Attribute(
+    Ok(Answer::Attribute(
         found.required,
         found.bytes,
         type_levels(form, limits.levels - 1),
-    )
+    ))
 }
 
 // The answer by the limits of a check. No more bytes are cleared for a form than the smaller of two sizes has that fits.
 fn looked_up_under(
-    schema: &[u8],
-    check: Checked,
+    schema: &Checked<'_>,
     attr: u16,
     t: &[u8],
     out: &mut [u8],
     work: &mut [u8],
-) -> Answer
-    requires { check ≡ checked (limits_of check) schema.now }
-    ensures { Answered (lookup_call (as_limits (limits_of check)) schema.now attr t.now (length out.old) (length work.old)) out.old out.new result }
+) -> Result<Answer, Refusal>
+    ensures { Answered (lookup_call (as_limits schema.now.limits) schema.now.bytes.now attr t.now (length out.old) (length work.old)) out.old out.new (seen result) }
 {
-    if !check.limits().are_allowed() {
-        return Answer::Refused(Refusal::LIMITS);
+    if !schema.limits.are_allowed() {
+        return Err(Refusal::Limits);
     }
-    let Checked::Whole(at) = check else {
-        return Answer::Refused(Refusal::SCHEMA);
+    let Some(whole) = schema.whole() else {
+        return Err(Refusal::Schema);
     };
-    if at.limits.bytes <= Limits::BYTES {
+    if whole.sections.limits.bytes <= Limits::BYTES {
         let mut last = [0u8; Limits::BYTES];
-        return looked_up(schema, at, attr, t, &mut last, out, work);
+        return looked_up(&whole, attr, t, &mut last, out, work);
     }
     let mut last = [0u8; Limits::MOST_BYTES];
-    looked_up(schema, at, attr, t, &mut last, out, work)
+    looked_up(&whole, attr, t, &mut last, out, work)
 }
 
 // The answer under a schema that was checked before, and the limits of its check.
 pub fn lookup_attribute_type_checked(
-    schema: &[u8],
-    check: Checked,
+    schema: &Checked<'_>,
     attr: u16,
     t: &[u8],
     out: &mut [u8],
     work: &mut [u8],
-) -> Answer
-    requires { check ≡ checked (limits_of check) schema.now }
-    ensures { AnsweredIn (lookup_call (as_limits (limits_of check)) schema.now attr t.now (length out.old) (length work.old)) out.old out.new work.old work.new result }
+) -> Result<Answer, Refusal>
+    ensures { AnsweredIn (lookup_call (as_limits schema.now.limits) schema.now.bytes.now attr t.now (length out.old) (length work.old)) out.old out.new work.old work.new (seen result) }
 {
-    let answer = looked_up_under(schema, check, attr, t, out, work);
+    let answer = looked_up_under(schema, attr, t, out, work);
     clear(work);
     answer
 }
@@ -109,8 +98,8 @@ pub fn lookup_attribute_type(
     t: &[u8],
     out: &mut [u8],
     work: &mut [u8],
-) -> Answer
-    ensures { AnsweredIn (lookup_call (as_limits limits) schema.now attr t.now (length out.old) (length work.old)) out.old out.new work.old work.new result }
+) -> Result<Answer, Refusal>
+    ensures { AnsweredIn (lookup_call (as_limits limits) schema.now attr t.now (length out.old) (length work.old)) out.old out.new work.old work.new (seen result) }
 {
-    lookup_attribute_type_checked(schema, check_schema(limits, schema), attr, t, out, work)
+    lookup_attribute_type_checked(&Checked::new(limits, schema), attr, t, out, work)
 }

@@ -2,6 +2,7 @@
 ghost use Rattle.std.specs.Prelude.{◌≡◌};
 ghost use Rattle.cedar.specs.Calls.{measure_type_call};
 ghost use Rattle.forms.specs.Limits.{as_limits};
+ghost use Rattle.writing.specs.FormLengths.{seen};
 ghost use Rattle.validator.specs.Answers.{answer_of};
 
 use crate::answers::Answer;
@@ -10,14 +11,14 @@ use forms::refusals::Refusal;
 use forms::types::whole_type;
 use levels::depths::type_levels;
 
-pub fn measure_type(limits: Limits, t: &[u8]) -> Answer
-    ensures { result ≡ answer_of (measure_type_call (as_limits limits) t.now) }
+pub fn measure_type(limits: Limits, t: &[u8]) -> Result<Answer, Refusal>
+    ensures { seen result ≡ answer_of (measure_type_call (as_limits limits) t.now) }
 {
     if !limits.are_allowed() {
-        return Answer::Refused(Refusal::LIMITS);
+        return Err(Refusal::Limits);
     }
     if !whole_type(t, limits) {
-        return Answer::Refused(Refusal::FIRST);
+        return Err(Refusal::First);
     }
-    Answer::Measured(t.len(), type_levels(t, limits.levels))
+    Ok(Answer::Measured(t.len(), type_levels(t, limits.levels)))
 }

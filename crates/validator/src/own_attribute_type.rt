@@ -3,16 +3,16 @@ ghost use Rattle.std.specs.Prelude.{◌≡◌};
 ghost use Rattle.cedar.specs.BodyPlace.{body_in};
 ghost use Rattle.cedar.specs.Calls.{own_attribute_call};
 ghost use Rattle.forms.specs.Limits.{as_limits};
-ghost use Rattle.schemas.specs.SchemaBytes.{limits_of, checked};
-ghost use Rattle.schemas.specs.Entries.{Sectioned};
+ghost use Rattle.schemas.specs.Schema.{limits_in};
+ghost use Rattle.writing.specs.FormLengths.{seen};
 ghost use Rattle.validator.specs.Handed.{part_of, Handed};
 
 use attributes::own_attribute::own_attribute;
 use forms::limits::Limits;
 use forms::refusals::Refusal;
 use forms::types::whole_type;
-use schemas::sections::Sections;
-use schemas::whole::{Checked, check_schema};
+use schemas::checked::Checked;
+use schemas::schema::Schema;
 
 // What the entry says beside the part, where it is no refusal's number.
 #[derive(Clone, Copy)]
@@ -26,77 +26,86 @@ impl Told {
     pub const REQUIRED: u8 = b'r';
 }
 
-// Where the attribute stands in the form that lists it: a refusal's number; none; its start and end, and whether it is required.
+// Where the attribute stands in the form that lists it, and whether it is required.
 #[derive(Clone, Copy)]
-pub enum OwnPart {
-    Refused(u8),
-    Nothing,
-    At(usize, usize, bool),
+pub struct OwnPart {
+    pub start: usize,
+    pub end: usize,
+    pub required: bool,
 }
 
 // The place for a whole schema.
-fn own_part_under(schema: &[u8], at: Sections, attr: u16, t: &[u8]) -> OwnPart
-    requires { Sectioned schema.now «at» }
-    ensures { result ≡ part_of (own_attribute_call (as_limits «at».limits) schema.now attr t.now) (body_in (as_limits «at».limits) attr t.now) }
+fn own_part_under(schema: &Schema<'_>, attr: u16, t: &[u8]) -> Result<Option<OwnPart>, Refusal>
+    ensures { seen result ≡ part_of (own_attribute_call (limits_in schema.now) schema.now.bytes.now attr t.now) (body_in (limits_in schema.now) attr t.now) }
 {
-    let limits = at.limits;
+    let limits = schema.sections.limits;
     if !whole_type(t, limits) {
-        return OwnPart::Refused(Refusal::FIRST);
+        return Err(Refusal::First);
     }
     let Some(part) = own_attribute(t, attr as usize, limits.levels) else {
-        return OwnPart::Nothing;
+        return Ok(None);
     };
-    OwnPart::At(part.start, part.start + part.form.len(), part.required)
+    Ok(Some(OwnPart {
+        start: part.start,
+        end: part.start + part.form.len(),
+        required: part.required,
+    }))
 }
 
 // The place under a schema that was checked before, and the limits of its check.
-pub fn own_attribute_part_checked(schema: &[u8], check: Checked, attr: u16, t: &[u8]) -> OwnPart
-    requires { check ≡ checked (limits_of check) schema.now }
-    ensures { result ≡ part_of (own_attribute_call (as_limits (limits_of check)) schema.now attr t.now) (body_in (as_limits (limits_of check)) attr t.now) }
+pub fn own_attribute_part_checked(
+    schema: &Checked<'_>,
+    attr: u16,
+    t: &[u8],
+) -> Result<Option<OwnPart>, Refusal>
+    ensures { seen result ≡ part_of (own_attribute_call (as_limits schema.now.limits) schema.now.bytes.now attr t.now) (body_in (as_limits schema.now.limits) attr t.now) }
 {
-    if !check.limits().are_allowed() {
-        return OwnPart::Refused(Refusal::LIMITS);
+    if !schema.limits.are_allowed() {
+        return Err(Refusal::Limits);
     }
-    let Checked::Whole(at) = check else {
-        return OwnPart::Refused(Refusal::SCHEMA);
+    let Some(whole) = schema.whole() else {
+        return Err(Refusal::Schema);
     };
-    own_part_under(schema, at, attr, t)
+    own_part_under(&whole, attr, t)
 }
 
 // The place.
-pub fn own_attribute_part(limits: Limits, schema: &[u8], attr: u16, t: &[u8]) -> OwnPart
-    ensures { result ≡ part_of (own_attribute_call (as_limits limits) schema.now attr t.now) (body_in (as_limits limits) attr t.now) }
+pub fn own_attribute_part(
+    limits: Limits,
+    schema: &[u8],
+    attr: u16,
+    t: &[u8],
+) -> Result<Option<OwnPart>, Refusal>
+    ensures { seen result ≡ part_of (own_attribute_call (as_limits limits) schema.now attr t.now) (body_in (as_limits limits) attr t.now) }
 {
-    own_attribute_part_checked(schema, check_schema(limits, schema), attr, t)
+    own_attribute_part_checked(&Checked::new(limits, schema), attr, t)
 }
 
 // The answer under a schema that was checked before, and the limits of its check.
 pub fn own_attribute_type_checked<'a>(
-    schema: &[u8],
-    check: Checked,
+    schema: &Checked<'_>,
     attr: u16,
     t: &'a [u8],
     told: &mut u8,
 ) -> &'a [u8]
-    requires { check ≡ checked (limits_of check) schema.now }
-    ensures { Handed (own_attribute_call (as_limits (limits_of check)) schema.now attr t.now) (body_in (as_limits (limits_of check)) attr t.now) t.entry result told.new }
+    ensures { Handed (own_attribute_call (as_limits schema.now.limits) schema.now.bytes.now attr t.now) (body_in (as_limits schema.now.limits) attr t.now) t.entry result told.new }
 {
-    match own_attribute_part_checked(schema, check, attr, t) {
-        OwnPart::Refused(e) => {
-            *told = e;
+    match own_attribute_part_checked(schema, attr, t) {
+        Err(refusal) => {
+            *told = u8::from(refusal);
             &t[..0]
         }
-        OwnPart::Nothing => {
+        Ok(None) => {
             *told = Told::NOTHING;
             &t[..0]
         }
-        OwnPart::At(start, end, required) => {
-            if required {
+        Ok(Some(part)) => {
+            if part.required {
                 *told = Told::REQUIRED;
-                return &t[start..end];
+                return &t[part.start..part.end];
             }
             *told = Told::OPTIONAL;
-            &t[start..end]
+            &t[part.start..part.end]
         }
     }
 }
@@ -111,5 +120,5 @@ pub fn own_attribute_type<'a>(
 ) -> &'a [u8]
     ensures { Handed (own_attribute_call (as_limits limits) schema.now attr t.now) (body_in (as_limits limits) attr t.now) t.entry result told.new }
 {
-    own_attribute_type_checked(schema, check_schema(limits, schema), attr, t, told)
+    own_attribute_type_checked(&Checked::new(limits, schema), attr, t, told)
 }

@@ -3,7 +3,7 @@ ghost use Rattle.std.specs.Prelude.{◌≡◌, true, ◌≤◌, length};
 ghost use Rattle.cedar.specs.Limits.{allowed};
 ghost use Rattle.cedar.specs.Calls.{fold_call};
 ghost use Rattle.forms.specs.Limits.{as_limits};
-ghost use Rattle.schemas.specs.SchemaBytes.{limits_of, checked};
+ghost use Rattle.writing.specs.FormLengths.{seen};
 ghost use Rattle.validator.specs.Answers.{Answered, AnsweredIn};
 
 use crate::answers::Answer;
@@ -15,84 +15,72 @@ use forms::lists::whole_list;
 use forms::modes::Mode;
 use forms::refusals::Refusal;
 use levels::depths::type_levels;
-use schemas::whole::{Checked, check_schema};
+use schemas::checked::Checked;
 use writing::writers::copy;
 
 // The answer under limits that are allowed, with the workspace as the steps left it; `last` has room for any form.
 fn reduced(
-    limits: Limits,
-    schema: &[u8],
-    check: Checked,
+    schema: &Checked<'_>,
     mode: u8,
     list: &[u8],
     last: &mut [u8],
     out: &mut [u8],
     work: &mut [u8],
-) -> Answer
-    requires fair { allowed (as_limits limits) ≡ true }
-    requires own_check { check ≡ checked limits schema.now }
-    requires last_room { limits.bytes ≤ length last.old }
-    ensures { Answered (fold_call (as_limits limits) mode schema.now list.now (length out.old) (length work.old)) out.old out.new result }
+) -> Result<Answer, Refusal>
+    requires fair { allowed (as_limits schema.now.limits) ≡ true }
+    requires last_room { schema.now.limits.bytes ≤ length last.old }
+    ensures { Answered (fold_call (as_limits schema.now.limits) mode schema.now.bytes.now list.now (length out.old) (length work.old)) out.old out.new (seen result) }
 {
-    let Ok(m) = Mode::try_from(mode) else {
-        return Answer::Refused(Refusal::MODE);
-    };
-    let Checked::Whole(_) = check else {
-        return Answer::Refused(Refusal::SCHEMA);
+    let limits = schema.limits;
+    let m = Mode::try_from(mode)?;
+    let Some(_) = schema.sections else {
+        return Err(Refusal::Schema);
     };
     if !whole_list(list, limits) {
-        return Answer::Refused(Refusal::FIRST);
+        return Err(Refusal::First);
     }
-    match fold_types(m, list, limits, last, work) {
-        Ok(n) => {
-            if !answer_fits(limits, n, out.len()) {
-                return Answer::Refused(Refusal::RESULT);
-            }
-            let form = &last[0..n];
-            copy(form, out);
-            Answer::Typed(n, type_levels(form, limits.levels))
-        }
-        Err(refusal) => Answer::Refused(u8::from(refusal)),
+    let n = fold_types(m, list, limits, last, work)?;
+    if !answer_fits(limits, n, out.len()) {
+        return Err(Refusal::Answer);
     }
+    let form = &last[0..n];
+    copy(form, out);
+    Ok(Answer::Typed(n, type_levels(form, limits.levels)))
 }
 
 // The answer by the limits of a check. No more bytes are cleared for a form than the smaller of two sizes has that fits.
 fn reduced_under(
-    schema: &[u8],
-    check: Checked,
+    schema: &Checked<'_>,
     mode: u8,
     list: &[u8],
     out: &mut [u8],
     work: &mut [u8],
-) -> Answer
-    requires { check ≡ checked (limits_of check) schema.now }
-    ensures { Answered (fold_call (as_limits (limits_of check)) mode schema.now list.now (length out.old) (length work.old)) out.old out.new result }
+) -> Result<Answer, Refusal>
+    ensures { Answered (fold_call (as_limits schema.now.limits) mode schema.now.bytes.now list.now (length out.old) (length work.old)) out.old out.new (seen result) }
 {
-    let limits = check.limits();
+    let limits = schema.limits;
     if !limits.are_allowed() {
-        return Answer::Refused(Refusal::LIMITS);
+        return Err(Refusal::Limits);
     }
     if limits.bytes <= Limits::BYTES {
         let mut last = [0u8; Limits::BYTES];
-        return reduced(limits, schema, check, mode, list, &mut last, out, work);
+        return reduced(schema, mode, list, &mut last, out, work);
     }
     let mut last = [0u8; Limits::MOST_BYTES];
-    reduced(limits, schema, check, mode, list, &mut last, out, work)
+    reduced(schema, mode, list, &mut last, out, work)
 }
 
 // The answer under a schema that was checked before, and the limits of its check.
 pub fn reduce_to_least_upper_bound_checked(
-    schema: &[u8],
-    check: Checked,
+    schema: &Checked<'_>,
     mode: u8,
     list: &[u8],
     out: &mut [u8],
     work: &mut [u8],
-) -> Answer
-    requires { check ≡ checked (limits_of check) schema.now }
-    ensures { AnsweredIn (fold_call (as_limits (limits_of check)) mode schema.now list.now (length out.old) (length work.old)) out.old out.new work.old work.new result }
+) -> Result<Answer, Refusal>
+    ensures { AnsweredIn (fold_call (as_limits schema.now.limits) mode schema.now.bytes.now list.now (length out.old) (length work.old)) out.old out.new work.old work.new (seen result) }
 {
-    let answer = reduced_under(schema, check, mode, list, out, work);
+    let answer = reduced_under(schema, mode, list, out, work);
     clear(work);
     answer
 }
@@ -104,8 +92,8 @@ pub fn reduce_to_least_upper_bound(
     list: &[u8],
     out: &mut [u8],
     work: &mut [u8],
-) -> Answer
-    ensures { AnsweredIn (fold_call (as_limits limits) mode schema.now list.now (length out.old) (length work.old)) out.old out.new work.old work.new result }
+) -> Result<Answer, Refusal>
+    ensures { AnsweredIn (fold_call (as_limits limits) mode schema.now list.now (length out.old) (length work.old)) out.old out.new work.old work.new (seen result) }
 {
-    reduce_to_least_upper_bound_checked(schema, check_schema(limits, schema), mode, list, out, work)
+    reduce_to_least_upper_bound_checked(&Checked::new(limits, schema), mode, list, out, work)
 }

@@ -1,18 +1,18 @@
 -- A number says one answer. Assumes nothing.
-use Rattle.std.specs.Prelude.{ℕ, zero, suc, ◌+◌, ◌*◌, ◌/◌, ◌%◌, ◌<◌, ◌≤◌, List, Bool, true, false, ◌≡◌, refl, get_or}
+use Rattle.std.specs.Prelude.{ℕ, zero, suc, ◌+◌, ◌*◌, ◌/◌, ◌%◌, ◌<◌, ◌≤◌, List, Bool, true, false, cond, ◌≡◌, refl, get_or, Option as Maybe, Some, None}
 use Rattle.std.proofs.Common.{arith, ap, sym, subst, ◌∙◌}
 use Rattle.std.specs.Borrow.{Bor}
+use Rattle.cedar.specs.Result.{Result, ok, err}
 use Rattle.cedar.specs.Outcome.{Outcome}
 use Rattle.cedar.specs.Limits.{Limits, most_bytes}
 use Rattle.cedar.specs.BodyPlace.{body_in}
 use Rattle.cedar.specs.Calls.{own_attribute_call}
 use Rattle.validator.specs.declared.answers.Answer.{Answer}
-use Rattle.validator.specs.declared.answers.Answer.TheVariants.{Refused, Yes, No, Nothing, Measured, Typed, Attribute, Named}
+use Rattle.validator.specs.declared.answers.Answer.TheVariants.{Yes, No, Nothing, Measured, Typed, Attribute, Named}
 use Rattle.validator.specs.Answers.{Answered, AnsweredIn}
 use Rattle.validator.specs.Handed.{part_of}
 use Rattle.validator.specs.Laws.Handed.{here_found}
 use Rattle.validator.specs.declared.own_attribute_type.OwnPart.{OwnPart}
-use Rattle.validator.specs.declared.own_attribute_type.OwnPart.TheVariants as places
 use Rattle.exports.specs.Steps.{kind_step, packed_step}
 use Rattle.exports.specs.Numbers.{sizes, answer_number, wrote_with, answer_with, read_answer, Brief, Numbered, NumberedIn, part_number, part_with, read_part, Narrow}
 
@@ -36,46 +36,43 @@ wrote-type n zero h = absurd (omega arith)
 wrote-type n (suc l) h = refl
 
 -- A number is read as the answer that it was made of.
-pub reads : (a : Answer) → Brief a → read_answer (answer_number a) ≡ a
-reads (Refused n) h = rw ((cut-refused n).0, (cut-refused n).1) refl
-reads Yes h = refl
-reads No h = refl
-reads Nothing h = refl
-reads (Measured n l) h = parts 9 (sizes n l) (omega arith) ∙ rw ((located n l h.0).0, (located n l h.0).1) refl
-reads (Typed n l) h = parts 4 (sizes n l) (omega arith) ∙ rw ((located n l h.0).0, (located n l h.0).1) (wrote-type n l h.2)
-reads (Attribute false n l) h = parts 5 (sizes n l) (omega arith) ∙ rw ((located n l h.0).0, (located n l h.0).1) refl
-reads (Attribute true n l) h = parts 6 (sizes n l) (omega arith) ∙ rw ((located n l h.0).0, (located n l h.0).1) refl
-reads (Named n) h = parts 4 (sizes n 0) (omega arith) ∙ rw ((located n 0 h).0, (located n 0 h).1) refl
+pub reads : (a : Result Answer) → Brief a → read_answer (answer_number a) ≡ a
+reads (err n) h = rw ((cut-refused n).0, (cut-refused n).1) refl
+reads (ok Yes) h = refl
+reads (ok No) h = refl
+reads (ok Nothing) h = refl
+reads (ok (Measured n l)) h = parts 9 (sizes n l) (omega arith) ∙ rw ((located n l h.0).0, (located n l h.0).1) refl
+reads (ok (Typed n l)) h = parts 4 (sizes n l) (omega arith) ∙ rw ((located n l h.0).0, (located n l h.0).1) (ap ok (wrote-type n l h.2))
+reads (ok (Attribute false n l)) h = parts 5 (sizes n l) (omega arith) ∙ rw ((located n l h.0).0, (located n l h.0).1) refl
+reads (ok (Attribute true n l)) h = parts 6 (sizes n l) (omega arith) ∙ rw ((located n l h.0).0, (located n l h.0).1) refl
+reads (ok (Named n)) h = parts 4 (sizes n 0) (omega arith) ∙ rw ((located n 0 h).0, (located n 0 h).1) refl
 
 -- So no two brief answers have one number.
-pub one_answer : (a b : Answer) → Brief a → Brief b → answer_number a ≡ answer_number b → a ≡ b
+pub one_answer : (a b : Result Answer) → Brief a → Brief b → answer_number a ≡ answer_number b → a ≡ b
 one_answer a b h k e = sym (reads a h) ∙ ap read_answer e ∙ reads b k
 
 -- What an answer tells.
-pub measured-brief : (a : Answer) (n l : ℕ) → Brief a → a ≡ Measured n l → (n ≤ most_bytes) × (l ≤ most_bytes)
-measured-brief a n l h e = let b : Brief (Measured n l) = subst Brief e h in (b.0, omega (arith, b.0, b.1))
+pub measured-brief : (a : Result Answer) (n l : ℕ) → Brief a → a ≡ ok (Measured n l) → (n ≤ most_bytes) × (l ≤ most_bytes)
+measured-brief a n l h e = let b : Brief (ok (Measured n l)) = subst Brief e h in (b.0, omega (arith, b.0, b.1))
 
-pub typed-brief : (a : Answer) (n l : ℕ) → Brief a → a ≡ Typed n l → (n ≤ most_bytes) × (l ≤ most_bytes)
-typed-brief a n l h e = let b : Brief (Typed n l) = subst Brief e h in (b.0, omega (arith, b.0, b.1))
+pub typed-brief : (a : Result Answer) (n l : ℕ) → Brief a → a ≡ ok (Typed n l) → (n ≤ most_bytes) × (l ≤ most_bytes)
+typed-brief a n l h e = let b : Brief (ok (Typed n l)) = subst Brief e h in (b.0, omega (arith, b.0, b.1))
 
-pub attribute-brief : (a : Answer) (q : Bool) (n l : ℕ) → Brief a → a ≡ Attribute q n l → (n ≤ most_bytes) × (l ≤ most_bytes)
-attribute-brief a q n l h e = let b : Brief (Attribute q n l) = subst Brief e h in (b.0, omega (arith, b.0, b.1))
+pub attribute-brief : (a : Result Answer) (q : Bool) (n l : ℕ) → Brief a → a ≡ ok (Attribute q n l) → (n ≤ most_bytes) × (l ≤ most_bytes)
+attribute-brief a q n l h e = let b : Brief (ok (Attribute q n l)) = subst Brief e h in (b.0, omega (arith, b.0, b.1))
 
-pub named-brief : (a : Answer) (n : ℕ) → Brief a → a ≡ Named n → n ≤ most_bytes
+pub named-brief : (a : Result Answer) (n : ℕ) → Brief a → a ≡ ok (Named n) → n ≤ most_bytes
 named-brief a n h e = subst Brief e h
 
 -- The number of an answer, case by case.
-pub refused-number : (a : Answer) (n : ℕ) → a ≡ Refused n → 0 + kind_step * n ≡ answer_number a
-refused-number a n e = omega arith ∙ sym (ap answer_number e)
+pub required-number : (a : Result Answer) (q : Bool) (n l : ℕ) → a ≡ ok (Attribute q n l) → q ≡ true → 6 + kind_step * sizes n l ≡ answer_number a
+required-number a q n l e h = sym (ap answer_number (e ∙ ap (λ (z : Bool). ok (Attribute z n l)) h))
 
-pub required-number : (a : Answer) (q : Bool) (n l : ℕ) → a ≡ Attribute q n l → q ≡ true → 6 + kind_step * sizes n l ≡ answer_number a
-required-number a q n l e h = sym (ap answer_number (e ∙ ap (λ (z : Bool). Attribute z n l) h))
-
-pub optional-number : (a : Answer) (q : Bool) (n l : ℕ) → a ≡ Attribute q n l → q ≡ false → 5 + kind_step * sizes n l ≡ answer_number a
-optional-number a q n l e h = sym (ap answer_number (e ∙ ap (λ (z : Bool). Attribute z n l) h))
+pub optional-number : (a : Result Answer) (q : Bool) (n l : ℕ) → a ≡ ok (Attribute q n l) → q ≡ false → 5 + kind_step * sizes n l ≡ answer_number a
+optional-number a q n l e h = sym (ap answer_number (e ∙ ap (λ (z : Bool). ok (Attribute z n l)) h))
 
 -- The number of what an entry answered.
-module _ {o : Outcome} {a : Answer} {before after : List ℕ} (r : ℕ) (e : r ≡ answer_number a) where
+module _ {o : Outcome} {a : Result Answer} {before after : List ℕ} (r : ℕ) (e : r ≡ answer_number a) where
   pub numbered : Answered o before after a → Numbered o before after r
   numbered q = record { number = e ∙ ap answer_number q.answer; result = q.result }
 
@@ -86,39 +83,45 @@ module _ {o : Outcome} {a : Answer} {before after : List ℕ} (r : ℕ) (e : r �
 part-kind : (k n : ℕ) → k < kind_step → read_part (k + kind_step * n) ≡ part_with k n
 part-kind k n l = rw ((cut k n l).0, (cut k n l).1) refl
 
-pub reads-part : (p : OwnPart) → Narrow p → read_part (part_number p) ≡ p
-reads-part (places.Refused n) h = rw ((cut-refused n).0, (cut-refused n).1) refl
-reads-part places.Nothing h = refl
-reads-part (places.At s e false) h = part-kind 7 (s + packed_step * e) (omega arith) ∙ rw ((located s e h.0).0, (located s e h.0).1) refl
-reads-part (places.At s e true) h = part-kind 8 (s + packed_step * e) (omega arith) ∙ rw ((located s e h.0).0, (located s e h.0).1) refl
+pub reads-part : (p : Result (Maybe OwnPart)) → Narrow p → read_part (part_number p) ≡ p
+reads-part (err n) h = rw ((cut-refused n).0, (cut-refused n).1) refl
+reads-part (ok None) h = refl
+reads-part (ok (Some x)) h = go x.required refl
+  where
+    go : (q : Bool) → x.required ≡ q → read_part (part_number (ok (Some x))) ≡ ok (Some x)
+    go false e =
+        ap (λ (b : Bool). read_part (cond b 8 7 + kind_step * (x.start + packed_step * x.end))) e
+        ∙ part-kind 7 (x.start + packed_step * x.end) (omega arith)
+        ∙ rw ((located x.start x.end h.0).0, (located x.start x.end h.0).1)
+        (ap (λ (b : Bool). ok (Some (record { start = x.start; end = x.end; required = b }))) (sym e))
+    go true e =
+        ap (λ (b : Bool). read_part (cond b 8 7 + kind_step * (x.start + packed_step * x.end))) e
+        ∙ part-kind 8 (x.start + packed_step * x.end) (omega arith)
+        ∙ rw ((located x.start x.end h.0).0, (located x.start x.end h.0).1)
+        (ap (λ (b : Bool). ok (Some (record { start = x.start; end = x.end; required = b }))) (sym e))
 
 -- So no two parts within a form's length have one number.
-pub one-part : (p q : OwnPart) → Narrow p → Narrow q → part_number p ≡ part_number q → p ≡ q
+pub one-part : (p q : Result (Maybe OwnPart)) → Narrow p → Narrow q → part_number p ≡ part_number q → p ≡ q
 one-part p q hp hq e = sym (reads-part p hp) ∙ ap read_part e ∙ reads-part q hq
 
 -- A place within a whole form.
-pub narrow : (lim : Limits) (schema : List ℕ) (a : ℕ) (t : Bor (List ℕ)) → ((i : ℕ) → get_or t.now i 0 < 256) → (p : OwnPart) →
+pub narrow : (lim : Limits) (schema : List ℕ) (a : ℕ) (t : Bor (List ℕ)) → ((i : ℕ) → get_or t.now i 0 < 256) → (p : Result (Maybe OwnPart)) →
     p ≡ part_of (own_attribute_call lim schema a t.now) (body_in lim a t.now) → Narrow p
 narrow lim schema a t known p e = go p refl
   where
-    go : (x : OwnPart) → p ≡ x → Narrow x
-    go (places.Refused n) i = tt
-    go places.Nothing i = tt
-    go (places.At s z q) i = let f = here_found lim schema a t known p e s z q i in (
-      omega (arith, f.order, f.inside, f.few),
-      omega
-          (arith, f.inside, f.few),
-    )
+    go : (x : Result (Maybe OwnPart)) → p ≡ x → Narrow x
+    go (err n) i = tt
+    go (ok None) i = tt
+    go (ok (Some x)) i = let f = here_found lim schema a t known p e x i in (omega (arith, f.order, f.inside, f.few), omega (arith, f.inside, f.few))
 
-pub at-narrow : (p : OwnPart) (s e : ℕ) (q : Bool) → Narrow p → p ≡ places.At s e q → (s ≤ most_bytes) × (e ≤ most_bytes)
-at-narrow p s e q h at = subst Narrow at h
+pub at-narrow : (p : Result (Maybe OwnPart)) (x : OwnPart) → Narrow p → p ≡ ok (Some x) → (x.start ≤ most_bytes) × (x.end ≤ most_bytes)
+at-narrow p x h at = subst Narrow at h
 
 -- The number of a part, case by case.
-pub part-refused-number : (p : OwnPart) (n : ℕ) → p ≡ places.Refused n → 0 + kind_step * n ≡ part_number p
-part-refused-number p n e = omega arith ∙ sym (ap part_number e)
+pub part-required-number : (p : Result (Maybe OwnPart)) (x : OwnPart) → p ≡ ok (Some x) → x.required ≡ true →
+    8 + kind_step * (x.start + packed_step * x.end) ≡ part_number p
+part-required-number p x at h = rw (at, h) refl
 
-pub part-required-number : (p : OwnPart) (s e : ℕ) (q : Bool) → p ≡ places.At s e q → q ≡ true → 8 + kind_step * (s + packed_step * e) ≡ part_number p
-part-required-number p s e q at h = sym (ap part_number (at ∙ ap (places.At s e) h))
-
-pub part-optional-number : (p : OwnPart) (s e : ℕ) (q : Bool) → p ≡ places.At s e q → q ≡ false → 7 + kind_step * (s + packed_step * e) ≡ part_number p
-part-optional-number p s e q at h = sym (ap part_number (at ∙ ap (places.At s e) h))
+pub part-optional-number : (p : Result (Maybe OwnPart)) (x : OwnPart) → p ≡ ok (Some x) → x.required ≡ false →
+    7 + kind_step * (x.start + packed_step * x.end) ≡ part_number p
+part-optional-number p x at h = rw (at, h) refl

@@ -34,7 +34,7 @@ pub record Short (o : Outcome) : Type 0 where
   pub few : Brief (answer_of o)
 
 -- What an entry answered.
-pub brief : {o : Outcome} (a : Answer) → Short o → a ≡ answer_of o → Brief a
+pub brief : {o : Outcome} (a : Result Answer) → Short o → a ≡ answer_of o → Brief a
 brief {o} a h e = subst Brief (sym e) h.few
 
 refused-short : (n : ℕ) → Short (refused n)

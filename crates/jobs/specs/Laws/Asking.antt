@@ -1,12 +1,20 @@
 -- Laws of putting a question to its call. Assumes nothing.
-use Rattle.std.specs.Prelude.{◌≡◌, List, true, false, Some, None, ℕ, ◌+◌, ◌*◌, ◌≤◌, ◌<◌, length, drop}
+use Rattle.std.specs.Prelude.{◌≡◌, List, [], true, false, Some, None, ℕ, ◌+◌, ◌*◌, ◌≤◌, ◌<◌, length, drop}
 use Rattle.std.proofs.Math.Path.{refl, subst}
-use Rattle.std.proofs.Common.{ap, ap₂, arith, length-append}
-use Rattle.cedar.specs.Outcome.{Outcome, bytes_of}
+use Rattle.std.proofs.Common.{ap, ap₂, sym, arith, length-append}
+use Rattle.std.proofs.Math.Option.{Option, none, some}
+use Rattle.cedar.specs.Bytes.{guard}
+use Rattle.cedar.specs.Limits.{Limits, allowed}
+use Rattle.cedar.specs.Whole.{whole_type, whole_value, whole_schema}
+use Rattle.cedar.specs.Conformance.{Verdict, holds, fails, fails_inside, unknown, Counts, conforms}
+use Rattle.cedar.specs.Text.{textual}
+use Rattle.cedar.specs.Calls.{ask, mode_of, of_verdict, subtype_call, may_have_call, conforms_by}
+use Rattle.cedar.specs.Outcome.{Outcome, over, bytes_of}
+use Rattle.cedar.specs.Result.{Result, bad_limits, bad_mode, bad_schema, bad_first, bad_second, bad_value, bad_text}
 use Rattle.cedar.specs.JobForm.{Question as Asked}
 use Rattle.cedar.specs.Lines.{outcome_of}
 use Rattle.validator.specs.declared.answers.Answer.{Answer}
-use Rattle.validator.specs.Answers.{Answered}
+use Rattle.validator.specs.Answers.{answer_of, Answered}
 use Rattle.jobs.specs.declared.questions.Cursor.{Cursor}
 use Rattle.jobs.specs.declared.questions.Question.{Question}
 use Rattle.writing.specs.Written.{Written}
@@ -15,9 +23,40 @@ use Rattle.jobs.specs.LineBytes.{many_in, line_in, LineRoom}
 use Rattle.jobs.specs.Walk.{entry_of, stands_at, asks, next_at, outcome_at, line_at, LineWritten}
 use Rattle.jobs.specs.Laws.Lines.{line-is, many_is}
 
+-- A call that answers yes or no writes nothing.
+quiet-ask : {A : Type 0} (n : ℕ) (o : Option A) (k : A → Outcome) → ((z : A) → bytes_of (k z) ≡ []) → bytes_of (ask n o k) ≡ []
+quiet-ask n none k h = refl
+quiet-ask n (some z) k h = h z
+
+quiet-verdict : (v : Verdict) → bytes_of (of_verdict v) ≡ []
+quiet-verdict holds = refl
+quiet-verdict fails = refl
+quiet-verdict fails_inside = refl
+quiet-verdict unknown = refl
+
+module _ (lim : Limits) (s : List ℕ) where
+  pub quiet-subtype : (m : ℕ) (x y : List ℕ) → bytes_of (subtype_call lim m s x y) ≡ []
+  quiet-subtype m x y =
+      quiet-ask bad_limits (guard (allowed lim)) _ λ _. quiet-ask bad_mode (mode_of m) _ λ _. quiet-ask bad_schema (whole_schema lim s) _ λ _.
+      quiet-ask bad_first (whole_type lim x) _ λ _. quiet-ask bad_second (whole_type lim y) _ λ _. refl
+
+  pub quiet-may-have : (a : ℕ) (x : List ℕ) → bytes_of (may_have_call lim s a x) ≡ []
+  quiet-may-have a x =
+      quiet-ask bad_limits (guard (allowed lim)) _ λ _. quiet-ask bad_schema (whole_schema lim s) _ λ _. quiet-ask bad_first (whole_type lim x) _ λ _. refl
+
+  pub quiet-conforms : (rule : Counts) (x v : List ℕ) → bytes_of (conforms_by rule lim s x v) ≡ []
+  quiet-conforms rule x v =
+      quiet-ask bad_limits (guard (allowed lim)) _ λ _. quiet-ask bad_schema (whole_schema lim s) _ λ z. quiet-ask bad_first (whole_type lim x) _ λ t.
+      quiet-ask bad_value (whole_value lim v) _ λ w. quiet-ask bad_text (guard (textual w)) _ λ _. quiet-verdict (conforms rule z t w)
+
+-- It leaves the result buffer as it was.
+pub answered-quiet : {o p : Outcome} {before : List ℕ} {r : Result Answer} → o ≡ p → bytes_of o ≡ [] → r ≡ answer_of o → Answered p before before r
+answered-quiet {o} {before = before} {r = r} e q h =
+    subst (λ (p : Outcome). Answered p before before r) e record { answer = h; result = sym (ap (λ (l : List ℕ). over l before) q) }
+
 -- The question at which a cursor stands.
 module _ (b : List ℕ) (c : Cursor) where
-  pub answered-at : {before after : List ℕ} {r : Answer} (q : Question) {s : List ℕ} → s ≡ schema_of b →
+  pub answered-at : {before after : List ℕ} {r : Result Answer} (q : Question) {s : List ℕ} → s ≡ schema_of b →
       asks q ≡ (entry_at b (entry_of c), bodies_at b (entry_of c) c.body) → Answered (outcome_of s (asks q)) before after r → Answered (outcome_at b c) before after r
   unfolding outcome_at
   answered-at {before} {after} {r} q {s} e f h =
@@ -28,7 +67,7 @@ module _ (b : List ℕ) (c : Cursor) where
   unfolding line_at
   no_line s o = record { answer = rw s refl; next = rw s refl; bytes = rw s refl }
 
-  module _ (s : stands_at b c ≡ true) {before res : List ℕ} {a : Answer} (h : Answered (outcome_at b c) before res a) where
+  module _ (s : stands_at b c ≡ true) {before res : List ℕ} {a : Result Answer} (h : Answered (outcome_at b c) before res a) where
     pub line-fits : c.index < 65536 → (o : List ℕ) → 15 + 2 * length res ≤ length o → LineRoom c.index a res o
     line-fits p o r =
         let w = bytes_of (outcome_at b c) in

@@ -7,10 +7,11 @@ use Rattle.std.proofs.Math.Seq.{take-append_seam}
 use Rattle.cedar.specs.Bytes.{enc_names}
 use Rattle.cedar.specs.TypeForm.{enc}
 use Rattle.cedar.specs.Lines.{decimal, hex, line}
+use Rattle.cedar.specs.Result.{Result, ok, err}
 use Rattle.cedar.specs.Outcome.{Outcome, refused, said, nothing, measured, typed, attribute, named, over, bytes_of, result_after}
 use Rattle.forms.specs.Parts.{rest}
 use Rattle.validator.specs.declared.answers.Answer.{Answer}
-use Rattle.validator.specs.declared.answers.Answer.TheVariants.{Refused, Yes, No, Nothing, Measured, Typed, Attribute, Named}
+use Rattle.validator.specs.declared.answers.Answer.TheVariants.{Yes, No, Nothing, Measured, Typed, Attribute, Named}
 use Rattle.validator.specs.Answers.{answer_of}
 use Rattle.writing.specs.Written.{Written}
 use Rattle.jobs.specs.LineBytes.{number_in, many_in, required_word, text_in, field, line_in, LineRoom}
@@ -36,19 +37,19 @@ field-short : (k n : ℕ) → n < 10 ^ suc k → length (field n) ≤ suc (suc k
 unfolding field
 field-short k n h = omega (arith, decimal-short k n h, length-append (decimal n) (32 ∷ []))
 
-text-short : (a : Answer) (res : List ℕ) → many_in a ≤ length res → length (text_in a res) ≤ 4 + 2 * length res
-text-short (Refused n) res h = omega arith
-text-short Yes res h = omega arith
-text-short No res h = omega arith
-text-short Nothing res h = omega arith
-text-short (Measured n l) res h = omega arith
-text-short (Typed n l) res h = omega (arith, length-hex (take n res), length-take-le n res h)
-text-short (Attribute r n l) res h =
+text-short : (a : Result Answer) (res : List ℕ) → many_in a ≤ length res → length (text_in a res) ≤ 4 + 2 * length res
+text-short (err n) res h = omega arith
+text-short (ok Yes) res h = omega arith
+text-short (ok No) res h = omega arith
+text-short (ok Nothing) res h = omega arith
+text-short (ok (Measured n l)) res h = omega arith
+text-short (ok (Typed n l)) res h = omega (arith, length-hex (take n res), length-take-le n res h)
+text-short (ok (Attribute r n l)) res h =
     omega (arith, length-append (required_word r) (hex (take n res)), required-long r, length-hex (take n res), length-take-le n res h)
-text-short (Named n) res h = omega (arith, length-hex (take n res), length-take-le n res h)
+text-short (ok (Named n)) res h = omega (arith, length-hex (take n res), length-take-le n res h)
 
 -- The parts of a line, which are written one after the other.
-module _ (i : ℕ) (a : Answer) (res o : List ℕ) (fits : LineRoom i a res o) (number : ℕ) (e : (number ≡ number_in a) × (number < 256)) where
+module _ (i : ℕ) (a : Result Answer) (res o : List ℕ) (fits : LineRoom i a res o) (number : ℕ) (e : (number ≡ number_in a) × (number < 256)) where
   abbrev head : List ℕ
   head = field i ++ field (number_in a)
 

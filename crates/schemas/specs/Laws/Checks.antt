@@ -13,15 +13,13 @@ use Rattle.forms.specs.declared.limits.Limits.{Limits as LimitsStruct}
 use Rattle.forms.specs.Laws.Parts.{and_l, and_r, and-not-l, and_yes}
 use Rattle.forms.specs.Laws.Sure.{sure-present}
 use Rattle.schemas.specs.SchemaBytes.{row_of, section_fits, section_end, entries_end, section_at, entity_section, action_section, function_section, sections_of}
-use Rattle.schemas.specs.SchemaBytes.{head_fits, sections_fit, whole_s, Inside, passed_by, limits_of, checked_within, checked}
+use Rattle.schemas.specs.SchemaBytes.{head_fits, sections_fit, whole_s, Inside, passed_by, checked_within, checked}
 use Rattle.schemas.specs.Laws.Walks.{section-ends, passed-broken, passed_to}
 use Rattle.schemas.specs.Laws.SchemaTwin.{whole-schema-twin}
 use Rattle.schemas.specs.declared.kinds.SectionKind.{SectionKind}
 use Rattle.schemas.specs.declared.kinds.SectionKind.TheVariants.{Entities, Actions, Functions}
 use Rattle.schemas.specs.declared.sections.Section.{Section}
 use Rattle.schemas.specs.declared.sections.Sections.{Sections}
-use Rattle.schemas.specs.declared.whole.Checked.{Checked}
-use Rattle.schemas.specs.declared.whole.Checked.TheVariants.{Whole, Broken}
 
 -- The counts of bytes that go on.
 pub record Head (b : List ℕ) : Type 0 where
@@ -47,15 +45,15 @@ head b h =
     }
 
 -- A schema that is too long, or not whole.
-pub check-over : (l : LimitsStruct) (b : List ℕ) → 32768 < length b → Broken l ≡ checked_within l b
+pub check-over : (l : LimitsStruct) (b : List ℕ) → 32768 < length b → None ≡ checked_within l b
 unfolding checked_within
 check-over l b h = rw (lt-leb (length b) 32768 h) refl
 
-not-whole : (l : LimitsStruct) (b : List ℕ) → whole_s (as_limits l) b ≡ false → Broken l ≡ checked_within l b
+not-whole : (l : LimitsStruct) (b : List ℕ) → whole_s (as_limits l) b ≡ false → None ≡ checked_within l b
 unfolding checked_within
 not-whole l b h = rw (h, and-false (leb (length b) 32768)) refl
 
-pub check-head : (l : LimitsStruct) (b : List ℕ) (y : Bool) → y ≡ head_fits b → not y ≡ true → Broken l ≡ checked_within l b
+pub check-head : (l : LimitsStruct) (b : List ℕ) (y : Bool) → y ≡ head_fits b → not y ≡ true → None ≡ checked_within l b
 check-head l b y q h = not-whole l b (unfold whole_s in sym (and-not-l (head_fits b) _ (sym q ∙ not-true y h)))
 
 -- The sections of some kinds are ahead, the first one's bodies at p: they answer for the schema.
@@ -88,7 +86,7 @@ module _ {l : LimitsStruct} {b : List ℕ} {k : SectionKind} {ks : List SectionK
     at-section : w ≡ passed_by (as_limits l) k (section_at k p b) b
     at-section = q ∙ ap (λ (z : Section). passed_by (as_limits l) k z b) x-is
 
-    pub ahead-broken : w ≡ None → Broken l ≡ checked_within l b
+    pub ahead-broken : w ≡ None → None ≡ checked_within l b
     ahead-broken e =
         not-whole l b
         (a.same ∙ sym (and-not-l (section_fits (as_limits l) k (section_at k p b) b) _ (passed-broken (as_limits l) k (section_at k p b) b w at-section e)))
@@ -116,67 +114,53 @@ unfolding sections_of
 sections-are l b p q r pe qe re u v w ue ve we = rw (ue, ve, we, pe, qe, re) refl
 
 -- The end.
-pub ahead-over : {l : LimitsStruct} {b : List ℕ} {end : ℕ} → Ahead l b [] end → (end ≡ length b → ⊥) → Broken l ≡ checked_within l b
+pub ahead-over : {l : LimitsStruct} {b : List ℕ} {end : ℕ} → Ahead l b [] end → (end ≡ length b → ⊥) → None ≡ checked_within l b
 ahead-over {l} {b} {end} a h = not-whole l b (a.same ∙ ne_eqb end (length b) h)
 
 module _ {l : LimitsStruct} {b : List ℕ} {end : ℕ} (a : Ahead l b [] end) (few : length b ≤ 32768) (h : end ≡ length b) where
   pub ahead-whole : (p q r : ℕ) → p ≡ entries_end b → q ≡ section_end 5 (section_at Entities p b) b → r ≡ section_end 6 (section_at Actions q b) b →
       (u v w : Section) →
       u ≡ section_at Entities p b → v ≡ section_at Actions q b → w ≡ section_at Functions r b →
-      Whole (record { limits = l; entities = u; actions = v; functions = w }) ≡ checked_within l b
+      Some (record { limits = l; entities = u; actions = v; functions = w }) ≡ checked_within l b
   unfolding checked_within
   ahead-whole p q r pe qe re u v w ue ve we =
       let second = qe ∙ ap (λ (j : ℕ). section_end 5 (section_at Entities j b) b) pe in
       let third = re ∙ ap (λ (j : ℕ). section_end 6 (section_at Actions j b) b) second in
-      rw (le-leb (length b) 32768 few, a.same ∙ eq-eqb end (length b) h) (ap Whole (sections-are l b p q r pe second third u v w ue ve we))
-
--- What the answer says.
-pub checked-limits : (l : LimitsStruct) (b : List ℕ) → limits_of (checked l b) ≡ l
-unfolding checked checked_within sections_of
-checked-limits l b = outer (allowed (as_limits l))
-  where
-    inner : (z : Bool) → limits_of (cond z (Whole (sections_of l b)) (Broken l)) ≡ l
-    inner true = refl
-    inner false = refl
-
-    outer : (z : Bool) → limits_of (cond z (checked_within l b) (Broken l)) ≡ l
-    outer true = inner (leb (length b) 32768 && whole_s (as_limits l) b)
-    outer false = refl
+      rw (le-leb (length b) 32768 few, a.same ∙ eq-eqb end (length b) h) (ap Some (sections-are l b p q r pe second third u v w ue ve we))
 
 -- Under limits out of their ranges nothing is whole; under others the walk tells.
-pub check-refused : (l : LimitsStruct) (b : List ℕ) (y : Bool) → y ≡ allowed (as_limits l) → not y ≡ true → Broken l ≡ checked l b
+pub check-refused : (l : LimitsStruct) (b : List ℕ) (y : Bool) → y ≡ allowed (as_limits l) → not y ≡ true → None ≡ checked l b
 unfolding checked
 check-refused l b y q h = rw (sym q ∙ not-true y h) refl
 
-pub check-allowed : (l : LimitsStruct) (b : List ℕ) (y : Bool) → y ≡ allowed (as_limits l) → not y ≡ false → (r : Checked) → r ≡ checked_within l b →
-    r ≡ checked l b
+pub check-allowed : (l : LimitsStruct) (b : List ℕ) (y : Bool) → y ≡ allowed (as_limits l) → not y ≡ false → (r : Option Sections) →
+    r ≡ checked_within l b → r ≡ checked l b
 unfolding checked
 check-allowed l b y q h r e = e ∙ rw (sym q ∙ not-false y h) refl
 
--- A schema that is broken under limits that are allowed.
-is-broken : (l d : LimitsStruct) (b : List ℕ) → allowed (as_limits l) ≡ true → checked l b ≡ Broken d → leb (length b) 32768 && whole_s (as_limits l) b ≡ false
+-- A schema that is not whole under limits that are allowed.
+is-broken : (l : LimitsStruct) (b : List ℕ) → allowed (as_limits l) ≡ true → checked l b ≡ None → leb (length b) 32768 && whole_s (as_limits l) b ≡ false
 unfolding checked checked_within
-is-broken l d b fair h = go (leb (length b) 32768 && whole_s (as_limits l) b) (sym (rw fair refl) ∙ h)
+is-broken l b fair h = go (leb (length b) 32768 && whole_s (as_limits l) b) (sym (rw fair refl) ∙ h)
   where
-    go : (z : Bool) → cond z (Whole (sections_of l b)) (Broken l) ≡ Broken d → z ≡ false
+    go : (z : Bool) → cond z (Some (sections_of l b)) None ≡ None → z ≡ false
     go true e = absurd (let z : ◌≡◌ {A = ℕ} 0 1 = cc in omega arith)
     go false e = refl
 
-pub checked-broken : (l d : LimitsStruct) (b : List ℕ) (y : Checked) → allowed (as_limits l) ≡ true → y ≡ checked l b → y ≡ Broken d →
-    false ≡ present (whole_schema (as_limits l) b)
-checked-broken l d b y fair q h = sym (sure-present (whole-schema-twin (as_limits l) b) ∙ is-broken l d b fair (sym q ∙ h))
+pub checked-broken : (l : LimitsStruct) (b : List ℕ) → allowed (as_limits l) ≡ true → checked l b ≡ None → false ≡ present (whole_schema (as_limits l) b)
+checked-broken l b fair h = sym (sure-present (whole-schema-twin (as_limits l) b) ∙ is-broken l b fair h)
 
 -- A schema that was checked, with its sections: what every search asks.
-pub checked-whole : (l : LimitsStruct) (b : List ℕ) (y : Checked) → y ≡ checked l b → (x : Sections) → y ≡ Whole x →
+pub checked-whole : (l : LimitsStruct) (b : List ℕ) (x : Sections) → checked l b ≡ Some x →
     (allowed (as_limits l) ≡ true) × (leb (length b) 32768 && whole_s (as_limits l) b ≡ true) × (x ≡ sections_of l b)
 unfolding checked checked_within
-checked-whole l b y q x h = outer (allowed (as_limits l)) (sym h ∙ q)
+checked-whole l b x h = outer (allowed (as_limits l)) (sym h)
   where
-    inner : (z : Bool) → Whole x ≡ cond z (Whole (sections_of l b)) (Broken l) → (z ≡ true) × (x ≡ sections_of l b)
+    inner : (z : Bool) → Some x ≡ cond z (Some (sections_of l b)) None → (z ≡ true) × (x ≡ sections_of l b)
     inner true e = (refl, (cc))
     inner false e = absurd (let z : ◌≡◌ {A = ℕ} 0 1 = cc in omega arith)
 
-    outer : (z : Bool) → Whole x ≡ cond z (checked_within l b) (Broken l) →
+    outer : (z : Bool) → Some x ≡ cond z (checked_within l b) None →
         (z ≡ true) × (leb (length b) 32768 && whole_s (as_limits l) b ≡ true) × (x ≡ sections_of l b)
     outer true e = let t = inner (leb (length b) 32768 && whole_s (as_limits l) b) e in (refl, t.0, t.1)
     outer false e = absurd (let z : ◌≡◌ {A = ℕ} 0 1 = cc in omega arith)

@@ -32,8 +32,6 @@ use Rattle.schemas.specs.Laws.Entries.{entry-bytes, lookup, FoundIn, found_in}
 use Rattle.schemas.specs.declared.kinds.SectionKind.TheVariants.{Entities, Actions, Functions}
 use Rattle.schemas.specs.declared.sections.Section.{Section}
 use Rattle.schemas.specs.declared.sections.Sections.{Sections}
-use Rattle.schemas.specs.declared.whole.Checked.{Checked}
-use Rattle.schemas.specs.declared.whole.Checked.TheVariants as checks
 use Rattle.schemas.specs.declared.entries.Key.TheVariants.{Name, Uid}
 use Rattle.schemas.specs.declared.entries.Signature.{Signature}
 
@@ -52,10 +50,10 @@ returns-says true e = refl
 returns-says false e = refl
 
 -- Checking a schema keeps it.
-pub kept : (l : LimitsStruct) (b : List ℕ) (y : Checked) → y ≡ checked l b → (x : Sections) → y ≡ checks.Whole x → Sectioned b x × (x.limits ≡ l)
+pub kept : (l : LimitsStruct) (b : List ℕ) (x : Sections) → checked l b ≡ Some x → Sectioned b x × (x.limits ≡ l)
 unfolding sections_of
-kept l b y q x h =
-    let t = checked-whole l b y q x h in
+kept l b x h =
+    let t = checked-whole l b x h in
     let own : x.limits ≡ l = ap (λ (z : Sections). z.limits) t.2 in (
       record {
         fair = ap (λ (m : LimitsStruct). allowed (as_limits m)) own ∙ t.0;

@@ -11,7 +11,7 @@ use Rattle.cedar.specs.Levels.{depth}
 use Rattle.cedar.specs.Bytes.{guard}
 use Rattle.cedar.specs.Limits.{Limits, allowed}
 use Rattle.cedar.specs.Whole.{whole_schema, whole_type}
-use Rattle.cedar.specs.Result.{bad_limits, bad_schema, bad_first}
+use Rattle.cedar.specs.Result.{bad_limits, bad_schema, bad_first, Result, ok, err}
 use Rattle.cedar.specs.Attribute.{own_attr}
 use Rattle.cedar.specs.Conformance.{Counts}
 use Rattle.cedar.specs.Conforms.{Conforms}
@@ -23,51 +23,51 @@ use Rattle.cedar.proofs.Laws.Levels.{Told}
 use Rattle.validator.specs.Answers.{answer_of, Answered, AnsweredIn}
 use Rattle.validator.specs.Handed.{told_of, Handed}
 use Rattle.validator.specs.declared.answers.Answer.{Answer}
-use Rattle.validator.specs.declared.answers.Answer.TheVariants.{Refused, Yes, No, Nothing, Measured, Typed, Attribute, Named}
+use Rattle.validator.specs.declared.answers.Answer.TheVariants.{Yes, No, Nothing, Measured, Typed, Attribute, Named}
 
 -- What a caller copies, by the answer that it sees: after `Typed n d` the first n bytes of its buffer, else nothing.
-abbrev pub copies : Answer → List ℕ → Option (List ℕ)
-copies (Refused n) after = none
-copies Yes after = none
-copies No after = none
-copies Nothing after = none
-copies (Measured n d) after = none
-copies (Typed n d) after = some (take n after)
-copies (Attribute r n d) after = none
-copies (Named n) after = none
+abbrev pub copies : Result Answer → List ℕ → Option (List ℕ)
+copies (err n) after = none
+copies (ok Yes) after = none
+copies (ok No) after = none
+copies (ok Nothing) after = none
+copies (ok (Measured n d)) after = none
+copies (ok (Typed n d)) after = some (take n after)
+copies (ok (Attribute r n d)) after = none
+copies (ok (Named n)) after = none
 
 apart : {C : Type 0} → ◌≡◌ {A = ℕ} 0 1 → C
 apart e = absurd (omega arith)
 
 -- What a call wrote is what the caller copies.
-written-copies : (o : Outcome) (before after : List ℕ) (r : Answer) → Answered o before after r → written o ≡ copies r after
-written-copies (refused n) before after r h = sym (ap (λ (z : Answer). copies z after) h.answer)
-written-copies (said true) before after r h = sym (ap (λ (z : Answer). copies z after) h.answer)
-written-copies (said false) before after r h = sym (ap (λ (z : Answer). copies z after) h.answer)
-written-copies nothing before after r h = sym (ap (λ (z : Answer). copies z after) h.answer)
-written-copies (measured n l) before after r h = sym (ap (λ (z : Answer). copies z after) h.answer)
+written-copies : (o : Outcome) (before after : List ℕ) (r : Result Answer) → Answered o before after r → written o ≡ copies r after
+written-copies (refused n) before after r h = sym (ap (λ (z : Result Answer). copies z after) h.answer)
+written-copies (said true) before after r h = sym (ap (λ (z : Result Answer). copies z after) h.answer)
+written-copies (said false) before after r h = sym (ap (λ (z : Result Answer). copies z after) h.answer)
+written-copies nothing before after r h = sym (ap (λ (z : Result Answer). copies z after) h.answer)
+written-copies (measured n l) before after r h = sym (ap (λ (z : Result Answer). copies z after) h.answer)
 written-copies (typed t) before after r h =
-    sym (ap (λ (z : Answer). copies z after) h.answer ∙ ap (λ (l : List ℕ). some (take (length (enc t)) l)) h.result ∙
+    sym (ap (λ (z : Result Answer). copies z after) h.answer ∙ ap (λ (l : List ℕ). some (take (length (enc t)) l)) h.result ∙
     ap (λ (l : List ℕ). some l) (take-append_seam (enc t) _))
-written-copies (attribute q t) before after r h = sym (ap (λ (z : Answer). copies z after) h.answer)
-written-copies (named ns) before after r h = sym (ap (λ (z : Answer). copies z after) h.answer)
+written-copies (attribute q t) before after r h = sym (ap (λ (z : Result Answer). copies z after) h.answer)
+written-copies (named ns) before after r h = sym (ap (λ (z : Result Answer). copies z after) h.answer)
 
-module _ (lim : Limits) (mode : ℕ) (schema t₀ t₁ before after : List ℕ) (r : Answer)
+module _ (lim : Limits) (mode : ℕ) (schema t₀ t₁ before after : List ℕ) (r : Result Answer)
     (h : Answered (bound_call lim mode schema t₀ t₁ (length before)) before after r) where
   -- Bound: what the theorem's run copies is what the caller copies:
   pub bound-copies : written (bound_call lim mode schema t₀ t₁ (length before)) ≡ copies r after
   bound-copies = written-copies (bound_call lim mode schema t₀ t₁ (length before)) before after r h
 
   -- after `Typed n d`, the first n bytes of the buffer;
-  pub bound-typed : (n d : ℕ) → r ≡ Typed n d → written (bound_call lim mode schema t₀ t₁ (length before)) ≡ some (take n after)
-  bound-typed n d e = bound-copies ∙ ap (λ (z : Answer). copies z after) e
+  pub bound-typed : (n d : ℕ) → r ≡ ok (Typed n d) → written (bound_call lim mode schema t₀ t₁ (length before)) ≡ some (take n after)
+  bound-typed n d e = bound-copies ∙ ap (λ (z : Result Answer). copies z after) e
 
   -- after a refusal, nothing.
-  pub bound-refused : (n : ℕ) → r ≡ Refused n → written (bound_call lim mode schema t₀ t₁ (length before)) ≡ none
-  bound-refused n e = bound-copies ∙ ap (λ (z : Answer). copies z after) e
+  pub bound-refused : (n : ℕ) → r ≡ err n → written (bound_call lim mode schema t₀ t₁ (length before)) ≡ none
+  bound-refused n e = bound-copies ∙ ap (λ (z : Result Answer). copies z after) e
 
 -- `Attribute q n d` is an attribute of that flag, its type's length and levels.
-attribute-seen : {C : Type 0} (o : Outcome) (q : Bool) (n d : ℕ) → answer_of o ≡ Attribute q n d →
+attribute-seen : {C : Type 0} (o : Outcome) (q : Bool) (n d : ℕ) → answer_of o ≡ ok (Attribute q n d) →
     ((y : Ty) → o ≡ attribute q y → length (enc y) ≡ n → depth y ≡ d → C) → C
 attribute-seen (refused m) q n d e k = apart (cc)
 attribute-seen (said true) q n d e k = apart (cc)
@@ -79,7 +79,7 @@ attribute-seen (attribute p t) q n d e k = k t (cc) (cc) (cc)
 attribute-seen (named ns) q n d e k = apart (cc)
 
 -- `Typed n d` is a type's length and levels.
-typed-seen : {C : Type 0} (o : Outcome) (n d : ℕ) → answer_of o ≡ Typed n d → ((y : Ty) → o ≡ typed y → length (enc y) ≡ n → depth y ≡ d → C) → C
+typed-seen : {C : Type 0} (o : Outcome) (n d : ℕ) → answer_of o ≡ ok (Typed n d) → ((y : Ty) → o ≡ typed y → length (enc y) ≡ n → depth y ≡ d → C) → C
 typed-seen (refused m) n d e k = apart (cc)
 typed-seen (said true) n d e k = apart (cc)
 typed-seen (said false) n d e k = apart (cc)
@@ -96,20 +96,20 @@ front-measured lim o y b l told before after f n d p q =
     let w : take n after ≡ bytes_of o = rw (f, ← p, ← b) (take-append_seam (bytes_of o) _) in
     ap (measure_type_call lim) w ∙ told (omega (arith, l, depth_pos y)) ∙ ap₂ measured (ap length b ∙ p) (l ∙ q)
 
-module _ (lim : Limits) (o : Outcome) (told : Told lim o) (before after : List ℕ) (r : Answer) (h : Answered o before after r) where
+module _ (lim : Limits) (o : Outcome) (told : Told lim o) (before after : List ℕ) (r : Result Answer) (h : Answered o before after r) where
   -- After `Typed n d`, measuring the first n bytes of the buffer tells n and d;
-  pub typed-measured : (n d : ℕ) → r ≡ Typed n d → measure_type_call lim (take n after) ≡ measured n d
+  pub typed-measured : (n d : ℕ) → r ≡ ok (Typed n d) → measure_type_call lim (take n after) ≡ measured n d
   typed-measured n d e =
       typed-seen o n d (sym h.answer ∙ e) λ y p i j. front-measured lim o y (ap bytes_of p) (ap levels_of p) told before after h.result n d i j
 
   -- so it does after `Attribute q n d`.
-  pub attribute-measured : (q : Bool) (n d : ℕ) → r ≡ Attribute q n d → measure_type_call lim (take n after) ≡ measured n d
+  pub attribute-measured : (q : Bool) (n d : ℕ) → r ≡ ok (Attribute q n d) → measure_type_call lim (take n after) ≡ measured n d
   attribute-measured q n d e =
       attribute-seen o q n d (sym h.answer ∙ e) λ y p i j. front-measured lim o y (ap bytes_of p) (ap levels_of p) told before after h.result n d i j
 
 -- Lookup: after `Attribute q n d`, the first n bytes of the buffer are the form of a type that is looked up, with the flag q.
-pub lookup-finds : (lim : Limits) (schema : List ℕ) (a : ℕ) (t before after work work_after : List ℕ) (r : Answer) (q : Bool) (n d : ℕ)
-    → AnsweredIn (lookup_call lim schema a t (length before) (length work)) before after work work_after r → r ≡ Attribute q n d
+pub lookup-finds : (lim : Limits) (schema : List ℕ) (a : ℕ) (t before after work work_after : List ℕ) (r : Result Answer) (q : Bool) (n d : ℕ)
+    → AnsweredIn (lookup_call lim schema a t (length before) (length work)) before after work work_after r → r ≡ ok (Attribute q n d)
     → (y : Ty) × LooksUp lim schema a t q y × (enc y ≡ take n after)
 lookup-finds lim schema a t before after work work_after r q n d h e =
     attribute-seen (lookup_call lim schema a t (length before) (length work)) q n d (sym h.answer ∙ e) λ y p l _.
@@ -166,7 +166,7 @@ module _ (lim : Limits) (schema : List ℕ) (a : ℕ) (t : List ℕ) (place : Op
   pub part-optional : told ≡ 111 → (y : Ty) × LooksUp lim schema a t false y × (enc y ≡ part.now)
   part-optional e = part-finds false e
 
-yes-said : (o : Outcome) → answer_of o ≡ Yes → o ≡ said true
+yes-said : (o : Outcome) → answer_of o ≡ ok Yes → o ≡ said true
 yes-said (refused m) e = apart (cc)
 yes-said (said true) e = refl
 yes-said (said false) e = apart (cc)
@@ -176,7 +176,7 @@ yes-said (typed t) e = apart (cc)
 yes-said (attribute p t) e = apart (cc)
 yes-said (named ns) e = apart (cc)
 
-no-said : (o : Outcome) → answer_of o ≡ No → o ≡ said false
+no-said : (o : Outcome) → answer_of o ≡ ok No → o ≡ said false
 no-said (refused m) e = apart (cc)
 no-said (said true) e = apart (cc)
 no-said (said false) e = refl
@@ -187,15 +187,15 @@ no-said (attribute p t) e = apart (cc)
 no-said (named ns) e = apart (cc)
 
 -- Disjoint: Yes is its yes.
-pub disjoint-yes : (lim : Limits) (t₀ t₁ : List ℕ) (r : Answer) → r ≡ answer_of (disjoint_call lim t₀ t₁) → (r ≡ Yes) ↔ (disjoint_call lim t₀ t₁ ≡ said true)
+pub disjoint-yes : (lim : Limits) (t₀ t₁ : List ℕ) (r : Result Answer) → r ≡ answer_of (disjoint_call lim t₀ t₁) → (r ≡ ok Yes) ↔ (disjoint_call lim t₀ t₁ ≡ said true)
 disjoint-yes lim t₀ t₁ r h = ((λ e. yes-said (disjoint_call lim t₀ t₁) (sym h ∙ e)), (λ e. h ∙ ap answer_of e))
 
 -- May-have: No is its no.
-pub may-have-no : (lim : Limits) (schema : List ℕ) (a : ℕ) (t : List ℕ) (r : Answer) → r ≡ answer_of (may_have_call lim schema a t) →
-    (r ≡ No) ↔ (may_have_call lim schema a t ≡ said false)
+pub may-have-no : (lim : Limits) (schema : List ℕ) (a : ℕ) (t : List ℕ) (r : Result Answer) → r ≡ answer_of (may_have_call lim schema a t) →
+    (r ≡ ok No) ↔ (may_have_call lim schema a t ≡ said false)
 may-have-no lim schema a t r h = ((λ e. no-said (may_have_call lim schema a t) (sym h ∙ e)), (λ e. h ∙ ap answer_of e))
 
 -- Conformance, by either rule on counts: Yes is conforming.
-pub conforms-said : (rule : Counts) (lim : Limits) (schema t v : List ℕ) (r : Answer) → r ≡ answer_of (conforms_by rule lim schema t v) →
-    (r ≡ Yes) ↔ Conforms lim rule schema t v
+pub conforms-said : (rule : Counts) (lim : Limits) (schema t v : List ℕ) (r : Result Answer) → r ≡ answer_of (conforms_by rule lim schema t v) →
+    (r ≡ ok Yes) ↔ Conforms lim rule schema t v
 conforms-said rule lim schema t v r h = ((λ e. yes-said (conforms_by rule lim schema t v) (sym h ∙ e)), (λ c. h ∙ ap answer_of c))

@@ -5,6 +5,7 @@ use Rattle.std.proofs.Common.{sym, ap, ◌∙◌}
 use Rattle.std.proofs.Math.Option.{some}
 use Rattle.cedar.specs.Types.{mem}
 use Rattle.cedar.specs.Bytes.{Bytes}
+use Rattle.cedar.specs.Result.{Result}
 use Rattle.cedar.specs.Limits.{Limits}
 use Rattle.cedar.specs.Conformance.{Counts}
 use Rattle.cedar.specs.Conforms.{Conforms}
@@ -24,7 +25,7 @@ pub record Called (lim : Limits) (schema : List ℕ) (xs : List Listed) (c : Ste
   pub second_at : standing xs c.right ≡ some second
   pub before : List ℕ
   pub after : List ℕ
-  pub told : Answer
+  pub told : Result Answer
   pub roomy : length before ≡ c.room
   pub contract : Answered (bound_call lim c.mode schema first.form second.form (length before)) before after told
 

@@ -4,6 +4,7 @@ use Rattle.std.proofs.Common.{ap, sym, ◌∙◌}
 use Rattle.std.proofs.Math.Option.{none, some}
 use Rattle.std.proofs.lemmas.Bool.{not-true, not-false}
 use Rattle.cedar.specs.Types.{Ty, Value, Schema}
+use Rattle.cedar.specs.Result.{Result, ok, err}
 use Rattle.cedar.specs.Limits.{Limits, allowed}
 use Rattle.cedar.specs.Whole.{whole_schema, whole_type, whole_value}
 use Rattle.cedar.specs.Text.{textual}
@@ -14,14 +15,14 @@ use Rattle.conformance.specs.declared.verdicts.Verdict.TheVariants.{Holds, Fails
 use Rattle.conformance.specs.Verdicts.{verdict_of}
 use Rattle.validator.specs.Answers.{answer_of}
 use Rattle.validator.specs.declared.answers.Answer.{Answer}
-use Rattle.validator.specs.declared.answers.Answer.TheVariants.{Refused, Yes, No}
+use Rattle.validator.specs.declared.answers.Answer.TheVariants.{Yes, No}
 
 -- The answer of each verdict.
-abbrev pub answer_to : Verdict → Answer
-answer_to Holds = Yes
-answer_to Fails = No
-answer_to FailsInside = No
-answer_to Unknown = Refused 7
+abbrev pub answer_to : Verdict → Result Answer
+answer_to Holds = ok Yes
+answer_to Fails = ok No
+answer_to FailsInside = ok No
+answer_to Unknown = err 7
 
 answered : (d : Said) → answer_to (verdict_of d) ≡ answer_of (of_verdict d)
 answered holds = refl
@@ -30,19 +31,19 @@ answered fails_inside = refl
 answered unknown = refl
 
 module _ (rule : Counts) (lim : Limits) (fair : allowed lim ≡ true) (schema t v : List ℕ) where
-  pub conforms-no-schema : whole_schema lim schema ≡ none → Refused 2 ≡ answer_of (conforms_by rule lim schema t v)
+  pub conforms-no-schema : whole_schema lim schema ≡ none → err 2 ≡ answer_of (conforms_by rule lim schema t v)
   conforms-no-schema e = rw (fair, e) refl
 
   module _ (s : Schema) (e : whole_schema lim schema ≡ some s) where
-    pub conforms-no-type : whole_type lim t ≡ none → Refused 3 ≡ answer_of (conforms_by rule lim schema t v)
+    pub conforms-no-type : whole_type lim t ≡ none → err 3 ≡ answer_of (conforms_by rule lim schema t v)
     conforms-no-type f = rw (fair, e, f) refl
 
     module _ (a : Ty) (f : whole_type lim t ≡ some a) where
-      pub conforms-no-value : whole_value lim v ≡ none → Refused 5 ≡ answer_of (conforms_by rule lim schema t v)
+      pub conforms-no-value : whole_value lim v ≡ none → err 5 ≡ answer_of (conforms_by rule lim schema t v)
       conforms-no-value g = rw (fair, e, f, g) refl
 
       module _ (x : Value) (g : whole_value lim v ≡ some x) where
-        pub conforms-no-text : (r : Bool) → r ≡ textual x → not r ≡ true → Refused 17 ≡ answer_of (conforms_by rule lim schema t v)
+        pub conforms-no-text : (r : Bool) → r ≡ textual x → not r ≡ true → err 17 ≡ answer_of (conforms_by rule lim schema t v)
         conforms-no-text r q n = let h : textual x ≡ false = sym q ∙ not-true r n in rw (fair, e, f, g, h) refl
 
         -- The walk's verdict.

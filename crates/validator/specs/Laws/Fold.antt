@@ -7,7 +7,7 @@ use Rattle.cedar.specs.Types.{Mode, Ty, Schema, present}
 use Rattle.cedar.specs.Levels.{depth}
 use Rattle.cedar.specs.TypeForm.{enc}
 use Rattle.cedar.specs.Limits.{Limits, allowed, block_bytes}
-use Rattle.cedar.specs.Result.{Result}
+use Rattle.cedar.specs.Result.{Result, ok, err}
 use Rattle.cedar.specs.Whole.{whole_schema, whole_list}
 use Rattle.cedar.specs.Outcome.{Outcome, refused, typed, over}
 use Rattle.cedar.specs.Fold.{fold_types}
@@ -22,7 +22,7 @@ use Rattle.forms.specs.Laws.Lists.{whole-list-twin}
 use Rattle.forms.specs.Refusals.{number_of}
 use Rattle.forms.specs.declared.refusals.Refusal.{Refusal as Reason}
 use Rattle.folds.specs.Lists.{Opened, FoldsTo}
-use Rattle.validator.specs.declared.answers.Answer.TheVariants.{Refused, Typed}
+use Rattle.validator.specs.declared.answers.Answer.TheVariants.{Typed}
 use Rattle.validator.specs.Answers.{Answered}
 use Rattle.validator.specs.Laws.Writing.{refuses}
 
@@ -87,15 +87,15 @@ module _ (lim : Limits) (fair : allowed lim ≡ true) (mode : ℕ) (s list o : L
   abbrev outcome : Outcome
   outcome = fold_call lim mode s list (length o) work
 
-  pub fold-mode : mode_of mode ≡ none → Answered outcome o o (Refused 1)
+  pub fold-mode : mode_of mode ≡ none → Answered outcome o o (err 1)
   fold-mode e = refuses 1 (rw (fair, e) refl)
 
   module _ (m : Mode) (em : mode_of mode ≡ some m) where
-    pub fold-schema : whole_schema lim s ≡ none → Answered outcome o o (Refused 2)
+    pub fold-schema : whole_schema lim s ≡ none → Answered outcome o o (err 2)
     fold-schema e = refuses 2 (rw (fair, em, e) refl)
 
     module _ (x : Schema) (es : whole_schema lim s ≡ some x) where
-      pub fold-list : whole_list lim list ≡ none → Answered outcome o o (Refused 3)
+      pub fold-list : whole_list lim list ≡ none → Answered outcome o o (err 3)
       fold-list e = refuses 3 (rw (fair, em, es, e) refl)
 
       module _ (el : whole_list lim list ≡ some (list_of lim.levels list)) where
@@ -105,12 +105,12 @@ module _ (lim : Limits) (fair : allowed lim ≡ true) (mode : ℕ) (s list o : L
         goes_on : outcome ≡ write_type lim (length o) folded
         goes_on = rw (fair, em, es, el) refl
 
-        pub fold-refused : (e : ℕ) → write_type lim (length o) folded ≡ refused e → Answered outcome o o (Refused e)
+        pub fold-refused : (e : ℕ) → write_type lim (length o) folded ≡ refused e → Answered outcome o o (err e)
         fold-refused e q = refuses e (goes_on ∙ q)
 
         pub fold-writes : (n : ℕ) (last : List ℕ) → write_type lim (length o) folded ≡ typed (dec lim.levels (part 0 n last)) →
             enc (dec lim.levels (part 0 n last)) ≡ part 0 n last → length (enc (dec lim.levels (part 0 n last))) ≡ n →
-            (xs : List ℕ) → xs ≡ over (part 0 n last) o → (d : ℕ) → d ≡ depth (dec lim.levels (part 0 n last)) → Answered outcome o xs (Typed n d)
+            (xs : List ℕ) → xs ≡ over (part 0 n last) o → (d : ℕ) → d ≡ depth (dec lim.levels (part 0 n last)) → Answered outcome o xs (ok (Typed n d))
         fold-writes n last q exact l xs w d p =
-            subst (λ (z : Outcome). Answered z o xs (Typed n d)) (sym (goes_on ∙ q))
-            record { answer = ap₂ Typed (sym l) p; result = w ∙ ap (λ (z : List ℕ). over z o) (sym exact) }
+            subst (λ (z : Outcome). Answered z o xs (ok (Typed n d))) (sym (goes_on ∙ q))
+            record { answer = ap ok (ap₂ Typed (sym l) p); result = w ∙ ap (λ (z : List ℕ). over z o) (sym exact) }

@@ -18,7 +18,7 @@ use Rattle.forms.specs.Laws.Parts.{length_part}
 use Rattle.lookups.specs.declared.lookup_attribute_type.Looked.{Looked}
 use Rattle.lookups.specs.declared.lookup_attribute_type.TooLong.{TooLong}
 use Rattle.lookups.specs.Lookup.{LookedUp}
-use Rattle.validator.specs.declared.answers.Answer.TheVariants.{Refused, Nothing, Attribute}
+use Rattle.validator.specs.declared.answers.Answer.TheVariants.{Nothing, Attribute}
 use Rattle.validator.specs.Answers.{Answered}
 use Rattle.validator.specs.Laws.Writing.{refuses}
 
@@ -26,11 +26,11 @@ module _ (lim : Limits) (fair : allowed lim ≡ true) (schema : List ℕ) (a : �
   abbrev outcome : Outcome
   outcome = lookup_call lim schema a t (length o) work
 
-  pub lookup-no-schema : whole_schema lim schema ≡ none → Answered outcome o o (Refused 2)
+  pub lookup-no-schema : whole_schema lim schema ≡ none → Answered outcome o o (err 2)
   lookup-no-schema e = refuses 2 (rw (fair, e) refl)
 
   module _ (s : Schema) (f : whole_schema lim schema ≡ some s) where
-    pub lookup-no-type : whole_type lim t ≡ none → Answered outcome o o (Refused 3)
+    pub lookup-no-type : whole_type lim t ≡ none → Answered outcome o o (err 3)
     lookup-no-type e = refuses 3 (rw (fair, f, e) refl)
 
     module _ (u : Ty) (g : whole_type lim t ≡ some u) (last : List ℕ) (r : Outcome' (Maybe Looked) TooLong) (h : LookedUp lim (lookup (step_fits lim work) s a u) last r) where
@@ -43,11 +43,11 @@ module _ (lim : Limits) (fair : allowed lim ≡ true) (schema : List ℕ) (a : �
       comes-to : (y : Result (Option (Bool × Ty))) → lookup (step_fits lim work) s a u ≡ y → outcome ≡ write_attribute lim (length o) y
       comes-to y e = goes_on ∙ ap (write_attribute lim (length o)) e
 
-      pub lookup-nothing : r ≡ Ok None → Answered outcome o o Nothing
+      pub lookup-nothing : r ≡ Ok None → Answered outcome o o (ok Nothing)
       lookup-nothing e =
-          subst (λ (c : Outcome). Answered c o o Nothing) (sym (comes-to (ok none) (ends (Ok None) e))) record { answer = refl; result = refl }
+          subst (λ (c : Outcome). Answered c o o (ok Nothing)) (sym (comes-to (ok none) (ends (Ok None) e))) record { answer = refl; result = refl }
 
-      pub lookup-too-long : (x : TooLong) → r ≡ Err x → Answered outcome o o (Refused 9)
+      pub lookup-too-long : (x : TooLong) → r ≡ Err x → Answered outcome o o (err 9)
       lookup-too-long x e = refuses 9 (comes-to (err 9) (ends (Err x) e))
 
       module _ (x : Looked) (e : r ≡ Ok (Some x)) (full : lim.bytes ≤ length last) where
@@ -68,7 +68,7 @@ module _ (lim : Limits) (fair : allowed lim ≡ true) (schema : List ℕ) (a : �
         fits-as y f = ap (λ (k : ℕ). leb k (min (length o) lim.bytes)) (ap length exact ∙ sized) ∙ sym f
 
         module _ (y : Bool) (fits : y ≡ leb x.bytes (min (length o) lim.bytes)) where
-          pub lookup-over : not y ≡ true → Answered outcome o o (Refused 10)
+          pub lookup-over : not y ≡ true → Answered outcome o o (err 10)
           lookup-over k = refuses 10 (comes-to (ok (some (x.required, dec (lim.levels - 1) (part 0 x.bytes last)))) (ends (Ok (Some x)) e).0 ∙ rw
               (fits-as y fits, not-true y k) refl)
 
@@ -77,10 +77,10 @@ module _ (lim : Limits) (fair : allowed lim ≡ true) (schema : List ℕ) (a : �
             lookup-room = omega (arith, sized, leb-true x.bytes (min (length o) lim.bytes) (sym fits ∙ not-false y k))
 
             pub lookup-writes : (xs : List ℕ) → xs ≡ over (part 0 x.bytes last) o → (d : ℕ) → d ≡ depth (dec (lim.levels - 1) (part 0 x.bytes last)) →
-                Answered outcome o xs (Attribute x.required x.bytes d)
+                Answered outcome o xs (ok (Attribute x.required x.bytes d))
             lookup-writes xs w d p =
                 let c : outcome ≡ attribute x.required (dec (lim.levels - 1) (part 0 x.bytes last)) = comes-to (ok (some (x.required, dec (lim.levels - 1) (part 0 x.bytes last))))
                 (ends (Ok (Some x)) e).0 ∙
                 rw (fits-as y fits, not-false y k) refl in
-                subst (λ (z : Outcome). Answered z o xs (Attribute x.required x.bytes d)) (sym c)
-                record { answer = ap₂ (Attribute x.required) (sym (ap length exact ∙ sized)) p; result = w ∙ ap (λ (z : List ℕ). over z o) (sym exact) }
+                subst (λ (z : Outcome). Answered z o xs (ok (Attribute x.required x.bytes d))) (sym c)
+                record { answer = ap ok (ap₂ (Attribute x.required) (sym (ap length exact ∙ sized)) p); result = w ∙ ap (λ (z : List ℕ). over z o) (sym exact) }

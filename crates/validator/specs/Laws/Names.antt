@@ -16,7 +16,7 @@ use Rattle.writing.specs.Written.{Written}
 use Rattle.lookups.specs.declared.lookup_attribute_type.TooLong.{TooLong}
 use Rattle.lookups.specs.Names.{NamedBy}
 use Rattle.writing.specs.Laws.Writing.{over-front}
-use Rattle.validator.specs.declared.answers.Answer.TheVariants.{Refused, Named}
+use Rattle.validator.specs.declared.answers.Answer.TheVariants.{Named}
 use Rattle.validator.specs.Answers.{Answered}
 use Rattle.validator.specs.Laws.Writing.{refuses}
 
@@ -24,11 +24,11 @@ module _ (lim : Limits) (fair : allowed lim ≡ true) (schema t o : List ℕ) (w
   abbrev outcome : Outcome
   outcome = names_call lim schema t (length o) work
 
-  pub names-no-schema : whole_schema lim schema ≡ none → Answered outcome o o (Refused 2)
+  pub names-no-schema : whole_schema lim schema ≡ none → Answered outcome o o (err 2)
   names-no-schema e = refuses 2 (rw (fair, e) refl)
 
   module _ (s : Schema) (f : whole_schema lim schema ≡ some s) where
-    pub names-no-type : whole_type lim t ≡ none → Answered outcome o o (Refused 3)
+    pub names-no-type : whole_type lim t ≡ none → Answered outcome o o (err 3)
     names-no-type e = refuses 3 (rw (fair, f, e) refl)
 
     module _ (u : Ty) (g : whole_type lim t ≡ some u) (before kept : List ℕ) (r : Outcome' ℕ TooLong) (h : NamedBy (all_names (step_fits lim work) s u) before kept r)
@@ -39,7 +39,7 @@ module _ (lim : Limits) (fair : allowed lim ≡ true) (schema t o : List ℕ) (w
         comes-to : (y : Result (List ℕ)) → all_names (step_fits lim work) s u ≡ y → outcome ≡ write_names lim (length o) y
         comes-to y e = rw (fair, f, g) (ap (write_names lim (length o)) e)
 
-        pub names-too-long : (x : TooLong) → r ≡ Err x → Answered outcome o o (Refused 9)
+        pub names-too-long : (x : TooLong) → r ≡ Err x → Answered outcome o o (err 9)
         names-too-long x e = refuses 9 (comes-to (err 9) (ends (Err x) e))
 
         module _ (n : ℕ) (e : r ≡ Ok n) where
@@ -57,7 +57,7 @@ module _ (lim : Limits) (fair : allowed lim ≡ true) (schema t o : List ℕ) (w
           fits-as y f = ap (λ (k : ℕ). leb k (min (length o) lim.bytes)) (sym told.1.many) ∙ sym f
 
           module _ (y : Bool) (fits : y ≡ leb n (min (length o) lim.bytes)) where
-            pub names-over : not y ≡ true → Answered outcome o o (Refused 10)
+            pub names-over : not y ≡ true → Answered outcome o o (err 10)
             names-over k = refuses 10 (comes-to (ok all) told.0 ∙ rw (fits-as y fits, not-true y k) refl)
 
             module _ (k : not y ≡ false) where
@@ -67,8 +67,8 @@ module _ (lim : Limits) (fair : allowed lim ≡ true) (schema t o : List ℕ) (w
               pub names-fit : length (part 0 n kept) ≤ length o
               names-fit = omega (arith, names-small, ap length names-form, told.1.many)
 
-              pub names-write : (xs : List ℕ) → xs ≡ over (part 0 n kept) o → Answered outcome o xs (Named n)
+              pub names-write : (xs : List ℕ) → xs ≡ over (part 0 n kept) o → Answered outcome o xs (ok (Named n))
               names-write xs w =
                   let c : outcome ≡ named all = comes-to (ok all) told.0 ∙ rw (fits-as y fits, not-false y k) refl in
-                  subst (λ (z : Outcome). Answered z o xs (Named n)) (sym c)
-                  record { answer = ap Named told.1.many; result = w ∙ ap (λ (z : List ℕ). over z o) names-form }
+                  subst (λ (z : Outcome). Answered z o xs (ok (Named n))) (sym c)
+                  record { answer = ap ok (ap Named told.1.many); result = w ∙ ap (λ (z : List ℕ). over z o) names-form }

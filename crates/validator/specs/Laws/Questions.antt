@@ -6,7 +6,7 @@ use Rattle.std.proofs.lemmas.Bool.{not-true, not-false}
 use Rattle.cedar.specs.Types.{present}
 use Rattle.cedar.specs.Bytes.{guard}
 use Rattle.cedar.specs.Limits.{Limits, allowed}
-use Rattle.cedar.specs.Result.{bad_limits}
+use Rattle.cedar.specs.Result.{bad_limits, Result, err}
 use Rattle.cedar.specs.Whole.{whole_type}
 use Rattle.cedar.specs.Outcome.{Outcome}
 use Rattle.cedar.specs.Calls.{ask}
@@ -17,14 +17,13 @@ use Rattle.forms.specs.Laws.Sure.{sure-present, sure-yes}
 use Rattle.forms.specs.Laws.TypeTwin.{whole-type-twin}
 use Rattle.validator.specs.Answers.{answer_of}
 use Rattle.validator.specs.declared.answers.Answer.{Answer}
-use Rattle.validator.specs.declared.answers.Answer.TheVariants.{Refused}
 
 -- A question whose answer is missing refuses; else the call goes on.
 module _ {A : Type 0} (n : ℕ) {o : Option A} (k : A → Outcome) where
-  pub ask-no : o ≡ none → Refused n ≡ answer_of (ask n o k)
+  pub ask-no : o ≡ none → err n ≡ answer_of (ask n o k)
   ask-no e = sym (ap (λ (z : Option A). answer_of (ask n z k)) e)
 
-  pub ask-on : {a : A} → o ≡ some a → {r : Answer} → r ≡ answer_of (k a) → r ≡ answer_of (ask n o k)
+  pub ask-on : {a : A} → o ≡ some a → {r : Result Answer} → r ≡ answer_of (k a) → r ≡ answer_of (ask n o k)
   ask-on e q = q ∙ sym (ap (λ (z : Option A). answer_of (ask n z k)) e)
 
 -- A question that a test has answered.
@@ -47,7 +46,7 @@ pub guard-yes : (b r : Bool) → r ≡ b → not r ≡ false → guard b ≡ som
 guard-yes b r q h = ap guard (sym q ∙ not-false r h)
 
 -- Under limits that are allowed a call goes on.
-pub within-limits : (lim : Limits) → allowed lim ≡ true → (o : Outcome) {r : Answer} → r ≡ answer_of o →
+pub within-limits : (lim : Limits) → allowed lim ≡ true → (o : Outcome) {r : Result Answer} → r ≡ answer_of o →
     r ≡ answer_of (ask bad_limits (guard (allowed lim)) (λ _. o))
 within-limits lim fair o q = ask-on bad_limits {o = guard (allowed lim)} (λ (_ : Unit {0}). o) (ap guard fair) q
 

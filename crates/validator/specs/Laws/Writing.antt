@@ -1,6 +1,6 @@
 -- The answer of a call that writes a type, by the length that its length pass told and the levels of what was written. Assumes nothing.
-use Rattle.std.specs.Prelude.{◌≡◌, refl, List, Bool, true, false, not, ℕ, ◌≤◌, min, leb, length, drop}
-use Rattle.std.proofs.Common.{ap, ap₂, sym, ◌∙◌, arith, length-append, leb-true, leb-false, le-leb}
+use Rattle.std.specs.Prelude.{◌≡◌, refl, List, Bool, true, false, not, ℕ, ◌≤◌, min, leb, length, drop, Result as Outcome', IsErrAnd}
+use Rattle.std.proofs.Common.{ap, ap₂, sym, subst, ◌∙◌, arith, length-append, leb-true, leb-false, le-leb}
 use Rattle.std.proofs.Math.Option.{Option, none, some}
 use Rattle.std.proofs.lemmas.Bool.{lt-leb, not-true, not-false}
 use Rattle.cedar.specs.Types.{Ty, present}
@@ -14,15 +14,18 @@ use Rattle.cedar.specs.Calls.{write_type}
 use Rattle.cedar.specs.Laws.Shape.{WF}
 use Rattle.cedar.proofs.Laws.TypeForm.{parse-reads}
 use Rattle.forms.specs.Parts.{part}
+use Rattle.forms.specs.Refusals.{number_of}
+use Rattle.forms.specs.declared.refusals.Refusal.{Refusal}
 use Rattle.forms.specs.TypeBytes.{whole, dec}
 use Rattle.forms.specs.Laws.Parts.{and_r}
 use Rattle.forms.specs.Laws.Sure.{sure-present, sure-yes, sure-some}
 use Rattle.forms.specs.Laws.TypeTwin.{type-twin, whole-type-twin}
 use Rattle.writing.specs.Written.{Written}
-use Rattle.writing.specs.FormLengths.{cap, form_length_of, form_of, Ready}
-use Rattle.writing.specs.Laws.FormLengths.{of-ok, not_err, exact, ready}
+use Rattle.writing.specs.FormLengths.{seen, cap, form_length_of, form_of, Ready}
+use Rattle.writing.specs.Laws.FormLengths.{seen-err, of-ok, not_err, exact, ready}
 use Rattle.writing.specs.Laws.Writing.{over-front}
-use Rattle.validator.specs.declared.answers.Answer.TheVariants.{Refused, Typed}
+use Rattle.validator.specs.declared.answers.Answer.{Answer}
+use Rattle.validator.specs.declared.answers.Answer.TheVariants.{Typed}
 use Rattle.validator.specs.Answers.{Answered}
 
 -- Whether a type is whole, as the code asks it.
@@ -41,8 +44,13 @@ module _ (lim : Limits) (b : List ℕ) (r : Bool) (told : r ≡ present (whole_t
       go (some t) e = absurd (let z : ◌≡◌ {A = ℕ} 0 1 = cc in omega arith)
 
 -- A refusal leaves the buffer as it was.
-pub refuses : {c : Outcome} {o : List ℕ} (n : ℕ) → c ≡ refused n → Answered c o o (Refused n)
+pub refuses : {c : Outcome} {o : List ℕ} (n : ℕ) → c ≡ refused n → Answered c o o (err n)
 refuses n e = rw e record { answer = refl; result = refl }
+
+-- So does one that a step of the call met.
+pub refuses-as : {c : Outcome} {o : List ℕ} (r : Outcome' Answer Refusal) (e : Refusal) → IsErrAnd r (λ d. d ≡ e) → Answered c o o (err (number_of e)) →
+    Answered c o o (seen r)
+refuses-as {c} {o} r e h a = subst (λ z. Answered c o o z) (sym (seen-err r e h)) a
 
 -- A type in order within the levels fills the first n bytes.
 pub record Wrote (lim : Limits) (c : Outcome) (o xs : List ℕ) (n : ℕ) : Type 0 where
@@ -53,8 +61,8 @@ pub record Wrote (lim : Limits) (c : Outcome) (o xs : List ℕ) (n : ℕ) : Type
   pub within : WF lim.levels kept
 
 -- The answer tells its length and its levels.
-fills : {c : Outcome} {o xs : List ℕ} (t : Ty) (n d : ℕ) → c ≡ typed t → length (enc t) ≡ n → depth t ≡ d → xs ≡ over (enc t) o → Answered c o xs (Typed n d)
-fills t n d e l p q = rw e record { answer = ap₂ Typed (sym l) (sym p); result = q }
+fills : {c : Outcome} {o xs : List ℕ} (t : Ty) (n d : ℕ) → c ≡ typed t → length (enc t) ≡ n → depth t ≡ d → xs ≡ over (enc t) o → Answered c o xs (ok (Typed n d))
+fills t n d e l p q = rw e record { answer = ap ok (ap₂ Typed (sym l) (sym p)); result = q }
 
 -- What was written is whole, and says the type.
 module _ {lim : Limits} {c : Outcome} {o xs : List ℕ} {n : ℕ} (w : Wrote lim c o xs n) where
@@ -70,19 +78,19 @@ module _ {lim : Limits} {c : Outcome} {o xs : List ℕ} {n : ℕ} (w : Wrote lim
   pub wrote-whole : whole lim.levels (part 0 n xs) ≡ true
   wrote-whole = ap (whole lim.levels) front ∙ form.0
 
-  pub wrote-levels : (d : ℕ) → d ≡ depth (dec lim.levels (part 0 n xs)) → Answered c o xs (Typed n d)
+  pub wrote-levels : (d : ℕ) → d ≡ depth (dec lim.levels (part 0 n xs)) → Answered c o xs (ok (Typed n d))
   wrote-levels d q = fills w.kept n d w.is w.long (sym (q ∙ ap depth (ap (dec lim.levels) front ∙ form.1))) w.filled
 
 module _ (lim : Limits) (most : lim.bytes ≤ most_bytes) (r : Result Ty) (o : List ℕ) (c : Outcome) (e : c ≡ write_type lim (length o) r) (x : Result ℕ)
     (told : x ≡ form_length_of enc r) where
-  pub writes-not : (d : ℕ) → x ≡ err d → Answered c o o (Refused d)
+  pub writes-not : (d : ℕ) → x ≡ err d → Answered c o o (err d)
   writes-not d q = refuses d (e ∙ rw (not_err enc r x d told q) refl)
 
   module _ (n : ℕ) (q : x ≡ ok n) (f : Bool) (fits : f ≡ leb n (min (length o) lim.bytes)) where
     of-type : (t : Ty) × ((r ≡ ok t) × (n ≡ cap (length (enc t))))
     of-type = of-ok enc r x n told q
 
-    pub writes-over : not f ≡ true → Answered c o o (Refused 10)
+    pub writes-over : not f ≡ true → Answered c o o (err 10)
     writes-over h =
         let s = leb-false n (min (length o) lim.bytes) (sym fits ∙ not-true f h) in
         refuses 10 (e ∙ rw (of-type.1.0, lt-leb (length (enc of-type.0)) (min (length o) lim.bytes) (omega (arith, of-type.1.1, most))) refl)
@@ -111,7 +119,7 @@ module _ (lim : Limits) (most : lim.bytes ≤ most_bytes) (r : Result Ty) (o : L
         filled : xs ≡ over (enc kept) o
         filled = w.bytes ∙ ap (λ (z : Result Ty). over (form_of enc z) o) of-type.1.0
 
-        pub writes : (d : ℕ) → ((t : Ty) → r ≡ ok t → d ≡ depth t) → Answered c o xs (Typed n d)
+        pub writes : (d : ℕ) → ((t : Ty) → r ≡ ok t → d ≡ depth t) → Answered c o xs (ok (Typed n d))
         writes d levels = fills kept n d is-typed long (sym (levels kept of-type.1.0)) filled
 
         pub wrote : ((t : Ty) → r ≡ ok t → WF lim.levels t) → Wrote lim c o xs n

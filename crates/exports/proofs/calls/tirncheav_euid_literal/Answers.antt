@@ -1,3 +1,4 @@
+use Rattle.writing.specs.FormLengths.{seen}
 use Rattle.exports.specs.Checks.{within}
 use lib.ListN.{length}
 use Rattle.exports.proofs.Laws.Numbers.{numbered}
@@ -7,7 +8,7 @@ use Rattle.exports.proofs.calls.tirncheav_euid_literal.Goals as goal
 pub answer_number-requires : goal.answer_number-requires
 answer_number-requires c =
     let args = c.args in
-    brief c.euid_literal.result (literal-short (within args.levels args.bytes) args.schema.now args.v.now (length
+    brief (seen c.euid_literal.result) (literal-short (within args.levels args.bytes) args.schema.now args.v.now (length
     args.out.now))
     c.euid_literal.ensures.answer
 

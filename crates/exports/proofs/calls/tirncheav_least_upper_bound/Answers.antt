@@ -1,3 +1,4 @@
+use Rattle.writing.specs.FormLengths.{seen}
 use Rattle.exports.specs.Checks.{within}
 use lib.ListN.{length}
 use Rattle.exports.proofs.Laws.Numbers.{numbered}
@@ -9,7 +10,7 @@ answer_number-requires c =
     let args = c.args in
     let by-bound-short = bound-short (within args.levels args.bytes) args.schema.now args.mode args.t0.now args.t1.now (length
     args.out.now) in
-    brief c.least_upper_bound.result by-bound-short c.least_upper_bound.ensures.answer
+    brief (seen c.least_upper_bound.result) by-bound-short c.least_upper_bound.ensures.answer
 
 pub returns : goal.returns
 returns c = numbered c.answer_number.result c.answer_number.ensures c.least_upper_bound.ensures

@@ -1,3 +1,4 @@
+use Rattle.writing.specs.FormLengths.{seen}
 use Rattle.exports.specs.Checks.{within}
 use lib.ListN.{length}
 use Rattle.exports.proofs.Laws.Numbers.{numbered-in}
@@ -10,7 +11,7 @@ answer_number-requires c =
     let lookup-attribute-type-2 = c.lookup_attribute_type in
     let by-lookup-short = lookup-short (within args.levels args.bytes) args.schema.now args.attr args.t.now (length args.out.now)
     (length args.work.now) in
-    brief lookup-attribute-type-2.result by-lookup-short lookup-attribute-type-2.ensures.answer
+    brief (seen lookup-attribute-type-2.result) by-lookup-short lookup-attribute-type-2.ensures.answer
 
 pub returns : goal.returns
 returns c = numbered-in c.answer_number.result c.answer_number.ensures c.lookup_attribute_type.ensures

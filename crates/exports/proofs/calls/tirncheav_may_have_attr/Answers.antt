@@ -1,3 +1,4 @@
+use Rattle.writing.specs.FormLengths.{seen}
 use Rattle.exports.specs.Checks.{within}
 use mathlib.Core.Path.{ap, ◌∙◌}
 use Rattle.exports.specs.Numbers.{answer_number}
@@ -6,7 +7,7 @@ use Rattle.exports.proofs.calls.tirncheav_may_have_attr.Goals as goal
 
 pub answer_number-requires : goal.answer_number-requires
 answer_number-requires c =
-    brief c.may_have_attr.result (may-have-short (within c.args.levels c.args.bytes) c.args.schema.now c.args.attr
+    brief (seen c.may_have_attr.result) (may-have-short (within c.args.levels c.args.bytes) c.args.schema.now c.args.attr
     c.args.t.now) c.may_have_attr.ensures
 
 pub returns : goal.returns

@@ -1,3 +1,4 @@
+use Rattle.writing.specs.FormLengths.{seen}
 use mathlib.Core.Path.{ap, ◌∙◌}
 use native.Mathlib.Omega.{arith}
 use Rattle.forms.specs.Laws.Bytes.{Bytes-index}
@@ -10,7 +11,7 @@ pub answer_number-requires : goal.answer_number-requires
 answer_number-requires c =
     let args = c.args in
     let bytes = Bytes-index args.t.now (λ i. omega (arith, c.type_inv.t i)) in
-    brief c.measure_type.result (measure-type-short (within args.levels args.bytes) args.t.now bytes) c.measure_type.ensures
+    brief (seen c.measure_type.result) (measure-type-short (within args.levels args.bytes) args.t.now bytes) c.measure_type.ensures
 
 pub returns : goal.returns
 returns c = c.answer_number.ensures ∙ ap answer_number c.measure_type.ensures

@@ -1,3 +1,4 @@
+use Rattle.writing.specs.FormLengths.{seen}
 use Rattle.exports.specs.Checks.{within}
 use native.Mathlib.Omega.{arith}
 use mathlib.Core.Path.{ap, ◌∙◌}
@@ -9,7 +10,7 @@ pub part_number-requires : goal.part_number-requires
 part_number-requires c =
     let args = c.args in
     narrow (within args.levels args.bytes) args.schema.now args.attr args.t (λ i. omega (arith, c.type_inv.t i))
-    c.own_attribute_part.result
+    (seen c.own_attribute_part.result)
     c.own_attribute_part.ensures
 
 pub returns : goal.returns

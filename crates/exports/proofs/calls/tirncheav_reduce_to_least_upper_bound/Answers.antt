@@ -1,3 +1,4 @@
+use Rattle.writing.specs.FormLengths.{seen}
 use Rattle.exports.specs.Checks.{within}
 use lib.ListN.{length}
 use Rattle.exports.proofs.Laws.Numbers.{numbered-in}
@@ -10,7 +11,7 @@ answer_number-requires c =
     let reduce-to-least-upper-bound-2 = c.reduce_to_least_upper_bound in
     let by-fold-short = fold-short (within args.levels args.bytes) args.schema.now args.mode args.list.now (length args.out.now)
     (length args.work.now) in
-    brief reduce-to-least-upper-bound-2.result by-fold-short reduce-to-least-upper-bound-2.ensures.answer
+    brief (seen reduce-to-least-upper-bound-2.result) by-fold-short reduce-to-least-upper-bound-2.ensures.answer
 
 pub returns : goal.returns
 returns c = numbered-in c.answer_number.result c.answer_number.ensures c.reduce_to_least_upper_bound.ensures

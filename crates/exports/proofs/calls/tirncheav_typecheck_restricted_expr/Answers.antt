@@ -1,3 +1,4 @@
+use Rattle.writing.specs.FormLengths.{seen}
 use Rattle.cedar.specs.Conformance.{shorter}
 use Rattle.exports.specs.Checks.{within}
 use mathlib.Core.Path.{ap, ◌∙◌}
@@ -8,7 +9,7 @@ use Rattle.exports.proofs.calls.tirncheav_typecheck_restricted_expr.Goals as goa
 pub answer_number-requires : goal.answer_number-requires
 answer_number-requires c =
     let args = c.args in
-    brief c.typecheck_restricted_expr.result (conforms-short (within args.levels args.bytes) shorter args.schema.now args.t.now args.v.now)
+    brief (seen c.typecheck_restricted_expr.result) (conforms-short (within args.levels args.bytes) shorter args.schema.now args.t.now args.v.now)
     c.typecheck_restricted_expr.ensures
 
 pub returns : goal.returns

@@ -1,31 +1,28 @@
+use Rattle.std.specs.Prelude.{ℕ, List}
+use Rattle.writing.specs.FormLengths.{seen}
 use Rattle.cedar.specs.Calls.{names_call}
 use Rattle.exports.specs.Numbers.{NumberedIn}
 use Rattle.cedar.specs.Limits.{Limits}
 use Rattle.forms.specs.Limits.{as_limits}
-use Rattle.schemas.specs.SchemaBytes.{limits_of}
-use Rattle.validator.specs.Laws.Schemas.{checked-own, checked_under}
-use Rattle.exports.specs.Checks.{limits_in}
+use Rattle.validator.specs.Laws.Schemas.{of-call}
 use lib.ListN.{length}
 use Rattle.exports.proofs.Laws.Numbers.{numbered-in}
 use Rattle.exports.specs.Laws.Brief.{brief, names-call-short}
 use Rattle.exports.proofs.checked_calls.tirncheav_all_attributes_checked.Goals as goal
 
-pub all_attributes_checked-requires : goal.all_attributes_checked-requires
-all_attributes_checked-requires c = checked-own (limits_in c.args.check) c.args.schema.now c.check_again.result c.check_again.ensures
-
 pub answer_number-requires : goal.answer_number-requires
 answer_number-requires c =
     let args = c.args in
     let all-attributes-checked-2 = c.all_attributes_checked in
-    let by-names-call-short = names-call-short (as_limits (limits_of c.check_again.result)) args.schema.now args.t.now (length
+    let by-names-call-short = names-call-short (as_limits c.check_again.result.limits) c.check_again.result.bytes.now args.t.now (length
     args.out.now) (length args.work.now) in
-    brief all-attributes-checked-2.result by-names-call-short all-attributes-checked-2.ensures.answer
+    brief (seen all-attributes-checked-2.result) by-names-call-short all-attributes-checked-2.ensures.answer
 
 pub returns : goal.returns
 returns c =
     let args = c.args in
-    checked_under (limits_in args.check) args.schema.now c.check_again.result c.check_again.ensures
-    (λ (lim : Limits). NumberedIn (names_call lim args.schema.now args.t.now (length args.out.now) (length args.work.now)) args.out.now
+    of-call c.check_again.result c.check_again.ensures
+    (λ (lim : Limits) (s : List ℕ). NumberedIn (names_call lim s args.t.now (length args.out.now) (length args.work.now)) args.out.now
     c.all_attributes_checked.new.out args.work.now
     c.all_attributes_checked.new.work c.answer_number.result)
     (numbered-in c.answer_number.result c.answer_number.ensures c.all_attributes_checked.ensures)

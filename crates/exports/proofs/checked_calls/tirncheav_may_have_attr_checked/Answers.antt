@@ -1,27 +1,24 @@
+use Rattle.std.specs.Prelude.{ℕ, List}
+use Rattle.writing.specs.FormLengths.{seen}
 use Rattle.cedar.specs.Calls.{may_have_call}
 use Rattle.validator.specs.Answers.{answer_of}
 use Rattle.cedar.specs.Limits.{Limits}
 use Rattle.forms.specs.Limits.{as_limits}
-use Rattle.schemas.specs.SchemaBytes.{limits_of}
-use Rattle.validator.specs.Laws.Schemas.{checked-own, checked_under}
-use Rattle.exports.specs.Checks.{limits_in}
+use Rattle.validator.specs.Laws.Schemas.{of-call}
 use mathlib.Core.Path.{◌≡◌, ap, ◌∙◌}
 use Rattle.exports.specs.Numbers.{answer_number}
 use Rattle.exports.specs.Laws.Brief.{brief, may-have-short}
 use Rattle.exports.proofs.checked_calls.tirncheav_may_have_attr_checked.Goals as goal
 
-pub may_have_attr_checked-requires : goal.may_have_attr_checked-requires
-may_have_attr_checked-requires c = checked-own (limits_in c.args.check) c.args.schema.now c.check_again.result c.check_again.ensures
-
 pub answer_number-requires : goal.answer_number-requires
 answer_number-requires c =
     let args = c.args in
-    brief c.may_have_attr_checked.result (may-have-short (as_limits (limits_of c.check_again.result)) args.schema.now args.attr
+    brief (seen c.may_have_attr_checked.result) (may-have-short (as_limits c.check_again.result.limits) c.check_again.result.bytes.now args.attr
     args.t.now) c.may_have_attr_checked.ensures
 
 pub returns : goal.returns
 returns c =
     let args = c.args in
-    checked_under (limits_in args.check) args.schema.now c.check_again.result c.check_again.ensures
-    (λ (lim : Limits). c.answer_number.result ≡ answer_number (answer_of (may_have_call lim args.schema.now args.attr args.t.now)))
+    of-call c.check_again.result c.check_again.ensures
+    (λ (lim : Limits) (s : List ℕ). c.answer_number.result ≡ answer_number (answer_of (may_have_call lim s args.attr args.t.now)))
     (c.answer_number.ensures ∙ ap answer_number c.may_have_attr_checked.ensures)

@@ -1,13 +1,11 @@
-use Rattle.exports.specs.Checks.{limits_in}
-use Rattle.exports.specs.Laws.Checks.{again-own, again-is}
+use mathlib.Core.Path.{ap, sym, ◌∙◌}
+use Rattle.forms.specs.declared.limits.Limits.{Limits}
+use Rattle.schemas.specs.SchemaBytes.{checked}
+use Rattle.schemas.specs.Offsets.{offsets_of}
 use Rattle.exports.proofs.checks.check_again.Goals as goal
 
-pub check-requires : goal.check-requires
-check-requires c =
-    let args = c.args in
-    again-own (limits_in args.number) args.schema.now c.unpack.result c.unpack.ensures
+pub again-requires : goal.again-requires
+again-requires c = c.unpack.ensures ∙ ap (λ (l : Limits). offsets_of (checked l c.args.schema.now)) (sym c.limits_from.ensures)
 
 pub returns : goal.returns
-returns c =
-    let args = c.args in
-    again-is (limits_in args.number) args.schema.now c.unpack.result c.unpack.ensures c.check.result c.check.ensures
+returns c = (c.again.ensures.0, c.again.ensures.1 ∙ c.limits_from.ensures)

@@ -1,48 +1,13 @@
-use mathlib.Core.Path.{ap, sym, ◌∙◌}
-use native.Mathlib.Omega.{arith}
-use Rattle.exports.specs.Numbers.{answer_number}
-use Rattle.exports.proofs.Laws.Numbers.{measured-brief, typed-brief, attribute-brief, named-brief, refused-number, required-number, optional-number}
+use mathlib.Core.Path.{ap, sym, subst, ◌∙◌}
+use Rattle.writing.specs.FormLengths.{seen}
+use Rattle.exports.specs.Numbers.{answer_number, Brief}
 use Rattle.exports.proofs.numbers.answer_number.Goals as goal
 
-pub sized_number-requires : goal.sized_number-requires
-sized_number-requires c =
-    let most = measured-brief c.args.a c.in-Measured.n c.in-Measured.levels c.requires c.in-Measured.is in
-    (omega arith, most.0, most.1)
+pub said_number-requires : goal.said_number-requires
+said_number-requires c = subst Brief (ap seen c.in-Ok.is) c.requires
 
-pub sized_number-requires-in-Typed : goal.sized_number-requires-in-Typed
-sized_number-requires-in-Typed c =
-    let most = typed-brief c.args.a c.in-Typed.n c.in-Typed.levels c.requires c.in-Typed.is in
-    (omega arith, most.0, most.1)
+pub returns-in-Ok : goal.returns-in-Ok
+returns-in-Ok c = c.said_number.ensures ∙ sym (ap (λ r. answer_number (seen r)) c.in-Ok.is)
 
-pub sized_number-requires-then-required : goal.sized_number-requires-then-required
-sized_number-requires-then-required c =
-    let most = attribute-brief c.args.a c.in-Attribute.required c.in-Attribute.n c.in-Attribute.levels c.requires c.in-Attribute.is in
-    (omega arith, most.0, most.1)
-
-pub returns-then-required : goal.returns-then-required
-returns-then-required c =
-    c.sized_number-then-required.ensures ∙ required-number c.args.a c.in-Attribute.required c.in-Attribute.n c.in-Attribute.levels c.in-Attribute.is c.if-required.true
-
-pub sized_number-requires-in-Attribute : goal.sized_number-requires-in-Attribute
-sized_number-requires-in-Attribute c =
-    let most = attribute-brief c.args.a c.in-Attribute.required c.in-Attribute.n c.in-Attribute.levels c.requires c.in-Attribute.is in
-    (omega arith, most.0, most.1)
-
-pub sized_number-requires-in-Named : goal.sized_number-requires-in-Named
-sized_number-requires-in-Named c = (omega arith, named-brief c.args.a c.in-Named.n c.requires c.in-Named.is, omega arith)
-
-pub returns-in-Refused : goal.returns-in-Refused
-returns-in-Refused c = refused-number c.args.a c.in-Refused.e c.in-Refused.is
-
-pub returns-in-Measured : goal.returns-in-Measured
-returns-in-Measured c = c.sized_number.ensures ∙ sym (ap answer_number c.in-Measured.is)
-
-pub returns-in-Typed : goal.returns-in-Typed
-returns-in-Typed c = c.sized_number-in-Typed.ensures ∙ sym (ap answer_number c.in-Typed.is)
-
-pub returns-else-required : goal.returns-else-required
-returns-else-required c =
-    c.sized_number-in-Attribute.ensures ∙ optional-number c.args.a c.in-Attribute.required c.in-Attribute.n c.in-Attribute.levels c.in-Attribute.is c.if-required.false
-
-pub returns-in-Named : goal.returns-in-Named
-returns-in-Named c = c.sized_number-in-Named.ensures ∙ sym (ap answer_number c.in-Named.is)
+pub returns-in-Err : goal.returns-in-Err
+returns-in-Err c = c.refusal_number.ensures ∙ sym (ap (λ r. answer_number (seen r)) c.in-Err.is)

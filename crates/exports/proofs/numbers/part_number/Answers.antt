@@ -1,42 +1,13 @@
-use native.Mathlib.Omega.{arith}
-use Rattle.exports.proofs.Laws.Numbers.{at-narrow, part-refused-number, part-required-number, part-optional-number}
+use mathlib.Core.Path.{ap, sym, subst, ◌∙◌}
+use Rattle.writing.specs.FormLengths.{seen}
+use Rattle.exports.specs.Numbers.{part_number, Narrow}
 use Rattle.exports.proofs.numbers.part_number.Goals as goal
 
-pub overflow_mul-place : goal.overflow_mul-place
-overflow_mul-place c =
-    let by-at-narrow = at-narrow c.args.p c.in-At.start c.in-At.end c.in-At.required c.requires c.in-At.is in
-    omega (arith, by-at-narrow.0, by-at-narrow.1)
+pub found_number-requires : goal.found_number-requires
+found_number-requires c = subst Narrow (ap seen c.in-Ok.is) c.requires
 
-pub overflow_add-place : goal.overflow_add-place
-overflow_add-place c =
-    let by-at-narrow = at-narrow c.args.p c.in-At.start c.in-At.end c.in-At.required c.requires c.in-At.is in
-    omega (arith, by-at-narrow.0, by-at-narrow.1)
+pub returns-in-Ok : goal.returns-in-Ok
+returns-in-Ok c = c.found_number.ensures ∙ sym (ap (λ r. part_number (seen r)) c.in-Ok.is)
 
-pub overflow_mul-result-then-required : goal.overflow_mul-result-then-required
-overflow_mul-result-then-required c =
-    let by-at-narrow = at-narrow c.args.p c.in-At.start c.in-At.end c.in-At.required c.requires c.in-At.is in
-    omega (arith, by-at-narrow.0, by-at-narrow.1)
-
-pub overflow_add-result-then-required : goal.overflow_add-result-then-required
-overflow_add-result-then-required c =
-    let by-at-narrow = at-narrow c.args.p c.in-At.start c.in-At.end c.in-At.required c.requires c.in-At.is in
-    omega (arith, by-at-narrow.0, by-at-narrow.1)
-
-pub returns-then-required : goal.returns-then-required
-returns-then-required c = part-required-number c.args.p c.in-At.start c.in-At.end c.in-At.required c.in-At.is c.if-required.true
-
-pub overflow_mul-result-in-At : goal.overflow_mul-result-in-At
-overflow_mul-result-in-At c =
-    let by-at-narrow = at-narrow c.args.p c.in-At.start c.in-At.end c.in-At.required c.requires c.in-At.is in
-    omega (arith, by-at-narrow.0, by-at-narrow.1)
-
-pub overflow_add-result-in-At : goal.overflow_add-result-in-At
-overflow_add-result-in-At c =
-    let by-at-narrow = at-narrow c.args.p c.in-At.start c.in-At.end c.in-At.required c.requires c.in-At.is in
-    omega (arith, by-at-narrow.0, by-at-narrow.1)
-
-pub returns-in-Refused : goal.returns-in-Refused
-returns-in-Refused c = part-refused-number c.args.p c.in-Refused.e c.in-Refused.is
-
-pub returns-else-required : goal.returns-else-required
-returns-else-required c = part-optional-number c.args.p c.in-At.start c.in-At.end c.in-At.required c.in-At.is c.if-required.false
+pub returns-in-Err : goal.returns-in-Err
+returns-in-Err c = c.refusal_number.ensures ∙ sym (ap (λ r. part_number (seen r)) c.in-Err.is)

@@ -1,3 +1,4 @@
+use Rattle.writing.specs.FormLengths.{seen}
 use Rattle.writing.specs.Laws.Writing.{written_same}
 use Rattle.jobs.specs.Laws.Lines.{line-room, index-left, head-left, body-left, line-told}
 use Rattle.jobs.specs.LineBytes.{field}
@@ -10,14 +11,14 @@ pub put_field-number_at-requires : goal.put_field-number_at-requires
 put_field-number_at-requires c =
     let number = c.number-refusal in
     let args = c.args in
-    omega (arith, line-room args.index args.answer args.res.now args.out.now c.requires number.result number.ensures)
+    omega (arith, line-room args.index (seen args.answer) args.res.now args.out.now c.requires number.result number.ensures)
 
 pub put_field-requires : goal.put_field-requires
 put_field-requires c =
     let put-field = c.put_field-number_at in
     let number = c.number-refusal in
     let args = c.args in
-    let by-index-left = index-left args.index args.answer args.res.now args.out.now c.requires number.result number.ensures
+    let by-index-left = index-left args.index (seen args.answer) args.res.now args.out.now c.requires number.result number.ensures
     put-field.ensures in
     rw number.ensures.0 by-index-left.1
 
@@ -29,7 +30,7 @@ put_one-requires c =
     let number = c.number-refusal in
     let args = c.args in
     let by-written-same = written_same (ap (λ (j : ℕ). field j) number.ensures.0) put-field2.ensures in
-    (body-left args.index args.answer args.res.now args.out.now c.requires number.result number.ensures put-field.ensures
+    (body-left args.index (seen args.answer) args.res.now args.out.now c.requires number.result number.ensures put-field.ensures
     by-written-same put-answer.ensures).1
 
 pub returns : goal.returns
@@ -41,7 +42,7 @@ returns c =
     let number = c.number-refusal in
     let args = c.args in
     let by-written-same = written_same (ap (λ (j : ℕ). field j) number.ensures.0) put-field2.ensures in
-    line-told args.index args.answer args.res.now args.out.now c.requires number.result number.ensures put-field.ensures
+    line-told args.index (seen args.answer) args.res.now args.out.now c.requires number.result number.ensures put-field.ensures
     by-written-same put-answer.ensures put_one.ensures
 
 pub put_answer-requires-clause-res_in_bounds : goal.put_answer-requires-clause-res_in_bounds
@@ -51,6 +52,6 @@ put_answer-requires-clause-res_in_bounds c =
     let number = c.number-refusal in
     let args = c.args in
     let by-written-same = written_same (ap (λ (j : ℕ). field j) number.ensures.0) put-field2.ensures in
-    let by-head-left = head-left args.index args.answer args.res.now args.out.now c.requires number.result number.ensures
+    let by-head-left = head-left args.index (seen args.answer) args.res.now args.out.now c.requires number.result number.ensures
     put-field.ensures by-written-same in
     by-head-left.1

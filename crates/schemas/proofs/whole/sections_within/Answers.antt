@@ -1,5 +1,4 @@
-use mathlib.Core.Path.{ap, refl, sym, ◌∙◌}
-use Rattle.schemas.specs.SchemaBytes.{checked_as}
+use mathlib.Core.Path.{refl, sym, ◌∙◌}
 use Rattle.schemas.specs.Laws.Checks.{check-over, check-head, head, ahead, ahead-inside, ahead-broken, past, ahead-over, ahead-whole}
 use Rattle.schemas.proofs.whole.sections_within.Goals as goal
 
@@ -32,7 +31,7 @@ pub returns-in_err-second : goal.returns-in_err-second
 returns-in_err-second c =
     let counted = sym c.counts_within.ensures ∙ c.if-not-counts_within.false in
     let all = ahead c.args.limits c.args.s.now counted c.entries_end.result c.entries_end.ensures in
-    ap (checked_as c.args.limits) c.from_residual.ensures
+    c.from_residual.ensures
     ∙ ahead-broken all c.section_at-entities.result c.section_at-entities.ensures c.section_within.result c.section_within.ensures c.in_err-second.was
 
 pub section_at-actions-requires : goal.section_at-actions-requires
@@ -54,7 +53,7 @@ returns-in_err-third c =
     let counted = sym c.counts_within.ensures ∙ c.if-not-counts_within.false in
     let all = ahead c.args.limits c.args.s.now counted c.entries_end.result c.entries_end.ensures in
     let one = past all c.section_at-entities.result c.section_at-entities.ensures c.section_within.result c.section_within.ensures c.in_ok-second.second c.in_ok-second.was in
-    ap (checked_as c.args.limits) c.from_residual-in_err-third.ensures
+    c.from_residual-in_err-third.ensures
     ∙ ahead-broken one.ahead c.section_at-actions.result c.section_at-actions.ensures c.section_within-2.result c.section_within-2.ensures c.in_err-third.was
 
 pub section_at-functions-requires : goal.section_at-functions-requires
@@ -79,7 +78,7 @@ returns-in_err-end c =
     let all = ahead c.args.limits c.args.s.now counted c.entries_end.result c.entries_end.ensures in
     let one = past all c.section_at-entities.result c.section_at-entities.ensures c.section_within.result c.section_within.ensures c.in_ok-second.second c.in_ok-second.was in
     let two = past one.ahead c.section_at-actions.result c.section_at-actions.ensures c.section_within-2.result c.section_within-2.ensures c.in_ok-third.third c.in_ok-third.was in
-    ap (checked_as c.args.limits) c.from_residual-in_err-end.ensures
+    c.from_residual-in_err-end.ensures
     ∙ ahead-broken two.ahead c.section_at-functions.result c.section_at-functions.ensures c.section_within-3.result c.section_within-3.ensures c.in_err-end.was
 
 pub returns-then-end-s : goal.returns-then-end-s

@@ -1,27 +1,27 @@
-use Rattle.forms.specs.Limits.{as_limits}
+use Rattle.schemas.specs.Schema.{limits_in}
 use native.Mathlib.Omega.{arith}
 use lib.ListN.{length}
 use Rattle.validator.specs.Laws.Questions.{type-missing, type-there, type-whole, type-few}
-use Rattle.validator.specs.Laws.Schemas.{sectioned-there}
+use Rattle.validator.specs.Laws.Schemas.{schema-there}
 use Rattle.validator.specs.Laws.Names.{names-no-type, names-too-long, names-over, names-small, names-fit, names-write}
 use Rattle.validator.proofs.all_attributes.named.Goals as goal
 
 pub returns-then-not-whole_type : goal.returns-then-not-whole_type
 returns-then-not-whole_type c =
     let args = c.args in
-    let by-checked-there = sectioned-there args.schema.now args.at c.requires.sectioned in
-    let by-type-missing = type-missing (as_limits args.at.limits) args.t.now c.whole_type.result
+    let by-checked-there = schema-there args.schema.now in
+    let by-type-missing = type-missing (limits_in args.schema.now) args.t.now c.whole_type.result
     c.whole_type.ensures c.if-not-whole_type.true-raw in
-    names-no-type (as_limits args.at.limits) c.requires.sectioned.fair args.schema.now args.t.now args.out.now (length
+    names-no-type (limits_in args.schema.now) c.args.schema.now.sectioned.fair args.schema.now.bytes.now args.t.now args.out.now (length
     args.work.now) _ by-checked-there by-type-missing
 
 pub all_names-requires : goal.all_names-requires
 all_names-requires c =
     let args = c.args in record {
       asked = record {
-        good = type-whole (as_limits args.at.limits) args.t.now c.whole_type.result c.whole_type.ensures
+        good = type-whole (limits_in args.schema.now) args.t.now c.whole_type.result c.whole_type.ensures
             c.if-not-whole_type.false-raw;
-        few = type-few (as_limits args.at.limits) args.t.now c.whole_type.result c.whole_type.ensures
+        few = type-few (limits_in args.schema.now) args.t.now c.whole_type.result c.whole_type.ensures
             c.if-not-whole_type.false-raw;
         room = c.requires.last_room;
       };
@@ -31,20 +31,20 @@ all_names-requires c =
 pub returns-in_default : goal.returns-in_default
 returns-in_default c =
     let args = c.args in
-    let by-checked-there = sectioned-there args.schema.now args.at c.requires.sectioned in
-    let by-type-there = type-there (as_limits args.at.limits) args.t.now c.whole_type.result c.whole_type.ensures
+    let by-checked-there = schema-there args.schema.now in
+    let by-type-there = type-there (limits_in args.schema.now) args.t.now c.whole_type.result c.whole_type.ensures
     c.if-not-whole_type.false-raw in
-    names-too-long (as_limits args.at.limits) c.requires.sectioned.fair args.schema.now args.t.now args.out.now (length
+    names-too-long (limits_in args.schema.now) c.args.schema.now.sectioned.fair args.schema.now.bytes.now args.t.now args.out.now (length
     args.work.now) _ by-checked-there _ by-type-there _
     c.all_names.new.kept c.all_names.result c.all_names.ensures _ c.in_default.is
 
 pub returns-then-not-answer_fits : goal.returns-then-not-answer_fits
 returns-then-not-answer_fits c =
     let args = c.args in
-    let by-checked-there = sectioned-there args.schema.now args.at c.requires.sectioned in
-    let by-type-there = type-there (as_limits args.at.limits) args.t.now c.whole_type.result c.whole_type.ensures
+    let by-checked-there = schema-there args.schema.now in
+    let by-type-there = type-there (limits_in args.schema.now) args.t.now c.whole_type.result c.whole_type.ensures
     c.if-not-whole_type.false-raw in
-    names-over (as_limits args.at.limits) c.requires.sectioned.fair args.schema.now args.t.now args.out.now (length
+    names-over (limits_in args.schema.now) c.args.schema.now.sectioned.fair args.schema.now.bytes.now args.t.now args.out.now (length
     args.work.now) _ by-checked-there _ by-type-there _
     c.all_names.new.kept c.all_names.result c.all_names.ensures c.in-Ok.n c.in-Ok.is
     c.answer_fits.result c.answer_fits.ensures c.if-not-answer_fits.true-raw
@@ -52,12 +52,12 @@ returns-then-not-answer_fits c =
 pub slice_bounds-copy-end : goal.slice_bounds-copy-end
 slice_bounds-copy-end c =
     let args = c.args in
-    let by-checked-there = sectioned-there args.schema.now args.at c.requires.sectioned in
-    let by-type-there = type-there (as_limits args.at.limits) args.t.now c.whole_type.result c.whole_type.ensures
+    let by-checked-there = schema-there args.schema.now in
+    let by-type-there = type-there (limits_in args.schema.now) args.t.now c.whole_type.result c.whole_type.ensures
     c.if-not-whole_type.false-raw in
     omega (
       arith,
-      names-small (as_limits args.at.limits) c.requires.sectioned.fair args.schema.now args.t.now args.out.now (length
+      names-small (limits_in args.schema.now) c.args.schema.now.sectioned.fair args.schema.now.bytes.now args.t.now args.out.now (length
           args.work.now) _ by-checked-there _ by-type-there _
           c.all_names.new.kept c.all_names.result c.all_names.ensures c.in-Ok.n c.in-Ok.is
           c.answer_fits.result c.answer_fits.ensures c.if-not-answer_fits.false-raw,
@@ -67,10 +67,10 @@ slice_bounds-copy-end c =
 pub copy-requires : goal.copy-requires
 copy-requires c =
     let args = c.args in
-    let by-checked-there = sectioned-there args.schema.now args.at c.requires.sectioned in
-    let by-type-there = type-there (as_limits args.at.limits) args.t.now c.whole_type.result c.whole_type.ensures
+    let by-checked-there = schema-there args.schema.now in
+    let by-type-there = type-there (limits_in args.schema.now) args.t.now c.whole_type.result c.whole_type.ensures
     c.if-not-whole_type.false-raw in
-    names-fit (as_limits args.at.limits) c.requires.sectioned.fair args.schema.now args.t.now args.out.now (length
+    names-fit (limits_in args.schema.now) c.args.schema.now.sectioned.fair args.schema.now.bytes.now args.t.now args.out.now (length
     args.work.now) _ by-checked-there _ by-type-there _
     c.all_names.new.kept c.all_names.result c.all_names.ensures c.in-Ok.n c.in-Ok.is
     c.answer_fits.result c.answer_fits.ensures c.if-not-answer_fits.false-raw
@@ -78,10 +78,10 @@ copy-requires c =
 pub returns : goal.returns
 returns c =
     let args = c.args in
-    let by-checked-there = sectioned-there args.schema.now args.at c.requires.sectioned in
-    let by-type-there = type-there (as_limits args.at.limits) args.t.now c.whole_type.result c.whole_type.ensures
+    let by-checked-there = schema-there args.schema.now in
+    let by-type-there = type-there (limits_in args.schema.now) args.t.now c.whole_type.result c.whole_type.ensures
     c.if-not-whole_type.false-raw in
-    names-write (as_limits args.at.limits) c.requires.sectioned.fair args.schema.now args.t.now args.out.now (length
+    names-write (limits_in args.schema.now) c.args.schema.now.sectioned.fair args.schema.now.bytes.now args.t.now args.out.now (length
     args.work.now) _ by-checked-there _ by-type-there _
     c.all_names.new.kept c.all_names.result c.all_names.ensures c.in-Ok.n c.in-Ok.is
     c.answer_fits.result c.answer_fits.ensures c.if-not-answer_fits.false-raw c.copy.new.out c.copy.ensures

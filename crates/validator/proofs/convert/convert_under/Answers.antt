@@ -7,7 +7,7 @@ use Rattle.writing.specs.FormLengths.{seen}
 use lib.ListN.{length}
 use Rattle.forms.specs.TypeBytes.{dec}
 use Rattle.conversions.specs.CoreTypes.{core}
-use Rattle.validator.specs.Laws.Writing.{type-is, type-not, refuses, writes-not, writes-over, writes-ready, wrote, wrote-small, wrote-whole, wrote-levels}
+use Rattle.validator.specs.Laws.Writing.{type-is, type-not, refuses, refuses-as, writes-not, writes-over, writes-ready, wrote, wrote-small, wrote-whole, wrote-levels}
 use Rattle.validator.specs.Laws.Conversion.{convert-not, convert-whole, core-within}
 use Rattle.validator.proofs.convert.convert_under.Goals as goal
 
@@ -34,7 +34,7 @@ returns-then-not-answer_fits c =
     let by-convert-whole = convert-whole (as_limits args.limits) c.requires args.t.now (length args.out.now)
     (type-is (as_limits args.limits) args.t.now whole-type.result whole-type.ensures if1.false-raw).0 in
     writes-over (as_limits args.limits) (allowed-bytes (as_limits args.limits) c.requires).1 (core (dec args.limits.levels args.t.now))
-    args.out.now _ by-convert-whole (seen core-length.result) core-length.ensures c.in-Ok.n (ap seen c.in-Ok.is)
+    args.out.now _ by-convert-whole (seen core-length.result) core-length.ensures c.in_ok-n.n (ap seen c.in_ok-n.was)
     answer-fits.result answer-fits.ensures c.if-not-answer_fits.true-raw
 
 pub write_core-requires : goal.write_core-requires
@@ -48,7 +48,7 @@ write_core-requires c =
       t_whole = by-type-is.1;
       ready = writes-ready (as_limits args.limits) (allowed-bytes (as_limits args.limits) c.requires).1 (core (dec args.limits.levels args.t.now))
           args.out.now _ (convert-whole (as_limits args.limits) c.requires args.t.now (length args.out.now) by-type-is.0)
-          (seen core-length.result) core-length.ensures c.in-Ok.n (ap seen c.in-Ok.is) answer-fits.result answer-fits.ensures c.if-not-answer_fits.false-raw;
+          (seen core-length.result) core-length.ensures c.in_ok-n.n (ap seen c.in_ok-n.was) answer-fits.result answer-fits.ensures c.if-not-answer_fits.false-raw;
     }
 
 pub slice_bounds-form-end : goal.slice_bounds-form-end
@@ -57,7 +57,7 @@ slice_bounds-form-end c =
     let by-type-is = type-is (as_limits args.limits) args.t.now c.whole_type.result c.whole_type.ensures c.if-not-whole_type.false-raw in
     let by-convert-whole = convert-whole (as_limits args.limits) c.requires args.t.now (length args.out.now) by-type-is.0 in
     let was-written = wrote (as_limits args.limits) (allowed-bytes (as_limits args.limits) c.requires).1 (core (dec args.limits.levels args.t.now))
-    args.out.now _ by-convert-whole (seen c.core_length.result) c.core_length.ensures c.in-Ok.n (ap seen c.in-Ok.is)
+    args.out.now _ by-convert-whole (seen c.core_length.result) c.core_length.ensures c.in_ok-n.n (ap seen c.in_ok-n.was)
     c.answer_fits.result c.answer_fits.ensures c.if-not-answer_fits.false-raw c.write_core.new.out c.write_core.result c.write_core.ensures
     (core-within (as_limits args.limits) args.t.now (λ i. (c.type_inv.t i).fits) by-type-is.1) in
     omega (arith, wrote-small was-written)
@@ -68,29 +68,30 @@ type_levels-requires c =
     let by-type-is = type-is (as_limits args.limits) args.t.now c.whole_type.result c.whole_type.ensures c.if-not-whole_type.false-raw in
     let by-convert-whole = convert-whole (as_limits args.limits) c.requires args.t.now (length args.out.now) by-type-is.0 in
     let was-written = wrote (as_limits args.limits) (allowed-bytes (as_limits args.limits) c.requires).1 (core (dec args.limits.levels args.t.now))
-    args.out.now _ by-convert-whole (seen c.core_length.result) c.core_length.ensures c.in-Ok.n (ap seen c.in-Ok.is)
+    args.out.now _ by-convert-whole (seen c.core_length.result) c.core_length.ensures c.in_ok-n.n (ap seen c.in_ok-n.was)
     c.answer_fits.result c.answer_fits.ensures c.if-not-answer_fits.false-raw c.write_core.new.out c.write_core.result c.write_core.ensures
     (core-within (as_limits args.limits) args.t.now (λ i. (c.type_inv.t i).fits) by-type-is.1) in
     wrote-whole was-written
 
-pub returns-else-not-answer_fits : goal.returns-else-not-answer_fits
-returns-else-not-answer_fits c =
+pub returns : goal.returns
+returns c =
     let args = c.args in
     let by-type-is = type-is (as_limits args.limits) args.t.now c.whole_type.result c.whole_type.ensures c.if-not-whole_type.false-raw in
     let by-convert-whole = convert-whole (as_limits args.limits) c.requires args.t.now (length args.out.now) by-type-is.0 in
     let was-written = wrote (as_limits args.limits) (allowed-bytes (as_limits args.limits) c.requires).1 (core (dec args.limits.levels args.t.now))
-    args.out.now _ by-convert-whole (seen c.core_length.result) c.core_length.ensures c.in-Ok.n (ap seen c.in-Ok.is)
+    args.out.now _ by-convert-whole (seen c.core_length.result) c.core_length.ensures c.in_ok-n.n (ap seen c.in_ok-n.was)
     c.answer_fits.result c.answer_fits.ensures c.if-not-answer_fits.false-raw c.write_core.new.out c.write_core.result c.write_core.ensures
     (core-within (as_limits args.limits) args.t.now (λ i. (c.type_inv.t i).fits) by-type-is.1) in
     wrote-levels was-written c.type_levels.result c.type_levels.ensures
 
-pub returns-in-Err : goal.returns-in-Err
-returns-in-Err c =
+pub returns-in_err-n : goal.returns-in_err-n
+returns-in_err-n c =
     let core-length = c.core_length in
     let if1 = c.if-not-whole_type in
     let whole-type = c.whole_type in
     let args = c.args in
     let by-convert-whole = convert-whole (as_limits args.limits) c.requires args.t.now (length args.out.now)
     (type-is (as_limits args.limits) args.t.now whole-type.result whole-type.ensures if1.false-raw).0 in
-    rw c.from.ensures (writes-not (as_limits args.limits) (allowed-bytes (as_limits args.limits) c.requires).1 (core (dec args.limits.levels args.t.now))
-    args.out.now _ by-convert-whole (seen core-length.result) core-length.ensures (number_of c.in-Err.refusal) (ap seen c.in-Err.is))
+    let refusal = c.in_err-n.field-0.0 in
+    refuses-as c.from_residual.result refusal c.from_residual.ensures.1 (writes-not (as_limits args.limits) (allowed-bytes (as_limits args.limits) c.requires).1 (core (dec args.limits.levels args.t.now))
+    args.out.now _ by-convert-whole (seen core-length.result) core-length.ensures (number_of refusal) (ap seen c.in_err-n.was))

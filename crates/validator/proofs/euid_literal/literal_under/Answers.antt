@@ -1,7 +1,6 @@
-use Rattle.forms.specs.Limits.{as_limits}
+use Rattle.schemas.specs.Schema.{limits_in}
 use native.Mathlib.Omega.{arith}
-use Rattle.forms.specs.Laws.Bytes.{Bytes-index}
-use Rattle.validator.specs.Laws.Schemas.{sectioned-there}
+use Rattle.validator.specs.Laws.Schemas.{schema-there}
 use Rattle.validator.specs.Laws.Uids.{uid-missing, uid-there, uid-read}
 use Rattle.validator.specs.Laws.Literal.{literal-no-uid, literal-nothing, literal-over, literal-room, literal-writes}
 use Rattle.validator.proofs.euid_literal.literal_under.Goals as goal
@@ -9,16 +8,16 @@ use Rattle.validator.proofs.euid_literal.literal_under.Goals as goal
 pub returns-then-not-whole_uid : goal.returns-then-not-whole_uid
 returns-then-not-whole_uid c =
     let args = c.args in
-    let by-checked-there = sectioned-there args.schema.now args.at c.requires in
-    let by-uid-missing = uid-missing (as_limits args.at.limits) args.v.now c.whole_uid.result c.whole_uid.ensures
+    let by-checked-there = schema-there args.schema.now in
+    let by-uid-missing = uid-missing (limits_in args.schema.now) args.v.now c.whole_uid.result c.whole_uid.ensures
     c.if-not-whole_uid.true-raw in
-    literal-no-uid (as_limits args.at.limits) c.requires.fair args.schema.now args.v.now args.out.now by-checked-there by-uid-missing
+    literal-no-uid (limits_in args.schema.now) c.args.schema.now.sectioned.fair args.schema.now.bytes.now args.v.now args.out.now by-checked-there by-uid-missing
 
 pub u16_at-entity-requires : goal.u16_at-entity-requires
 u16_at-entity-requires c =
     omega (
       arith,
-      (uid-there (as_limits c.args.at.limits) c.args.v.now c.whole_uid.result c.whole_uid.ensures
+      (uid-there (limits_in c.args.schema.now) c.args.v.now c.whole_uid.result c.whole_uid.ensures
           c.if-not-whole_uid.false-raw).0,
     )
 
@@ -26,17 +25,17 @@ pub u16_at-requires : goal.u16_at-requires
 u16_at-requires c =
     omega (
       arith,
-      (uid-there (as_limits c.args.at.limits) c.args.v.now c.whole_uid.result c.whole_uid.ensures
+      (uid-there (limits_in c.args.schema.now) c.args.v.now c.whole_uid.result c.whole_uid.ensures
           c.if-not-whole_uid.false-raw).0,
     )
 
 pub returns-in_default : goal.returns-in_default
 returns-in_default c =
     let args = c.args in
-    let uid = uid-read (as_limits args.at.limits) args.v.now c.whole_uid.result c.whole_uid.ensures c.if-not-whole_uid.false-raw
+    let uid = uid-read (limits_in args.schema.now) args.v.now c.whole_uid.result c.whole_uid.ensures c.if-not-whole_uid.false-raw
     c.u16_at-entity.result c.u16_at.result c.u16_at-entity.ensures.0 c.u16_at.ensures.0 in
-    let there = sectioned-there args.schema.now args.at c.requires in
-    literal-nothing (as_limits args.at.limits) c.requires.fair args.schema.now args.v.now args.out.now there c.u16_at-entity.result c.u16_at.result uid
+    let there = schema-there args.schema.now in
+    literal-nothing (limits_in args.schema.now) c.args.schema.now.sectioned.fair args.schema.now.bytes.now args.v.now args.out.now there c.u16_at-entity.result c.u16_at.result uid
     c.in_default.ensures
 
 pub length-n-requires : goal.length-n-requires
@@ -45,25 +44,25 @@ length-n-requires c = c.in-Some.ensures.laid
 pub returns-then-not-answer_fits : goal.returns-then-not-answer_fits
 returns-then-not-answer_fits c =
     let args = c.args in
-    let uid = uid-read (as_limits args.at.limits) args.v.now c.whole_uid.result c.whole_uid.ensures c.if-not-whole_uid.false-raw
+    let uid = uid-read (limits_in args.schema.now) args.v.now c.whole_uid.result c.whole_uid.ensures c.if-not-whole_uid.false-raw
     c.u16_at-entity.result c.u16_at.result c.u16_at-entity.ensures.0 c.u16_at.ensures.0 in
-    let there = sectioned-there args.schema.now args.at c.requires in
+    let there = schema-there args.schema.now in
     let x = c.in-Some.ensures in
-    let bytes = x.bytes (Bytes-index args.schema.now (λ i. omega (arith, c.type_inv.schema i))) in
-    literal-over (as_limits args.at.limits) c.requires.fair args.schema.now args.v.now args.out.now there c.u16_at-entity.result c.u16_at.result uid
+    let bytes = x.bytes c.requires in
+    literal-over (limits_in args.schema.now) c.args.schema.now.sectioned.fair args.schema.now.bytes.now args.v.now args.out.now there c.u16_at-entity.result c.u16_at.result uid
     c.in-Some.found x.is x.stands x.laid bytes c.length-n.result c.length-n.ensures c.answer_fits.result c.answer_fits.ensures
     c.if-not-answer_fits.true-raw
 
 pub write-requires : goal.write-requires
 write-requires c =
     let args = c.args in
-    let uid = uid-read (as_limits args.at.limits) args.v.now c.whole_uid.result c.whole_uid.ensures c.if-not-whole_uid.false-raw
+    let uid = uid-read (limits_in args.schema.now) args.v.now c.whole_uid.result c.whole_uid.ensures c.if-not-whole_uid.false-raw
     c.u16_at-entity.result c.u16_at.result c.u16_at-entity.ensures.0 c.u16_at.ensures.0 in
-    let there = sectioned-there args.schema.now args.at c.requires in
+    let there = schema-there args.schema.now in
     let x = c.in-Some.ensures in
-    let bytes = x.bytes (Bytes-index args.schema.now (λ i. omega (arith, c.type_inv.schema i))) in
+    let bytes = x.bytes c.requires in
     let room =
-    literal-room (as_limits args.at.limits) c.requires.fair args.schema.now args.v.now args.out.now there c.u16_at-entity.result c.u16_at.result uid
+    literal-room (limits_in args.schema.now) c.args.schema.now.sectioned.fair args.schema.now.bytes.now args.v.now args.out.now there c.u16_at-entity.result c.u16_at.result uid
     c.in-Some.found x.is x.stands x.laid bytes c.length-n.result c.length-n.ensures c.answer_fits.result c.answer_fits.ensures
     c.if-not-answer_fits.false-raw in
     record { laid = x.laid; entity_bound = c.u16_at-entity.ensures.1; in_bounds = room }
@@ -74,11 +73,11 @@ levels-requires c = c.in-Some.ensures.stands
 pub returns : goal.returns
 returns c =
     let args = c.args in
-    let uid = uid-read (as_limits args.at.limits) args.v.now c.whole_uid.result c.whole_uid.ensures c.if-not-whole_uid.false-raw
+    let uid = uid-read (limits_in args.schema.now) args.v.now c.whole_uid.result c.whole_uid.ensures c.if-not-whole_uid.false-raw
     c.u16_at-entity.result c.u16_at.result c.u16_at-entity.ensures.0 c.u16_at.ensures.0 in
-    let there = sectioned-there args.schema.now args.at c.requires in
+    let there = schema-there args.schema.now in
     let x = c.in-Some.ensures in
-    let bytes = x.bytes (Bytes-index args.schema.now (λ i. omega (arith, c.type_inv.schema i))) in
-    literal-writes (as_limits args.at.limits) c.requires.fair args.schema.now args.v.now args.out.now there c.u16_at-entity.result c.u16_at.result uid
+    let bytes = x.bytes c.requires in
+    literal-writes (limits_in args.schema.now) c.args.schema.now.sectioned.fair args.schema.now.bytes.now args.v.now args.out.now there c.u16_at-entity.result c.u16_at.result uid
     c.in-Some.found x.is x.stands x.laid bytes c.length-n.result c.length-n.ensures c.answer_fits.result c.answer_fits.ensures
     c.if-not-answer_fits.false-raw c.write.new.out c.write.ensures c.levels.result c.levels.ensures

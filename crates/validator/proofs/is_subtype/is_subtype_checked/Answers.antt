@@ -1,33 +1,78 @@
-use mathlib.Core.Path.{◌≡◌, sym, ap, subst, ◌∙◌}
-use borrow.Author.Tests.{not-false}
-use Rattle.cedar.specs.Calls.{subtype_call}
+use mathlib.Core.Path.{sym, ap, ◌∙◌}
 use Rattle.cedar.proofs.Laws.Limits.{subtype-refused}
-use Rattle.forms.specs.Limits.{as_limits}
-use Rattle.forms.specs.declared.limits.Limits.{Limits as LimitsStruct}
-use Rattle.schemas.specs.SchemaBytes.{limits_of}
-use Rattle.validator.specs.Laws.Schemas.{kept-refused, kept-check}
 use Rattle.validator.specs.Answers.{answer_of}
+use Rattle.cedar.specs.Result.{ok}
+use Rattle.forms.specs.Limits.{as_limits}
+use Rattle.forms.specs.Laws.Modes.{mode-known, mode-none}
+use Rattle.forms.specs.declared.refusals.Refusal.TheVariants.{Mode}
+use Rattle.writing.specs.Laws.FormLengths.{seen-err}
+use Rattle.validator.specs.Laws.Questions.{type-missing, type-there, type-whole}
+use Rattle.validator.specs.Laws.Schemas.{limits-bad, limits-fair, checked-missing, checked-there}
+use Rattle.validator.specs.Laws.Subtype.{subtype-mode, subtype-schema, subtype-first, subtype-second, subtype-said}
 use Rattle.validator.proofs.is_subtype.is_subtype_checked.Goals as goal
 
-pub returns-then-not-are_allowed : goal.returns-then-not-are_allowed
-returns-then-not-are_allowed c =
-    let args = c.args in
-    let bad = kept-refused args.schema.now args.check c.requires c.limits-limits.result c.limits-limits.ensures c.are_allowed.result
-    c.are_allowed.ensures c.if-not-are_allowed.true-raw in
-    sym (ap answer_of (subtype-refused (as_limits (limits_of args.check)) bad args.mode args.schema.now args.t0.now args.t1.now))
 
-pub is_subtype_under-requires : goal.is_subtype_under-requires
-is_subtype_under-requires c =
+pub returns-in_err-m : goal.returns-in_err-m
+returns-in_err-m c =
     let args = c.args in
-    let fair = sym c.are_allowed.ensures ∙ not-false c.are_allowed.result c.if-not-are_allowed.false-raw in record {
-      fair = fair;
-      own_check = kept-check args.schema.now args.check c.requires c.limits-limits.result c.limits-limits.ensures c.are_allowed.result
-          c.are_allowed.ensures;
-    }
+    let fair = limits-fair (as_limits args.schema.now.limits) c.are_allowed.result c.are_allowed.ensures c.if-not-are_allowed.false-raw in
+    let by-mode-none = mode-none args.mode c.try_from.result c.try_from.ensures c.in_err-m.was in
+    seen-err c.from_residual.result Mode c.from_residual.ensures.1 ∙
+    subtype-mode (as_limits args.schema.now.limits) fair args.mode args.schema.now.bytes.now args.t0.now args.t1.now by-mode-none
+
+pub returns-in_default : goal.returns-in_default
+returns-in_default c =
+    let args = c.args in
+    let fair = limits-fair (as_limits args.schema.now.limits) c.are_allowed.result c.are_allowed.ensures c.if-not-are_allowed.false-raw in
+    let by-mode-known = mode-known args.mode c.try_from.result c.try_from.ensures c.in_ok-m.m c.in_ok-m.was in
+    let by-checked-missing = checked-missing args.schema.now fair c.in_default.is in
+    subtype-schema (as_limits args.schema.now.limits) fair args.mode args.schema.now.bytes.now args.t0.now args.t1.now _ by-mode-known by-checked-missing
+
+pub returns-then-not-whole_type : goal.returns-then-not-whole_type
+returns-then-not-whole_type c =
+    let args = c.args in
+    let fair = limits-fair (as_limits args.schema.now.limits) c.are_allowed.result c.are_allowed.ensures c.if-not-are_allowed.false-raw in
+    let by-mode-known = mode-known args.mode c.try_from.result c.try_from.ensures c.in_ok-m.m c.in_ok-m.was in
+    let by-checked-there = checked-there args.schema.now c.in-Some.field-0 c.in-Some.is in
+    let by-type-missing = type-missing (as_limits args.schema.now.limits) args.t0.now c.whole_type.result c.whole_type.ensures
+    c.if-not-whole_type.true-raw in
+    subtype-first (as_limits args.schema.now.limits) fair args.mode args.schema.now.bytes.now args.t0.now
+    args.t1.now _ by-mode-known _ by-checked-there by-type-missing
+
+pub returns-then-not-whole_type-2 : goal.returns-then-not-whole_type-2
+returns-then-not-whole_type-2 c =
+    let args = c.args in
+    let fair = limits-fair (as_limits args.schema.now.limits) c.are_allowed.result c.are_allowed.ensures c.if-not-are_allowed.false-raw in
+    let by-mode-known = mode-known args.mode c.try_from.result c.try_from.ensures c.in_ok-m.m c.in_ok-m.was in
+    let by-checked-there = checked-there args.schema.now c.in-Some.field-0 c.in-Some.is in
+    let by-type-there = type-there (as_limits args.schema.now.limits) args.t0.now c.whole_type.result c.whole_type.ensures
+    c.if-not-whole_type.false-raw in
+    let by-type-missing = type-missing (as_limits args.schema.now.limits) args.t1.now c.whole_type-2.result c.whole_type-2.ensures
+    c.if-not-whole_type-2.true-raw in
+    subtype-second (as_limits args.schema.now.limits) fair args.mode args.schema.now.bytes.now args.t0.now
+    args.t1.now _ by-mode-known _ by-checked-there _ by-type-there by-type-missing
+
 
 pub returns : goal.returns
 returns c =
     let args = c.args in
-    subst (λ (l : LimitsStruct). c.is_subtype_under.result ≡ answer_of (subtype_call (as_limits l) args.mode args.schema.now args.t0.now
-    args.t1.now))
-    c.limits-limits.ensures c.is_subtype_under.ensures
+    let fair = limits-fair (as_limits args.schema.now.limits) c.are_allowed.result c.are_allowed.ensures c.if-not-are_allowed.false-raw in
+    let by-mode-known = mode-known args.mode c.try_from.result c.try_from.ensures c.in_ok-m.m c.in_ok-m.was in
+    let by-checked-there = checked-there args.schema.now c.in-Some.field-0 c.in-Some.is in
+    let by-type-there = type-there (as_limits args.schema.now.limits) args.t0.now c.whole_type.result c.whole_type.ensures
+    c.if-not-whole_type.false-raw in
+    let by-type-there-2 = type-there (as_limits args.schema.now.limits) args.t1.now c.whole_type-2.result c.whole_type-2.ensures
+    c.if-not-whole_type-2.false-raw in
+    subtype-said (as_limits args.schema.now.limits) fair args.mode args.schema.now.bytes.now args.t0.now
+    args.t1.now _ by-mode-known _ by-checked-there _ by-type-there _ by-type-there-2
+    (ok c.yes_or_no.result) c.is_subtype.result c.yes_or_no.ensures c.is_subtype.ensures
+
+pub is_subtype-requires : goal.is_subtype-requires
+is_subtype-requires c =
+    let args = c.args in
+    let by-type-whole = type-whole (as_limits args.schema.now.limits) args.t0.now c.whole_type.result
+    c.whole_type.ensures c.if-not-whole_type.false-raw in record {
+      t0_whole = by-type-whole;
+      t1_whole = type-whole (as_limits args.schema.now.limits) args.t1.now c.whole_type-2.result
+          c.whole_type-2.ensures c.if-not-whole_type-2.false-raw;
+    }

@@ -1,7 +1,9 @@
 use Rattle.forms.specs.Limits.{as_limits}
 use Rattle.forms.specs.Laws.Modes.{mode-known, mode-none}
+use Rattle.forms.specs.declared.refusals.Refusal.TheVariants.{Mode}
 use Rattle.validator.specs.Laws.Fold.{list-there, list-opened, folds-not, folds-small, folds-exact, folds-whole, folds-length, folds-over, folds-room, folds-typed}
 use Rattle.validator.specs.Laws.Fold.{fold-mode, fold-schema, fold-list, fold-refused, fold-writes}
+use Rattle.validator.specs.Laws.Writing.{refuses-as}
 use Rattle.validator.specs.Laws.Questions.{missing}
 use Rattle.validator.specs.Laws.Schemas.{checked-missing, checked-there}
 use Rattle.forms.specs.Modes.{as_mode}
@@ -14,30 +16,30 @@ use native.Mathlib.Omega.{arith}
 use Rattle.forms.specs.Refusals.{number_of}
 use Rattle.validator.proofs.reduce_to_least_upper_bound.reduced.Goals as goal
 
+pub returns-in_err-m : goal.returns-in_err-m
+returns-in_err-m c =
+    let args = c.args in
+    let by-mode-none = mode-none args.mode c.try_from.result c.try_from.ensures c.in_err-m.was in
+    refuses-as c.from_residual.result Mode c.from_residual.ensures.1 (fold-mode (as_limits args.schema.now.limits) c.requires.fair args.mode args.schema.now.bytes.now args.list.now args.out.now (length
+    args.work.now) by-mode-none)
+
 pub returns-in_default : goal.returns-in_default
 returns-in_default c =
     let args = c.args in
-    let by-mode-none = mode-none args.mode c.try_from.result c.try_from.ensures c.in_default.is in
-    fold-mode (as_limits args.limits) c.requires.fair args.mode args.schema.now args.list.now args.out.now (length
-    args.work.now) by-mode-none
-
-pub returns-in_default-check : goal.returns-in_default-check
-returns-in_default-check c =
-    let args = c.args in
-    let by-mode-known = mode-known args.mode c.try_from.result c.try_from.ensures c.in-Ok.m c.in-Ok.is in
-    let by-checked-missing = checked-missing args.limits args.schema.now args.check c.requires.own_check c.requires.fair
-    c.in_default-check.field-0 c.in_default-check.is in
-    fold-schema (as_limits args.limits) c.requires.fair args.mode args.schema.now args.list.now args.out.now (length
+    let by-mode-known = mode-known args.mode c.try_from.result c.try_from.ensures c.in_ok-m.m c.in_ok-m.was in
+    let by-checked-missing = checked-missing args.schema.now c.requires.fair
+    c.in_default.is in
+    fold-schema (as_limits args.schema.now.limits) c.requires.fair args.mode args.schema.now.bytes.now args.list.now args.out.now (length
     args.work.now) _ by-mode-known by-checked-missing
 
 pub returns-then-not-whole_list : goal.returns-then-not-whole_list
 returns-then-not-whole_list c =
     let whole-list = c.whole_list in
     let args = c.args in
-    let by-mode-known = mode-known args.mode c.try_from.result c.try_from.ensures c.in-Ok.m c.in-Ok.is in
-    let by-checked-there = checked-there args.limits args.schema.now args.check c.requires.own_check c.in-Whole.field-0 c.in-Whole.is in
-    let by-missing = missing (whole_list (as_limits args.limits) args.list.now) whole-list.result whole-list.ensures c.if-not-whole_list.true-raw in
-    fold-list (as_limits args.limits) c.requires.fair args.mode args.schema.now args.list.now args.out.now (length
+    let by-mode-known = mode-known args.mode c.try_from.result c.try_from.ensures c.in_ok-m.m c.in_ok-m.was in
+    let by-checked-there = checked-there args.schema.now c.in-Some.field-0 c.in-Some.is in
+    let by-missing = missing (whole_list (as_limits args.schema.now.limits) args.list.now) whole-list.result whole-list.ensures c.if-not-whole_list.true-raw in
+    fold-list (as_limits args.schema.now.limits) c.requires.fair args.mode args.schema.now.bytes.now args.list.now args.out.now (length
     args.work.now) _ by-mode-known _ by-checked-there by-missing
 
 pub fold_types-requires : goal.fold_types-requires
@@ -45,7 +47,7 @@ fold_types-requires c =
     let if1 = c.if-not-whole_list in
     let whole-list = c.whole_list in
     let args = c.args in
-    list-opened (as_limits args.limits) args.list.now whole-list.result whole-list.ensures if1.false-raw c.requires.fair _ c.requires.last_room
+    list-opened (as_limits args.schema.now.limits) args.list.now whole-list.result whole-list.ensures if1.false-raw c.requires.fair _ c.requires.last_room
 
 pub returns-then-not-answer_fits : goal.returns-then-not-answer_fits
 returns-then-not-answer_fits c =
@@ -54,15 +56,15 @@ returns-then-not-answer_fits c =
     let if1 = c.if-not-whole_list in
     let whole-list = c.whole_list in
     let args = c.args in
-    let f = fold_types (step_fits (as_limits args.limits) (length args.work.now)) (as_mode c.in-Ok.m) (list_of args.limits.levels
+    let f = fold_types (step_fits (as_limits args.schema.now.limits) (length args.work.now)) (as_mode c.in_ok-m.m) (list_of args.schema.now.limits.levels
     args.list.now) in
-    let by-mode-known = mode-known args.mode c.try_from.result c.try_from.ensures c.in-Ok.m c.in-Ok.is in
-    let by-folds-over = folds-over (as_limits args.limits) f args.out.now fold-types.new.last fold-types.result fold-types.ensures
-    c.in-Ok-fold_types.n c.in-Ok-fold_types.is
+    let by-mode-known = mode-known args.mode c.try_from.result c.try_from.ensures c.in_ok-m.m c.in_ok-m.was in
+    let by-folds-over = folds-over (as_limits args.schema.now.limits) f args.out.now fold-types.new.last fold-types.result fold-types.ensures
+    c.in_ok-n.n c.in_ok-n.was
     answer-fits.result answer-fits.ensures c.if-not-answer_fits.true-raw in
-    let by-checked-there = checked-there args.limits args.schema.now args.check c.requires.own_check c.in-Whole.field-0 c.in-Whole.is in
-    let by-list-there = list-there (as_limits args.limits) args.list.now whole-list.result whole-list.ensures if1.false-raw in
-    fold-refused (as_limits args.limits) c.requires.fair args.mode args.schema.now args.list.now args.out.now (length
+    let by-checked-there = checked-there args.schema.now c.in-Some.field-0 c.in-Some.is in
+    let by-list-there = list-there (as_limits args.schema.now.limits) args.list.now whole-list.result whole-list.ensures if1.false-raw in
+    fold-refused (as_limits args.schema.now.limits) c.requires.fair args.mode args.schema.now.bytes.now args.list.now args.out.now (length
     args.work.now) _ by-mode-known _ by-checked-there by-list-there
     10 by-folds-over
 
@@ -70,12 +72,12 @@ pub slice_bounds-form-end : goal.slice_bounds-form-end
 slice_bounds-form-end c =
     let fold-types = c.fold_types in
     let args = c.args in
-    let f = fold_types (step_fits (as_limits args.limits) (length args.work.now)) (as_mode c.in-Ok.m) (list_of args.limits.levels
+    let f = fold_types (step_fits (as_limits args.schema.now.limits) (length args.work.now)) (as_mode c.in_ok-m.m) (list_of args.schema.now.limits.levels
     args.list.now) in
     omega (
       arith,
-      folds-small (as_limits args.limits) f args.out.now fold-types.new.last fold-types.result fold-types.ensures
-          c.in-Ok-fold_types.n c.in-Ok-fold_types.is,
+      folds-small (as_limits args.schema.now.limits) f args.out.now fold-types.new.last fold-types.result fold-types.ensures
+          c.in_ok-n.n c.in_ok-n.was,
     )
 
 pub copy-requires : goal.copy-requires
@@ -84,10 +86,10 @@ copy-requires c =
     let answer-fits = c.answer_fits in
     let fold-types = c.fold_types in
     let args = c.args in
-    let f = fold_types (step_fits (as_limits args.limits) (length args.work.now)) (as_mode c.in-Ok.m) (list_of args.limits.levels
+    let f = fold_types (step_fits (as_limits args.schema.now.limits) (length args.work.now)) (as_mode c.in_ok-m.m) (list_of args.schema.now.limits.levels
     args.list.now) in
-    let by-folds-room = folds-room (as_limits args.limits) f args.out.now fold-types.new.last fold-types.result fold-types.ensures
-    c.in-Ok-fold_types.n c.in-Ok-fold_types.is
+    let by-folds-room = folds-room (as_limits args.schema.now.limits) f args.out.now fold-types.new.last fold-types.result fold-types.ensures
+    c.in_ok-n.n c.in_ok-n.was
     answer-fits.result answer-fits.ensures if2.false-raw in
     omega (arith, by-folds-room)
 
@@ -95,13 +97,13 @@ pub type_levels-requires : goal.type_levels-requires
 type_levels-requires c =
     let fold-types = c.fold_types in
     let args = c.args in
-    let f = fold_types (step_fits (as_limits args.limits) (length args.work.now)) (as_mode c.in-Ok.m) (list_of args.limits.levels
+    let f = fold_types (step_fits (as_limits args.schema.now.limits) (length args.work.now)) (as_mode c.in_ok-m.m) (list_of args.schema.now.limits.levels
     args.list.now) in
-    folds-whole (as_limits args.limits) f args.out.now fold-types.new.last fold-types.result fold-types.ensures c.in-Ok-fold_types.n
-    c.in-Ok-fold_types.is
+    folds-whole (as_limits args.schema.now.limits) f args.out.now fold-types.new.last fold-types.result fold-types.ensures c.in_ok-n.n
+    c.in_ok-n.was
 
-pub returns-else-not-answer_fits : goal.returns-else-not-answer_fits
-returns-else-not-answer_fits c =
+pub returns : goal.returns
+returns c =
     let copy = c.copy in
     let if2 = c.if-not-answer_fits in
     let answer-fits = c.answer_fits in
@@ -109,37 +111,38 @@ returns-else-not-answer_fits c =
     let if1 = c.if-not-whole_list in
     let whole-list = c.whole_list in
     let args = c.args in
-    let f = fold_types (step_fits (as_limits args.limits) (length args.work.now)) (as_mode c.in-Ok.m) (list_of args.limits.levels
+    let f = fold_types (step_fits (as_limits args.schema.now.limits) (length args.work.now)) (as_mode c.in_ok-m.m) (list_of args.schema.now.limits.levels
     args.list.now) in
-    let by-mode-known = mode-known args.mode c.try_from.result c.try_from.ensures c.in-Ok.m c.in-Ok.is in
-    let by-folds-typed = folds-typed (as_limits args.limits) f args.out.now fold-types.new.last fold-types.result fold-types.ensures
-    c.in-Ok-fold_types.n c.in-Ok-fold_types.is
+    let by-mode-known = mode-known args.mode c.try_from.result c.try_from.ensures c.in_ok-m.m c.in_ok-m.was in
+    let by-folds-typed = folds-typed (as_limits args.schema.now.limits) f args.out.now fold-types.new.last fold-types.result fold-types.ensures
+    c.in_ok-n.n c.in_ok-n.was
     answer-fits.result answer-fits.ensures if2.false-raw in
-    let by-checked-there = checked-there args.limits args.schema.now args.check c.requires.own_check c.in-Whole.field-0 c.in-Whole.is in
-    let by-list-there = list-there (as_limits args.limits) args.list.now whole-list.result whole-list.ensures if1.false-raw in
-    let by-folds-exact = folds-exact (as_limits args.limits) f args.out.now fold-types.new.last fold-types.result fold-types.ensures
-    c.in-Ok-fold_types.n c.in-Ok-fold_types.is in
-    let by-folds-length = folds-length (as_limits args.limits) f args.out.now fold-types.new.last fold-types.result
-    fold-types.ensures c.in-Ok-fold_types.n
-    c.in-Ok-fold_types.is in
-    fold-writes (as_limits args.limits) c.requires.fair args.mode args.schema.now args.list.now args.out.now (length
+    let by-checked-there = checked-there args.schema.now c.in-Some.field-0 c.in-Some.is in
+    let by-list-there = list-there (as_limits args.schema.now.limits) args.list.now whole-list.result whole-list.ensures if1.false-raw in
+    let by-folds-exact = folds-exact (as_limits args.schema.now.limits) f args.out.now fold-types.new.last fold-types.result fold-types.ensures
+    c.in_ok-n.n c.in_ok-n.was in
+    let by-folds-length = folds-length (as_limits args.schema.now.limits) f args.out.now fold-types.new.last fold-types.result
+    fold-types.ensures c.in_ok-n.n
+    c.in_ok-n.was in
+    fold-writes (as_limits args.schema.now.limits) c.requires.fair args.mode args.schema.now.bytes.now args.list.now args.out.now (length
     args.work.now) _ by-mode-known _ by-checked-there by-list-there
-    c.in-Ok-fold_types.n fold-types.new.last by-folds-typed by-folds-exact by-folds-length copy.new.out copy.ensures
+    c.in_ok-n.n fold-types.new.last by-folds-typed by-folds-exact by-folds-length copy.new.out copy.ensures
     c.type_levels.result c.type_levels.ensures
 
-pub returns-in-Err : goal.returns-in-Err
-returns-in-Err c =
+pub returns-in_err-n : goal.returns-in_err-n
+returns-in_err-n c =
+    let refusal = c.in_err-n.field-0.0 in
     let fold-types = c.fold_types in
     let if1 = c.if-not-whole_list in
     let whole-list = c.whole_list in
     let args = c.args in
-    let f = fold_types (step_fits (as_limits args.limits) (length args.work.now)) (as_mode c.in-Ok.m) (list_of args.limits.levels
+    let f = fold_types (step_fits (as_limits args.schema.now.limits) (length args.work.now)) (as_mode c.in_ok-m.m) (list_of args.schema.now.limits.levels
     args.list.now) in
-    let by-mode-known = mode-known args.mode c.try_from.result c.try_from.ensures c.in-Ok.m c.in-Ok.is in
-    let by-checked-there = checked-there args.limits args.schema.now args.check c.requires.own_check c.in-Whole.field-0 c.in-Whole.is in
-    let by-list-there = list-there (as_limits args.limits) args.list.now whole-list.result whole-list.ensures if1.false-raw in
-    let by-folds-not = folds-not (as_limits args.limits) f args.out.now fold-types.new.last fold-types.result fold-types.ensures
-    c.in-Err.refusal c.in-Err.is in
-    rw c.from.ensures (fold-refused (as_limits args.limits) c.requires.fair args.mode args.schema.now args.list.now args.out.now (length
+    let by-mode-known = mode-known args.mode c.try_from.result c.try_from.ensures c.in_ok-m.m c.in_ok-m.was in
+    let by-checked-there = checked-there args.schema.now c.in-Some.field-0 c.in-Some.is in
+    let by-list-there = list-there (as_limits args.schema.now.limits) args.list.now whole-list.result whole-list.ensures if1.false-raw in
+    let by-folds-not = folds-not (as_limits args.schema.now.limits) f args.out.now fold-types.new.last fold-types.result fold-types.ensures
+    refusal c.in_err-n.was in
+    refuses-as c.from_residual-in_err-n.result refusal c.from_residual-in_err-n.ensures.1 (fold-refused (as_limits args.schema.now.limits) c.requires.fair args.mode args.schema.now.bytes.now args.list.now args.out.now (length
     args.work.now) _ by-mode-known _ by-checked-there by-list-there
-    (number_of c.in-Err.refusal) by-folds-not)
+    (number_of refusal) by-folds-not)

@@ -1,16 +1,13 @@
-use mathlib.Core.Path.{refl, sym, ap, ◌∙◌}
+use Rattle.std.specs.Prelude.{ℕ, List}
+use Rattle.std.specs.Borrow.{Bor}
+use mathlib.Core.Path.{ap, ◌∙◌}
 use Rattle.forms.specs.declared.limits.Limits.{Limits}
 use Rattle.schemas.specs.SchemaBytes.{checked}
 use Rattle.schemas.specs.Offsets.{offsets_of}
-use Rattle.schemas.proofs.Laws.Offsets.{own-limits}
-use Rattle.schemas.specs.declared.offsets.Offsets.{Offsets}
-use Rattle.reader.specs.Own.{offsets}
 use Rattle.reader.proofs.validator_schema.ValidatorSchema.new.Goals as goal
 
-pub returns : goal.returns
-returns c =
-    let limits = c.args.limits in
-    let own = offsets_of (checked limits c.args.block.now) in
-    let sections = ap (λ (at : Offsets). offsets limits at.entities at.actions at.functions) c.of-at.ensures in
-    let same_limits = own-limits limits c.args.block.now in
-    (refl, refl, sections ∙ ap (λ (l : Limits). offsets l own.entities own.actions own.functions) (sym same_limits))
+pub invariant_of-result : goal.invariant_of-result
+invariant_of-result c =
+    let limits = ap (λ (l : Limits). offsets_of (checked l c.new.result.bytes.now)) c.new.ensures.1 in
+    let block = ap (λ (b : Bor (List ℕ)). offsets_of (checked c.args.limits b.now)) c.new.ensures.0 in
+    record { own_check = c.offsets-offsets.ensures ∙ limits ∙ block }
