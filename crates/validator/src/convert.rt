@@ -11,6 +11,7 @@ use crate::rooms::answer_fits;
 use conversions::core_types::{core_length, write_core};
 use forms::limits::Limits;
 use forms::refusals::Refusal;
+use forms::type_forms::TypeForm;
 use forms::types::whole_type;
 use levels::depths::type_levels;
 
@@ -22,11 +23,15 @@ fn convert_under(limits: Limits, t: &[u8], out: &mut [u8]) -> Result<Answer, Ref
     if !whole_type(t, limits) {
         return Err(Refusal::First);
     }
-    let n = core_length(t, limits.levels)?;
+    let whole = TypeForm {
+        levels: limits.levels,
+        bytes: t,
+    };
+    let n = core_length(whole)?;
     if !answer_fits(limits, n, out.len()) {
         return Err(Refusal::Answer);
     }
-    write_core(t, limits.levels, out);
+    write_core(whole, out);
     let form = &out[0..n];
     Ok(Answer::Typed(n, type_levels(form, limits.levels)))
 }

@@ -18,11 +18,11 @@ returns-then-not-whole_type c =
     refuses 3 (convert-not (as_limits args.limits) c.requires args.t.now _ (type-not (as_limits args.limits) args.t.now whole-type.result
     whole-type.ensures c.if-not-whole_type.true-raw))
 
-pub core_length-requires : goal.core_length-requires
-core_length-requires c =
+pub invariant_of-whole : goal.invariant_of-whole
+invariant_of-whole c =
     let whole-type = c.whole_type in
     let args = c.args in
-    (type-is (as_limits args.limits) args.t.now whole-type.result whole-type.ensures c.if-not-whole_type.false-raw).1
+    record { whole = (type-is (as_limits args.limits) args.t.now whole-type.result whole-type.ensures c.if-not-whole_type.false-raw).1 }
 
 pub returns-then-not-answer_fits : goal.returns-then-not-answer_fits
 returns-then-not-answer_fits c =
@@ -44,12 +44,10 @@ write_core-requires c =
     let if1 = c.if-not-whole_type in
     let whole-type = c.whole_type in
     let args = c.args in
-    let by-type-is = type-is (as_limits args.limits) args.t.now whole-type.result whole-type.ensures if1.false-raw in record {
-      t_whole = by-type-is.1;
-      ready = writes-ready (as_limits args.limits) (allowed-bytes (as_limits args.limits) c.requires).1 (core (dec args.limits.levels args.t.now))
-          args.out.now _ (convert-whole (as_limits args.limits) c.requires args.t.now (length args.out.now) by-type-is.0)
-          (seen core-length.result) core-length.ensures c.in_ok-n.n (ap seen c.in_ok-n.was) answer-fits.result answer-fits.ensures c.if-not-answer_fits.false-raw;
-    }
+    let by-type-is = type-is (as_limits args.limits) args.t.now whole-type.result whole-type.ensures if1.false-raw in
+    writes-ready (as_limits args.limits) (allowed-bytes (as_limits args.limits) c.requires).1 (core (dec args.limits.levels args.t.now))
+    args.out.now _ (convert-whole (as_limits args.limits) c.requires args.t.now (length args.out.now) by-type-is.0)
+    (seen core-length.result) core-length.ensures c.in_ok-n.n (ap seen c.in_ok-n.was) answer-fits.result answer-fits.ensures c.if-not-answer_fits.false-raw
 
 pub slice_bounds-form-end : goal.slice_bounds-form-end
 slice_bounds-form-end c =

@@ -1,4 +1,4 @@
-use Rattle.cedar.proofs.Laws.Limits.{allowed-bytes, bound-refused}
+use Rattle.cedar.proofs.Laws.Limits.{allowed-bytes}
 use Rattle.forms.specs.Limits.{as_limits}
 use mathlib.Core.Path.{refl, ap}
 use Rattle.forms.specs.Refusals.{number_of}
@@ -12,11 +12,10 @@ use Rattle.forms.specs.Modes.{as_mode}
 use Rattle.forms.specs.Laws.Modes.{mode-known, mode-none}
 use Rattle.forms.specs.declared.refusals.Refusal.TheVariants.{Mode}
 use Rattle.validator.specs.Laws.Questions.{type-missing, type-there, type-whole}
-use Rattle.validator.specs.Laws.Schemas.{limits-bad, limits-fair, checked-missing, checked-there}
+use Rattle.validator.specs.Laws.Schemas.{limits-fair, checked-missing, checked-there}
 use Rattle.validator.specs.Laws.Writing.{refuses, refuses-as, writes-not, writes-over, writes-ready, writes-length, wrote, wrote-small, wrote-whole, wrote-levels}
 use Rattle.validator.specs.Laws.Bound.{bound-mode, bound-schema, bound-first, bound-second, bound-direct, bound-within}
 use Rattle.validator.proofs.least_upper_bound.least_upper_bound_checked.Goals as goal
-
 
 pub returns-in_err-m : goal.returns-in_err-m
 returns-in_err-m c =

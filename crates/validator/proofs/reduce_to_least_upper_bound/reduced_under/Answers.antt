@@ -1,11 +1,7 @@
-use lib.ListN.{length}
-use Rattle.cedar.proofs.Laws.Limits.{allowed-bytes, fold-refused}
+use Rattle.cedar.proofs.Laws.Limits.{allowed-bytes}
 use Rattle.forms.specs.Limits.{as_limits}
-use Rattle.validator.specs.Laws.Schemas.{limits-bad, limits-fair}
-use Rattle.validator.specs.Laws.Writing.{refuses}
+use Rattle.validator.specs.Laws.Schemas.{limits-fair}
 use Rattle.validator.proofs.reduce_to_least_upper_bound.reduced_under.Goals as goal
-
-
 
 pub reduced-requires-2 : goal.reduced-requires-2
 reduced-requires-2 c =
