@@ -3,18 +3,10 @@ use Rattle.std.specs.Borrow.{Bor}
 use Rattle.std.proofs.Common.{subst, sym}
 use Rattle.cedar.specs.Bytes.{Bytes}
 use Rattle.std.specs.Prelude.{ℕ, List}
-use lib.ListN.{length}
-use Rattle.cedar.specs.Calls.{literal_call}
-use Rattle.writing.specs.FormLengths.{seen}
-use Rattle.validator.specs.Answers.{Answered}
-use Rattle.cedar.specs.Limits.{Limits}
-use Rattle.cedar.proofs.Laws.Limits.{literal-refused}
 use Rattle.forms.specs.Limits.{as_limits}
-use Rattle.validator.specs.Laws.Schemas.{limits-bad, limits-fair, checked-missing, of-check}
+use Rattle.validator.specs.Laws.Schemas.{limits-fair, checked-missing}
 use Rattle.validator.specs.Laws.Literal.{literal-no-schema}
-use Rattle.validator.specs.Laws.Writing.{refuses}
 use Rattle.validator.proofs.euid_literal.euid_literal_checked.Goals as goal
-
 
 pub returns-in_default : goal.returns-in_default
 returns-in_default c =

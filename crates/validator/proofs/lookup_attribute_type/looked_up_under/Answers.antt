@@ -1,17 +1,8 @@
-use Rattle.std.specs.Prelude.{ℕ, List}
 use lib.ListN.{length}
-use Rattle.cedar.specs.Limits.{Limits}
-use Rattle.cedar.specs.Calls.{lookup_call}
-use Rattle.cedar.proofs.Laws.Limits.{allowed-bytes, lookup-refused}
 use Rattle.forms.specs.Limits.{as_limits}
-use Rattle.schemas.specs.Schema.{limits_in}
-use Rattle.writing.specs.FormLengths.{seen}
-use Rattle.validator.specs.Laws.Schemas.{limits-bad, limits-fair, checked-missing, of-check}
-use Rattle.validator.specs.Answers.{Answered}
+use Rattle.validator.specs.Laws.Schemas.{limits-fair, checked-missing}
 use Rattle.validator.specs.Laws.Lookup.{lookup-no-schema}
-use Rattle.validator.specs.Laws.Writing.{refuses}
 use Rattle.validator.proofs.lookup_attribute_type.looked_up_under.Goals as goal
-
 
 pub returns-in_default : goal.returns-in_default
 returns-in_default c =
@@ -19,9 +10,3 @@ returns-in_default c =
     let fair = limits-fair (as_limits args.schema.now.limits) c.are_allowed.result c.are_allowed.ensures c.if-not-are_allowed.false-raw in
     lookup-no-schema (as_limits args.schema.now.limits) fair args.schema.now.bytes.now args.attr args.t.now args.out.now (length args.work.now)
     (checked-missing args.schema.now fair c.in_default.ensures)
-
-
-
-pub looked_up-requires-2 : goal.looked_up-requires-2
-looked_up-requires-2 c = record { last_room = (allowed-bytes (limits_in c.in-Some.whole) c.in-Some.whole.sectioned.fair).1 }
-

@@ -13,7 +13,6 @@ returns-then-not-whole_type c =
     c.if-not-whole_type.true-raw in
     may-have-no-type (limits_in args.schema.now) c.args.schema.now.sectioned.fair args.attr args.schema.now.bytes.now args.t.now _ by-checked-there by-type-missing
 
-
 pub returns : goal.returns
 returns c =
     let args = c.args in

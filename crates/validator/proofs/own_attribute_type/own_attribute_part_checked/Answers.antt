@@ -1,17 +1,7 @@
-use Rattle.std.specs.Prelude.{ℕ, List}
-use mathlib.Core.Path.{◌≡◌, sym, ap}
-use Rattle.cedar.specs.Outcome.{Outcome}
-use Rattle.cedar.specs.BodyPlace.{body_in}
-use Rattle.cedar.specs.Calls.{own_attribute_call}
-use Rattle.writing.specs.FormLengths.{seen}
-use Rattle.validator.specs.Handed.{part_of}
-use Rattle.cedar.specs.Limits.{Limits}
-use Rattle.cedar.proofs.Laws.Limits.{own-attribute-refused}
 use Rattle.forms.specs.Limits.{as_limits}
-use Rattle.validator.specs.Laws.Schemas.{limits-bad, limits-fair, checked-missing, of-check}
+use Rattle.validator.specs.Laws.Schemas.{limits-fair, checked-missing}
 use Rattle.validator.specs.Laws.Handed.{part-no-schema}
 use Rattle.validator.proofs.own_attribute_type.own_attribute_part_checked.Goals as goal
-
 
 pub returns-in_default : goal.returns-in_default
 returns-in_default c =
@@ -19,4 +9,3 @@ returns-in_default c =
     let fair = limits-fair (as_limits args.schema.now.limits) c.are_allowed.result c.are_allowed.ensures c.if-not-are_allowed.false-raw in
     part-no-schema (as_limits args.schema.now.limits) fair args.schema.now.bytes.now args.attr args.t.now
     (checked-missing args.schema.now fair c.in_default.ensures)
-

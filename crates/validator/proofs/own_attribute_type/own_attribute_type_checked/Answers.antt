@@ -26,7 +26,6 @@ slice_bounds-result-count c =
     (seen c.own_attribute_part_checked.result) c.own_attribute_part_checked.ensures c.in-Ok-Some.part (ap seen c.in-Ok-Some.is ∙ ap ok c.in-Ok-Some.field-0-is) in
     omega (arith, f.order, f.inside)
 
-
 pub slice_bounds-result-end-then-part : goal.slice_bounds-result-end-then-part
 slice_bounds-result-end-then-part c =
     let args = c.args in
@@ -47,7 +46,6 @@ slice_bounds-result-count-in-Ok-Some c =
     let f = here_found (as_limits args.schema.now.limits) args.schema.now.bytes.now args.attr args.t (λ i. omega (arith, c.type_inv.t i))
     (seen c.own_attribute_part_checked.result) c.own_attribute_part_checked.ensures c.in-Ok-Some.part (ap seen c.in-Ok-Some.is ∙ ap ok c.in-Ok-Some.field-0-is) in
     omega (arith, f.order, f.inside)
-
 
 pub slice_bounds-result-end-in-Ok-Some : goal.slice_bounds-result-end-in-Ok-Some
 slice_bounds-result-end-in-Ok-Some c =

@@ -1,4 +1,3 @@
-use Rattle.std.proofs.Common.{arith}
 use Rattle.schemas.specs.Schema.{limits_in}
 use Prim.Native.Nat.{◌-◌}
 use Rattle.cedar.specs.Attribute.{own_attr}
@@ -16,7 +15,6 @@ returns-then-not-whole_type c =
     let by-type-missing = type-missing (limits_in args.schema.now) args.t.now c.whole_type.result c.whole_type.ensures
     c.if-not-whole_type.true-raw in
     part-no-type (limits_in args.schema.now) c.args.schema.now.sectioned.fair args.schema.now.bytes.now args.attr args.t.now _ there by-type-missing
-
 
 pub returns-in_default : goal.returns-in_default
 returns-in_default c =

@@ -1,16 +1,8 @@
-use Rattle.std.specs.Prelude.{ℕ, List}
-use mathlib.Core.Path.{◌≡◌, sym, ap}
-use Rattle.cedar.specs.Calls.{conforms_by}
-use Rattle.writing.specs.FormLengths.{seen}
-use Rattle.validator.specs.Answers.{answer_of}
-use Rattle.cedar.specs.Limits.{Limits}
-use Rattle.cedar.proofs.Laws.Limits.{conforms-refused}
 use Rattle.forms.specs.Limits.{as_limits}
 use Rattle.conformance.specs.Counts.{counts_of}
-use Rattle.validator.specs.Laws.Schemas.{limits-bad, limits-fair, checked-missing, of-check}
+use Rattle.validator.specs.Laws.Schemas.{limits-fair, checked-missing}
 use Rattle.validator.specs.Laws.Conformance.{conforms-no-schema}
 use Rattle.validator.proofs.typecheck_restricted_expr.conforms_checked.Goals as goal
-
 
 pub returns-in_default : goal.returns-in_default
 returns-in_default c =
@@ -18,4 +10,3 @@ returns-in_default c =
     let fair = limits-fair (as_limits args.schema.now.limits) c.are_allowed.result c.are_allowed.ensures c.if-not-are_allowed.false-raw in
     conforms-no-schema (counts_of args.counts) (as_limits args.schema.now.limits) fair args.schema.now.bytes.now args.t.now args.v.now
     (checked-missing args.schema.now fair c.in_default.ensures)
-
