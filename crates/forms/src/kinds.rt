@@ -60,12 +60,6 @@ impl Kind {
     {
         Kind::try_from(t[0]).unwrap()
     }
-
-    pub const LONG: u8 = 4;
-
-    pub const SET: u8 = 7;
-
-    pub const ENTITY: u8 = 10;
 }
 
 // Kinds of value forms, in the order of their numbers.
@@ -110,8 +104,6 @@ impl ValueKind {
     {
         ValueKind::try_from(v[0]).unwrap()
     }
-
-    pub const UID: u8 = 4;
 }
 
 // Kinds of entity types in a schema, in the order of their numbers.

@@ -97,7 +97,7 @@ pub fn type_within(t: &[u8], levels: usize) -> bool
         if b.len() == 0 {
             return false;
         }
-        if b[0] != Kind::SET {
+        if b[0] != Kind::Set as u8 {
             break;
         }
         b = &b[Offset::ELEMENT..];

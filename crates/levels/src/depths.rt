@@ -69,7 +69,7 @@ pub fn type_levels(t: &[u8], levels: usize) -> usize
 {
     let mut b = &t[0..];
     let mut left = levels;
-    while b[0] == Kind::SET {
+    while b[0] == Kind::Set as u8 {
         b = &b[Offset::ELEMENT..];
         left -= 1;
     }

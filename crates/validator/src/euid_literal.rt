@@ -28,7 +28,7 @@ fn whole_uid(v: &[u8], limits: Limits) -> bool
     if !whole_value(v, limits) {
         return false;
     }
-    v[0] == ValueKind::UID
+    v[0] == ValueKind::Uid as u8
 }
 
 // The answer for a whole schema.

@@ -1,7 +1,6 @@
 use Rattle.writing.specs.FormLengths.{seen}
 use Rattle.exports.specs.Checks.{within}
 use lib.ListN.{length}
-use Rattle.exports.proofs.Laws.Numbers.{numbered}
 use Rattle.exports.specs.Laws.Brief.{brief, convert-short}
 use Rattle.exports.proofs.calls.tirncheav_convert.Goals as goal
 
@@ -9,6 +8,3 @@ pub answer_number-requires : goal.answer_number-requires
 answer_number-requires c =
     brief (seen c.convert.result) (convert-short (within c.args.levels c.args.bytes) c.args.t.now (length
     c.args.out.now)) c.convert.ensures.answer
-
-pub returns : goal.returns
-returns c = numbered c.answer_number.result c.answer_number.ensures c.convert.ensures

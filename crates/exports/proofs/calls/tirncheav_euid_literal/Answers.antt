@@ -1,7 +1,6 @@
 use Rattle.writing.specs.FormLengths.{seen}
 use Rattle.exports.specs.Checks.{within}
 use lib.ListN.{length}
-use Rattle.exports.proofs.Laws.Numbers.{numbered}
 use Rattle.exports.specs.Laws.Brief.{brief, literal-short}
 use Rattle.exports.proofs.calls.tirncheav_euid_literal.Goals as goal
 
@@ -11,6 +10,3 @@ answer_number-requires c =
     brief (seen c.euid_literal.result) (literal-short (within args.levels args.bytes) args.schema.now args.v.now (length
     args.out.now))
     c.euid_literal.ensures.answer
-
-pub returns : goal.returns
-returns c = numbered c.answer_number.result c.answer_number.ensures c.euid_literal.ensures

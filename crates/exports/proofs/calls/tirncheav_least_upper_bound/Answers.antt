@@ -1,7 +1,6 @@
 use Rattle.writing.specs.FormLengths.{seen}
 use Rattle.exports.specs.Checks.{within}
 use lib.ListN.{length}
-use Rattle.exports.proofs.Laws.Numbers.{numbered}
 use Rattle.exports.specs.Laws.Brief.{brief, bound-short}
 use Rattle.exports.proofs.calls.tirncheav_least_upper_bound.Goals as goal
 
@@ -11,6 +10,3 @@ answer_number-requires c =
     let by-bound-short = bound-short (within args.levels args.bytes) args.schema.now args.mode args.t0.now args.t1.now (length
     args.out.now) in
     brief (seen c.least_upper_bound.result) by-bound-short c.least_upper_bound.ensures.answer
-
-pub returns : goal.returns
-returns c = numbered c.answer_number.result c.answer_number.ensures c.least_upper_bound.ensures

@@ -1,7 +1,6 @@
 use Rattle.writing.specs.FormLengths.{seen}
 use Rattle.exports.specs.Checks.{within}
 use lib.ListN.{length}
-use Rattle.exports.proofs.Laws.Numbers.{numbered-in}
 use Rattle.exports.specs.Laws.Brief.{brief, lookup-short}
 use Rattle.exports.proofs.calls.tirncheav_lookup_attribute_type.Goals as goal
 
@@ -12,6 +11,3 @@ answer_number-requires c =
     let by-lookup-short = lookup-short (within args.levels args.bytes) args.schema.now args.attr args.t.now (length args.out.now)
     (length args.work.now) in
     brief (seen lookup-attribute-type-2.result) by-lookup-short lookup-attribute-type-2.ensures.answer
-
-pub returns : goal.returns
-returns c = numbered-in c.answer_number.result c.answer_number.ensures c.lookup_attribute_type.ensures

@@ -1,9 +1,7 @@
 use Rattle.writing.specs.FormLengths.{seen}
-use mathlib.Core.Path.{ap, ◌∙◌}
 use native.Mathlib.Omega.{arith}
 use Rattle.forms.specs.Laws.Bytes.{Bytes-index}
 use Rattle.exports.specs.Checks.{within}
-use Rattle.exports.specs.Numbers.{answer_number}
 use Rattle.exports.specs.Laws.Brief.{brief, measure-type-short}
 use Rattle.exports.proofs.calls.tirncheav_measure_type.Goals as goal
 
@@ -12,6 +10,3 @@ answer_number-requires c =
     let args = c.args in
     let bytes = Bytes-index args.t.now (λ i. omega (arith, c.type_inv.t i)) in
     brief (seen c.measure_type.result) (measure-type-short (within args.levels args.bytes) args.t.now bytes) c.measure_type.ensures
-
-pub returns : goal.returns
-returns c = c.answer_number.ensures ∙ ap answer_number c.measure_type.ensures

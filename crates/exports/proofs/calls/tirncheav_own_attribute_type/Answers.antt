@@ -1,8 +1,6 @@
 use Rattle.writing.specs.FormLengths.{seen}
 use Rattle.exports.specs.Checks.{within}
 use native.Mathlib.Omega.{arith}
-use mathlib.Core.Path.{ap, ◌∙◌}
-use Rattle.exports.specs.Numbers.{part_number}
 use Rattle.exports.proofs.Laws.Numbers.{narrow}
 use Rattle.exports.proofs.calls.tirncheav_own_attribute_type.Goals as goal
 
@@ -12,6 +10,3 @@ part_number-requires c =
     narrow (within args.levels args.bytes) args.schema.now args.attr args.t (λ i. omega (arith, c.type_inv.t i))
     (seen c.own_attribute_part.result)
     c.own_attribute_part.ensures
-
-pub returns : goal.returns
-returns c = c.part_number.ensures ∙ ap part_number c.own_attribute_part.ensures

@@ -1,7 +1,6 @@
 use Rattle.writing.specs.FormLengths.{seen}
 use Rattle.exports.specs.Checks.{within}
 use lib.ListN.{length}
-use Rattle.exports.proofs.Laws.Numbers.{numbered-in}
 use Rattle.exports.specs.Laws.Brief.{brief, fold-short}
 use Rattle.exports.proofs.calls.tirncheav_reduce_to_least_upper_bound.Goals as goal
 
@@ -12,6 +11,3 @@ answer_number-requires c =
     let by-fold-short = fold-short (within args.levels args.bytes) args.schema.now args.mode args.list.now (length args.out.now)
     (length args.work.now) in
     brief (seen reduce-to-least-upper-bound-2.result) by-fold-short reduce-to-least-upper-bound-2.ensures.answer
-
-pub returns : goal.returns
-returns c = numbered-in c.answer_number.result c.answer_number.ensures c.reduce_to_least_upper_bound.ensures

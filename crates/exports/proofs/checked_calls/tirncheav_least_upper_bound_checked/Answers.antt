@@ -1,12 +1,6 @@
-use Rattle.std.specs.Prelude.{ℕ, List}
 use Rattle.writing.specs.FormLengths.{seen}
-use Rattle.cedar.specs.Calls.{bound_call}
-use Rattle.exports.specs.Numbers.{Numbered}
-use Rattle.cedar.specs.Limits.{Limits}
 use Rattle.forms.specs.Limits.{as_limits}
-use Rattle.validator.specs.Laws.Schemas.{of-call}
 use lib.ListN.{length}
-use Rattle.exports.proofs.Laws.Numbers.{numbered}
 use Rattle.exports.specs.Laws.Brief.{brief, bound-short}
 use Rattle.exports.proofs.checked_calls.tirncheav_least_upper_bound_checked.Goals as goal
 
@@ -17,11 +11,3 @@ answer_number-requires c =
     let by-bound-short = bound-short (as_limits c.check_again.result.limits) c.check_again.result.bytes.now args.mode args.t0.now args.t1.now
     (length args.out.now) in
     brief (seen least-upper-bound-checked-2.result) by-bound-short least-upper-bound-checked-2.ensures.answer
-
-pub returns : goal.returns
-returns c =
-    let args = c.args in
-    of-call c.check_again.result c.check_again.ensures
-    (λ (lim : Limits) (s : List ℕ). Numbered (bound_call lim args.mode s args.t0.now args.t1.now (length args.out.now)) args.out.now
-    c.least_upper_bound_checked.new.out c.answer_number.result)
-    (numbered c.answer_number.result c.answer_number.ensures c.least_upper_bound_checked.ensures)

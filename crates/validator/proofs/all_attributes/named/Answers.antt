@@ -1,9 +1,8 @@
 use Rattle.schemas.specs.Schema.{limits_in}
-use native.Mathlib.Omega.{arith}
 use lib.ListN.{length}
 use Rattle.validator.specs.Laws.Questions.{type-missing, type-there, type-whole, type-few}
 use Rattle.validator.specs.Laws.Schemas.{schema-there}
-use Rattle.validator.specs.Laws.Names.{names-no-type, names-too-long, names-over, names-small, names-fit, names-write}
+use Rattle.validator.specs.Laws.Names.{names-no-type, names-too-long, names-over, names-write}
 use Rattle.validator.proofs.all_attributes.named.Goals as goal
 
 pub returns-then-not-whole_type : goal.returns-then-not-whole_type
@@ -48,32 +47,6 @@ returns-then-not-answer_fits c =
     args.work.now) _ by-checked-there _ by-type-there _
     c.all_names.new.kept c.all_names.result c.all_names.ensures c.in-Ok.n c.in-Ok.is
     c.answer_fits.result c.answer_fits.ensures c.if-not-answer_fits.true-raw
-
-pub slice_bounds-copy-end : goal.slice_bounds-copy-end
-slice_bounds-copy-end c =
-    let args = c.args in
-    let by-checked-there = schema-there args.schema.now in
-    let by-type-there = type-there (limits_in args.schema.now) args.t.now c.whole_type.result c.whole_type.ensures
-    c.if-not-whole_type.false-raw in
-    omega (
-      arith,
-      names-small (limits_in args.schema.now) c.args.schema.now.sectioned.fair args.schema.now.bytes.now args.t.now args.out.now (length
-          args.work.now) _ by-checked-there _ by-type-there _
-          c.all_names.new.kept c.all_names.result c.all_names.ensures c.in-Ok.n c.in-Ok.is
-          c.answer_fits.result c.answer_fits.ensures c.if-not-answer_fits.false-raw,
-      c.all_names.auto.kept,
-    )
-
-pub copy-requires : goal.copy-requires
-copy-requires c =
-    let args = c.args in
-    let by-checked-there = schema-there args.schema.now in
-    let by-type-there = type-there (limits_in args.schema.now) args.t.now c.whole_type.result c.whole_type.ensures
-    c.if-not-whole_type.false-raw in
-    names-fit (limits_in args.schema.now) c.args.schema.now.sectioned.fair args.schema.now.bytes.now args.t.now args.out.now (length
-    args.work.now) _ by-checked-there _ by-type-there _
-    c.all_names.new.kept c.all_names.result c.all_names.ensures c.in-Ok.n c.in-Ok.is
-    c.answer_fits.result c.answer_fits.ensures c.if-not-answer_fits.false-raw
 
 pub returns : goal.returns
 returns c =

@@ -8,31 +8,8 @@ use Rattle.cedar.specs.Whole.{whole_type}
 use Rattle.cedar.specs.Calls.{ask}
 use Rattle.forms.specs.TypeBytes.{dec}
 use Rattle.validator.specs.Answers.{answer_of}
-use Rattle.validator.specs.Laws.Questions.{ask-no, ask-on, missing, type-there, type-whole, within-limits}
+use Rattle.validator.specs.Laws.Questions.{ask-on, type-there, type-whole, within-limits}
 use Rattle.validator.proofs.are_types_disjoint.disjoint_under.Goals as goal
-
-pub returns-then-not-whole_type : goal.returns-then-not-whole_type
-returns-then-not-whole_type c =
-    let by-missing = missing (whole_type (as_limits c.args.limits) c.args.t0.now) c.whole_type.result
-    c.whole_type.ensures
-    c.if-not-whole_type.true-raw in
-    within-limits (as_limits c.args.limits) c.requires _
-    (ask-no bad_first (λ (a : Ty). ask bad_second (whole_type (as_limits c.args.limits) c.args.t1.now) (λ (b : Ty). said
-    (disjoint a b))) by-missing)
-
-pub returns-then-not-whole_type-2 : goal.returns-then-not-whole_type-2
-returns-then-not-whole_type-2 c =
-    let if1 = c.if-not-whole_type in
-    let args = c.args in
-    let by-missing = missing (whole_type (as_limits args.limits) args.t1.now) c.whole_type-2.result
-    c.whole_type-2.ensures
-    c.if-not-whole_type-2.true-raw in
-    let by-ask-no = ask-no bad_second (λ (b : Ty). said (disjoint (dec args.limits.levels args.t0.now) b)) by-missing in
-    let by-type-there = type-there (as_limits args.limits) args.t0.now c.whole_type.result c.whole_type.ensures
-    if1.false-raw in
-    within-limits (as_limits c.args.limits) c.requires _
-    (ask-on bad_first (λ (a : Ty). ask bad_second (whole_type (as_limits args.limits) args.t1.now) (λ (b : Ty). said
-    (disjoint a b))) by-type-there by-ask-no)
 
 pub are_types_disjoint-requires : goal.are_types_disjoint-requires
 are_types_disjoint-requires c =

@@ -1,22 +1,14 @@
 use Rattle.forms.specs.Limits.{as_limits}
 use Rattle.cedar.proofs.Laws.Limits.{allowed-bytes}
-use native.Mathlib.Omega.{arith}
 use mathlib.Core.Path.{ap}
 use Rattle.forms.specs.Refusals.{number_of}
 use Rattle.writing.specs.FormLengths.{seen}
 use lib.ListN.{length}
 use Rattle.forms.specs.TypeBytes.{dec}
 use Rattle.conversions.specs.CoreTypes.{core}
-use Rattle.validator.specs.Laws.Writing.{type-is, type-not, refuses, refuses-as, writes-not, writes-over, writes-ready, wrote, wrote-small, wrote-whole, wrote-levels}
-use Rattle.validator.specs.Laws.Conversion.{convert-not, convert-whole, core-within}
+use Rattle.validator.specs.Laws.Writing.{type-is, refuses-as, writes-not, writes-over, writes-ready, wrote, wrote-whole, wrote-levels}
+use Rattle.validator.specs.Laws.Conversion.{convert-whole, core-within}
 use Rattle.validator.proofs.convert.convert_under.Goals as goal
-
-pub returns-then-not-whole_type : goal.returns-then-not-whole_type
-returns-then-not-whole_type c =
-    let whole-type = c.whole_type in
-    let args = c.args in
-    refuses 3 (convert-not (as_limits args.limits) c.requires args.t.now _ (type-not (as_limits args.limits) args.t.now whole-type.result
-    whole-type.ensures c.if-not-whole_type.true-raw))
 
 pub invariant_of-whole : goal.invariant_of-whole
 invariant_of-whole c =
@@ -48,17 +40,6 @@ write_core-requires c =
     writes-ready (as_limits args.limits) (allowed-bytes (as_limits args.limits) c.requires).1 (core (dec args.limits.levels args.t.now))
     args.out.now _ (convert-whole (as_limits args.limits) c.requires args.t.now (length args.out.now) by-type-is.0)
     (seen core-length.result) core-length.ensures c.in_ok-n.n (ap seen c.in_ok-n.was) answer-fits.result answer-fits.ensures c.if-not-answer_fits.false-raw
-
-pub slice_bounds-form-end : goal.slice_bounds-form-end
-slice_bounds-form-end c =
-    let args = c.args in
-    let by-type-is = type-is (as_limits args.limits) args.t.now c.whole_type.result c.whole_type.ensures c.if-not-whole_type.false-raw in
-    let by-convert-whole = convert-whole (as_limits args.limits) c.requires args.t.now (length args.out.now) by-type-is.0 in
-    let was-written = wrote (as_limits args.limits) (allowed-bytes (as_limits args.limits) c.requires).1 (core (dec args.limits.levels args.t.now))
-    args.out.now _ by-convert-whole (seen c.core_length.result) c.core_length.ensures c.in_ok-n.n (ap seen c.in_ok-n.was)
-    c.answer_fits.result c.answer_fits.ensures c.if-not-answer_fits.false-raw c.write_core.new.out c.write_core.result c.write_core.ensures
-    (core-within (as_limits args.limits) args.t.now (λ i. (c.type_inv.t i).fits) by-type-is.1) in
-    omega (arith, wrote-small was-written)
 
 pub type_levels-requires : goal.type_levels-requires
 type_levels-requires c =

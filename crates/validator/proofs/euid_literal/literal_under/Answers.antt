@@ -2,7 +2,7 @@ use Rattle.schemas.specs.Schema.{limits_in}
 use native.Mathlib.Omega.{arith}
 use Rattle.validator.specs.Laws.Schemas.{schema-there}
 use Rattle.validator.specs.Laws.Uids.{uid-missing, uid-there, uid-read}
-use Rattle.validator.specs.Laws.Literal.{literal-no-uid, literal-nothing, literal-over, literal-room, literal-writes}
+use Rattle.validator.specs.Laws.Literal.{literal-no-uid, literal-nothing, literal-over, literal-writes}
 use Rattle.validator.proofs.euid_literal.literal_under.Goals as goal
 
 pub returns-then-not-whole_uid : goal.returns-then-not-whole_uid
@@ -38,9 +38,6 @@ returns-in_default c =
     literal-nothing (limits_in args.schema.now) c.args.schema.now.sectioned.fair args.schema.now.bytes.now args.v.now args.out.now there c.u16_at-entity.result c.u16_at.result uid
     c.in_default.ensures
 
-pub length-n-requires : goal.length-n-requires
-length-n-requires c = c.in-Some.ensures.laid
-
 pub returns-then-not-answer_fits : goal.returns-then-not-answer_fits
 returns-then-not-answer_fits c =
     let args = c.args in
@@ -52,23 +49,6 @@ returns-then-not-answer_fits c =
     literal-over (limits_in args.schema.now) c.args.schema.now.sectioned.fair args.schema.now.bytes.now args.v.now args.out.now there c.u16_at-entity.result c.u16_at.result uid
     c.in-Some.found x.is x.stands x.laid bytes c.length-n.result c.length-n.ensures c.answer_fits.result c.answer_fits.ensures
     c.if-not-answer_fits.true-raw
-
-pub write-requires : goal.write-requires
-write-requires c =
-    let args = c.args in
-    let uid = uid-read (limits_in args.schema.now) args.v.now c.whole_uid.result c.whole_uid.ensures c.if-not-whole_uid.false-raw
-    c.u16_at-entity.result c.u16_at.result c.u16_at-entity.ensures.0 c.u16_at.ensures.0 in
-    let there = schema-there args.schema.now in
-    let x = c.in-Some.ensures in
-    let bytes = x.bytes c.requires in
-    let room =
-    literal-room (limits_in args.schema.now) c.args.schema.now.sectioned.fair args.schema.now.bytes.now args.v.now args.out.now there c.u16_at-entity.result c.u16_at.result uid
-    c.in-Some.found x.is x.stands x.laid bytes c.length-n.result c.length-n.ensures c.answer_fits.result c.answer_fits.ensures
-    c.if-not-answer_fits.false-raw in
-    record { laid = x.laid; entity_bound = c.u16_at-entity.ensures.1; in_bounds = room }
-
-pub levels-requires : goal.levels-requires
-levels-requires c = c.in-Some.ensures.stands
 
 pub returns : goal.returns
 returns c =

@@ -1,12 +1,6 @@
 use Rattle.forms.specs.Limits.{as_limits}
-use Rattle.validator.specs.Laws.Uids.{uid-not-whole, value-some, uid-by-kind}
+use Rattle.validator.specs.Laws.Uids.{value-some, uid-by-kind}
 use Rattle.validator.proofs.euid_literal.whole_uid.Goals as goal
-
-pub returns-then-not-whole_value : goal.returns-then-not-whole_value
-returns-then-not-whole_value c =
-    let whole-value = c.whole_value in
-    let args = c.args in
-    uid-not-whole (as_limits args.limits) args.v.now whole-value.result whole-value.ensures c.if-not-whole_value.true-raw
 
 pub bounds-v-0 : goal.bounds-v-0
 bounds-v-0 c =

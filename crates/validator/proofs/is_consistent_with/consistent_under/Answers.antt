@@ -9,34 +9,8 @@ use Rattle.cedar.specs.Whole.{whole_type}
 use Rattle.cedar.specs.Calls.{ask}
 use Rattle.forms.specs.TypeBytes.{dec}
 use Rattle.validator.specs.Answers.{answer_of}
-use Rattle.validator.specs.Laws.Questions.{ask-no, ask-on, missing, guard-no, guard-yes, type-there, type-whole, within-limits}
+use Rattle.validator.specs.Laws.Questions.{ask-no, ask-on, guard-no, guard-yes, type-there, type-whole, within-limits}
 use Rattle.validator.proofs.is_consistent_with.consistent_under.Goals as goal
-
-pub returns-then-not-whole_type : goal.returns-then-not-whole_type
-returns-then-not-whole_type c =
-    let by-missing = missing (whole_type (as_limits c.args.limits) c.args.t0.now) c.whole_type.result
-    c.whole_type.ensures
-    c.if-not-whole_type.true-raw in
-    within-limits (as_limits c.args.limits) c.requires _
-    (ask-no bad_first
-    (λ (t : Ty). ask bad_second (whole_type (as_limits c.args.limits) c.args.t1.now) (λ (u : Ty). ask not_plain (guard (plain u)) (λ _. said
-    (consistent t u))))
-    by-missing)
-
-pub returns-then-not-whole_type-2 : goal.returns-then-not-whole_type-2
-returns-then-not-whole_type-2 c =
-    let if1 = c.if-not-whole_type in
-    let args = c.args in
-    let by-type-there = type-there (as_limits args.limits) args.t0.now c.whole_type.result c.whole_type.ensures
-    if1.false-raw in
-    let by-missing = missing (whole_type (as_limits args.limits) args.t1.now) c.whole_type-2.result
-    c.whole_type-2.ensures
-    c.if-not-whole_type-2.true-raw in
-    within-limits (as_limits c.args.limits) c.requires _
-    (ask-on bad_first (λ (t : Ty). ask bad_second (whole_type (as_limits args.limits) args.t1.now) (λ (u : Ty). ask not_plain (guard (plain u)) (λ _. said
-    (consistent t u))))
-    by-type-there (ask-no bad_second (λ (u : Ty). ask not_plain (guard (plain u)) (λ _. said (consistent (dec args.limits.levels args.t0.now) u)))
-    by-missing))
 
 pub is_plain-requires : goal.is_plain-requires
 is_plain-requires c =

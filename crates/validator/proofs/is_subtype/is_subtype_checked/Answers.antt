@@ -1,21 +1,10 @@
-use mathlib.Core.Path.{◌∙◌}
 use Rattle.cedar.specs.Result.{ok}
 use Rattle.forms.specs.Limits.{as_limits}
-use Rattle.forms.specs.Laws.Modes.{mode-known, mode-none}
-use Rattle.forms.specs.declared.refusals.Refusal.TheVariants.{Mode}
-use Rattle.writing.specs.Laws.FormLengths.{seen-err}
+use Rattle.forms.specs.Laws.Modes.{mode-known}
 use Rattle.validator.specs.Laws.Questions.{type-missing, type-there, type-whole}
 use Rattle.validator.specs.Laws.Schemas.{limits-fair, checked-missing, checked-there}
-use Rattle.validator.specs.Laws.Subtype.{subtype-mode, subtype-schema, subtype-first, subtype-second, subtype-said}
+use Rattle.validator.specs.Laws.Subtype.{subtype-schema, subtype-first, subtype-second, subtype-said}
 use Rattle.validator.proofs.is_subtype.is_subtype_checked.Goals as goal
-
-pub returns-in_err-m : goal.returns-in_err-m
-returns-in_err-m c =
-    let args = c.args in
-    let fair = limits-fair (as_limits args.schema.now.limits) c.are_allowed.result c.are_allowed.ensures c.if-not-are_allowed.false-raw in
-    let by-mode-none = mode-none args.mode c.try_from.result c.try_from.ensures c.in_err-m.was in
-    seen-err c.from_residual.result Mode c.from_residual.ensures.1 ∙
-    subtype-mode (as_limits args.schema.now.limits) fair args.mode args.schema.now.bytes.now args.t0.now args.t1.now by-mode-none
 
 pub returns-in_default : goal.returns-in_default
 returns-in_default c =

@@ -4,27 +4,16 @@ use mathlib.Core.Path.{refl, ap}
 use Rattle.forms.specs.Refusals.{number_of}
 use Rattle.writing.specs.FormLengths.{seen}
 use Prim.Native.Nat.{ℕ, ◌<◌}
-use native.Mathlib.Omega.{arith}
 use lib.ListN.{length, get_or}
 use Rattle.cedar.specs.Laws.DirectBound.{direct}
 use Rattle.forms.specs.TypeBytes.{dec}
 use Rattle.forms.specs.Modes.{as_mode}
-use Rattle.forms.specs.Laws.Modes.{mode-known, mode-none}
-use Rattle.forms.specs.declared.refusals.Refusal.TheVariants.{Mode}
+use Rattle.forms.specs.Laws.Modes.{mode-known}
 use Rattle.validator.specs.Laws.Questions.{type-missing, type-there, type-whole}
 use Rattle.validator.specs.Laws.Schemas.{limits-fair, checked-missing, checked-there}
-use Rattle.validator.specs.Laws.Writing.{refuses, refuses-as, writes-not, writes-over, writes-ready, writes-length, wrote, wrote-small, wrote-whole, wrote-levels}
-use Rattle.validator.specs.Laws.Bound.{bound-mode, bound-schema, bound-first, bound-second, bound-direct, bound-within}
+use Rattle.validator.specs.Laws.Writing.{refuses, refuses-as, writes-not, writes-over, writes-ready, writes-length, wrote, wrote-whole, wrote-levels}
+use Rattle.validator.specs.Laws.Bound.{bound-schema, bound-first, bound-second, bound-direct, bound-within}
 use Rattle.validator.proofs.least_upper_bound.least_upper_bound_checked.Goals as goal
-
-pub returns-in_err-m : goal.returns-in_err-m
-returns-in_err-m c =
-    let args = c.args in
-    let fair = limits-fair (as_limits args.schema.now.limits) c.are_allowed.result c.are_allowed.ensures c.if-not-are_allowed.false-raw in
-    let by-mode-none = mode-none args.mode c.try_from.result c.try_from.ensures c.in_err-m.was in
-    let by-bound-mode = bound-mode (as_limits args.schema.now.limits) fair args.mode args.schema.now.bytes.now args.t0.now args.t1.now (length
-    args.out.now) by-mode-none in
-    refuses-as c.from_residual.result Mode c.from_residual.ensures.1 (refuses 1 by-bound-mode)
 
 pub returns-in_default : goal.returns-in_default
 returns-in_default c =
@@ -107,28 +96,6 @@ write_bound-requires c =
           (seen c.bound_length.result) c.bound_length.ensures
           c.in_ok-n.n (ap seen c.in_ok-n.was) c.answer_fits.result c.answer_fits.ensures c.if-not-answer_fits.false-raw;
     }
-
-pub slice_bounds-form-end : goal.slice_bounds-form-end
-slice_bounds-form-end c =
-    let args = c.args in
-    let fair = limits-fair (as_limits args.schema.now.limits) c.are_allowed.result c.are_allowed.ensures c.if-not-are_allowed.false-raw in
-    let by-direct = direct (as_mode c.in_ok-m.m) (dec args.schema.now.limits.levels args.t0.now) (dec args.schema.now.limits.levels args.t1.now) in
-    let by-mode-known = mode-known args.mode c.try_from.result c.try_from.ensures c.in_ok-m.m c.in_ok-m.was in
-    let by-checked-there = checked-there args.schema.now c.in-Some.field-0 c.in-Some.is in
-    let by-type-there = type-there (as_limits args.schema.now.limits) args.t0.now c.whole_type.result c.whole_type.ensures c.if-not-whole_type.false-raw in
-    let by-type-there-2 = type-there (as_limits args.schema.now.limits) args.t1.now c.whole_type-2.result c.whole_type-2.ensures
-    c.if-not-whole_type-2.false-raw in
-    let known-first : (i : ℕ) → get_or args.t0.now i 0 < 256 = λ i. (c.type_inv.t0 i).fits in
-    let known-second : (i : ℕ) → get_or args.t1.now i 0 < 256 = λ i. (c.type_inv.t1 i).fits in
-    let by-bound-direct = bound-direct (as_limits args.schema.now.limits) fair args.mode args.schema.now.bytes.now args.t0.now args.t1.now (length args.out.now)
-    _ by-mode-known _ by-checked-there by-type-there known-first known-second by-type-there-2 in
-    let by-bound-within = bound-within (as_limits args.schema.now.limits) fair args.mode args.schema.now.bytes.now args.t0.now args.t1.now (length args.out.now)
-    _ by-mode-known _ by-checked-there by-type-there known-first known-second by-type-there-2 in
-    let was-written = wrote (as_limits args.schema.now.limits) (allowed-bytes (as_limits args.schema.now.limits) fair).1 by-direct args.out.now _ by-bound-direct
-    (seen c.bound_length.result) c.bound_length.ensures c.in_ok-n.n (ap seen c.in_ok-n.was) c.answer_fits.result
-    c.answer_fits.ensures c.if-not-answer_fits.false-raw c.write_bound.new.out c.write_bound.result c.write_bound.ensures
-    by-bound-within in
-    omega (arith, wrote-small was-written)
 
 pub type_levels-requires : goal.type_levels-requires
 type_levels-requires c =

@@ -1,8 +1,7 @@
 use Rattle.std.proofs.Common.{ap, ◌∙◌}
 use Rattle.std.specs.Prelude.{Ok}
 use Rattle.schemas.specs.Schema.{limits_in}
-use Rattle.cedar.proofs.Laws.Limits.{allowed-levels}
-use Rattle.validator.specs.Laws.Lookup.{lookup-whole, small, lookup-no-type, lookup-nothing, lookup-too-long, lookup-over, lookup-room, lookup-writes}
+use Rattle.validator.specs.Laws.Lookup.{lookup-no-type, lookup-nothing, lookup-too-long, lookup-over, lookup-writes}
 use native.Mathlib.Omega.{arith}
 use lib.ListN.{length}
 use Rattle.validator.specs.Laws.Questions.{type-missing, type-there, type-whole, type-few}
@@ -38,45 +37,6 @@ returns-then-not-answer_fits c =
     c.look_up.new.last c.look_up.result c.look_up.ensures c.in-Some.found (c.in-Ok.is ∙ ap Ok c.in-Some.is) (omega (arith, c.look_up.auto.last, c.requires.last_room))
     c.answer_fits.result
     c.answer_fits.ensures c.if-not-answer_fits.true-raw
-
-pub slice_bounds-form-end : goal.slice_bounds-form-end
-slice_bounds-form-end c =
-    let args = c.args in
-    let by-checked-there = schema-there args.schema.now in
-    let by-type-there = type-there (limits_in args.schema.now) args.t.now c.whole_type.result c.whole_type.ensures
-    c.if-not-whole_type.false-raw in
-    omega (
-      arith,
-      small (limits_in args.schema.now) c.args.schema.now.sectioned.fair args.schema.now.bytes.now args.attr args.t.now args.out.now (length
-          args.work.now) _ by-checked-there _ by-type-there
-          c.look_up.new.last c.look_up.result c.look_up.ensures c.in-Some.found (c.in-Ok.is ∙ ap Ok c.in-Some.is) (omega (arith, c.look_up.auto.last, c.requires.last_room)),
-      c.look_up.auto.last,
-    )
-
-pub copy-requires : goal.copy-requires
-copy-requires c =
-    let args = c.args in
-    let by-checked-there = schema-there args.schema.now in
-    let by-type-there = type-there (limits_in args.schema.now) args.t.now c.whole_type.result c.whole_type.ensures
-    c.if-not-whole_type.false-raw in
-    lookup-room (limits_in args.schema.now) c.args.schema.now.sectioned.fair args.schema.now.bytes.now args.attr args.t.now args.out.now (length
-    args.work.now) _ by-checked-there _ by-type-there
-    c.look_up.new.last c.look_up.result c.look_up.ensures c.in-Some.found (c.in-Ok.is ∙ ap Ok c.in-Some.is) (omega (arith, c.look_up.auto.last, c.requires.last_room))
-    c.answer_fits.result
-    c.answer_fits.ensures c.if-not-answer_fits.false-raw
-
-pub overflow_sub-limits : goal.overflow_sub-limits
-overflow_sub-limits c = omega (arith, (allowed-levels (limits_in c.args.schema.now) c.args.schema.now.sectioned.fair).0)
-
-pub type_levels-requires : goal.type_levels-requires
-type_levels-requires c =
-    let args = c.args in
-    let by-checked-there = schema-there args.schema.now in
-    let by-type-there = type-there (limits_in args.schema.now) args.t.now c.whole_type.result c.whole_type.ensures
-    c.if-not-whole_type.false-raw in
-    lookup-whole (limits_in args.schema.now) c.args.schema.now.sectioned.fair args.schema.now.bytes.now args.attr args.t.now args.out.now (length
-    args.work.now) _ by-checked-there _ by-type-there
-    c.look_up.new.last c.look_up.result c.look_up.ensures c.in-Some.found (c.in-Ok.is ∙ ap Ok c.in-Some.is) (omega (arith, c.look_up.auto.last, c.requires.last_room))
 
 pub returns : goal.returns
 returns c =

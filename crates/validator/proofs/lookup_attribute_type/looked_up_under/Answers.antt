@@ -1,7 +1,5 @@
 use lib.ListN.{length}
-use Rattle.cedar.proofs.Laws.Limits.{allowed-bytes}
 use Rattle.forms.specs.Limits.{as_limits}
-use Rattle.schemas.specs.Schema.{limits_in}
 use Rattle.validator.specs.Laws.Schemas.{limits-fair, checked-missing}
 use Rattle.validator.specs.Laws.Lookup.{lookup-no-schema}
 use Rattle.validator.proofs.lookup_attribute_type.looked_up_under.Goals as goal
@@ -12,6 +10,3 @@ returns-in_default c =
     let fair = limits-fair (as_limits args.schema.now.limits) c.are_allowed.result c.are_allowed.ensures c.if-not-are_allowed.false-raw in
     lookup-no-schema (as_limits args.schema.now.limits) fair args.schema.now.bytes.now args.attr args.t.now args.out.now (length args.work.now)
     (checked-missing args.schema.now fair c.in_default.ensures)
-
-pub looked_up-requires-2 : goal.looked_up-requires-2
-looked_up-requires-2 c = record { last_room = (allowed-bytes (limits_in c.in-Some.whole) c.in-Some.whole.sectioned.fair).1 }

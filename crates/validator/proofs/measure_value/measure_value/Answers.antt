@@ -1,25 +1,9 @@
-use mathlib.Core.Path.{sym, ap, ◌∙◌}
+use mathlib.Core.Path.{sym, ◌∙◌}
 use borrow.Author.Tests.{not-true, not-false}
-use Rattle.cedar.proofs.Laws.Limits.{measure-value-refused}
 use Rattle.forms.specs.Limits.{as_limits}
-use Rattle.validator.specs.Answers.{answer_of}
-use Rattle.validator.specs.Laws.Values.{value-missing, value_there, value-whole}
-use Rattle.validator.specs.Laws.Measure.{measure-no-value, measure-no-text, measure-whole-value}
+use Rattle.validator.specs.Laws.Values.{value_there, value-whole}
+use Rattle.validator.specs.Laws.Measure.{measure-no-text, measure-whole-value}
 use Rattle.validator.proofs.measure_value.measure_value.Goals as goal
-
-pub returns-then-not-are_allowed : goal.returns-then-not-are_allowed
-returns-then-not-are_allowed c =
-    let allowed = c.are_allowed in
-    let args = c.args in
-    sym (ap answer_of (measure-value-refused (as_limits args.limits) (sym allowed.ensures ∙ not-true allowed.result c.if-not-are_allowed.true-raw) args.v.now))
-
-pub returns-then-not-whole_value : goal.returns-then-not-whole_value
-returns-then-not-whole_value c =
-    let whole = c.whole_value in
-    let allowed = c.are_allowed in
-    let fair = sym allowed.ensures ∙ not-false allowed.result c.if-not-are_allowed.false-raw in
-    let args = c.args in
-    measure-no-value (as_limits args.limits) fair args.v.now (value-missing (as_limits args.limits) args.v.now whole.result whole.ensures c.if-not-whole_value.true-raw)
 
 pub is_textual-requires : goal.is_textual-requires
 is_textual-requires c =

@@ -1,8 +1,7 @@
 use Rattle.forms.specs.Limits.{as_limits}
-use Rattle.forms.specs.Laws.Modes.{mode-known, mode-none}
-use Rattle.forms.specs.declared.refusals.Refusal.TheVariants.{Mode}
-use Rattle.validator.specs.Laws.Fold.{list-there, list-opened, folds-not, folds-small, folds-exact, folds-whole, folds-length, folds-over, folds-room, folds-typed}
-use Rattle.validator.specs.Laws.Fold.{fold-mode, fold-schema, fold-list, fold-refused, fold-writes}
+use Rattle.forms.specs.Laws.Modes.{mode-known}
+use Rattle.validator.specs.Laws.Fold.{list-there, list-opened, folds-not, folds-exact, folds-length, folds-over, folds-typed}
+use Rattle.validator.specs.Laws.Fold.{fold-schema, fold-list, fold-refused, fold-writes}
 use Rattle.validator.specs.Laws.Writing.{refuses-as}
 use Rattle.validator.specs.Laws.Questions.{missing}
 use Rattle.validator.specs.Laws.Schemas.{checked-missing, checked-there}
@@ -12,16 +11,8 @@ use Rattle.cedar.specs.Calls.{step_fits}
 use Rattle.cedar.specs.Fold.{fold_types}
 use Rattle.cedar.specs.Whole.{whole_list}
 use lib.ListN.{length}
-use native.Mathlib.Omega.{arith}
 use Rattle.forms.specs.Refusals.{number_of}
 use Rattle.validator.proofs.reduce_to_least_upper_bound.reduced.Goals as goal
-
-pub returns-in_err-m : goal.returns-in_err-m
-returns-in_err-m c =
-    let args = c.args in
-    let by-mode-none = mode-none args.mode c.try_from.result c.try_from.ensures c.in_err-m.was in
-    refuses-as c.from_residual.result Mode c.from_residual.ensures.1 (fold-mode (as_limits args.schema.now.limits) c.requires.fair args.mode args.schema.now.bytes.now args.list.now args.out.now (length
-    args.work.now) by-mode-none)
 
 pub returns-in_default : goal.returns-in_default
 returns-in_default c =
@@ -67,40 +58,6 @@ returns-then-not-answer_fits c =
     fold-refused (as_limits args.schema.now.limits) c.requires.fair args.mode args.schema.now.bytes.now args.list.now args.out.now (length
     args.work.now) _ by-mode-known _ by-checked-there by-list-there
     10 by-folds-over
-
-pub slice_bounds-form-end : goal.slice_bounds-form-end
-slice_bounds-form-end c =
-    let fold-types = c.fold_types in
-    let args = c.args in
-    let f = fold_types (step_fits (as_limits args.schema.now.limits) (length args.work.now)) (as_mode c.in_ok-m.m) (list_of args.schema.now.limits.levels
-    args.list.now) in
-    omega (
-      arith,
-      folds-small (as_limits args.schema.now.limits) f args.out.now fold-types.new.last fold-types.result fold-types.ensures
-          c.in_ok-n.n c.in_ok-n.was,
-    )
-
-pub copy-requires : goal.copy-requires
-copy-requires c =
-    let if2 = c.if-not-answer_fits in
-    let answer-fits = c.answer_fits in
-    let fold-types = c.fold_types in
-    let args = c.args in
-    let f = fold_types (step_fits (as_limits args.schema.now.limits) (length args.work.now)) (as_mode c.in_ok-m.m) (list_of args.schema.now.limits.levels
-    args.list.now) in
-    let by-folds-room = folds-room (as_limits args.schema.now.limits) f args.out.now fold-types.new.last fold-types.result fold-types.ensures
-    c.in_ok-n.n c.in_ok-n.was
-    answer-fits.result answer-fits.ensures if2.false-raw in
-    omega (arith, by-folds-room)
-
-pub type_levels-requires : goal.type_levels-requires
-type_levels-requires c =
-    let fold-types = c.fold_types in
-    let args = c.args in
-    let f = fold_types (step_fits (as_limits args.schema.now.limits) (length args.work.now)) (as_mode c.in_ok-m.m) (list_of args.schema.now.limits.levels
-    args.list.now) in
-    folds-whole (as_limits args.schema.now.limits) f args.out.now fold-types.new.last fold-types.result fold-types.ensures c.in_ok-n.n
-    c.in_ok-n.was
 
 pub returns : goal.returns
 returns c =
