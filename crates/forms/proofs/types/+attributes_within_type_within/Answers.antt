@@ -57,7 +57,7 @@ type_within-loop-left-preserved t c =
     let if2 = c.if-b-eq0 in
     let if1 = c.if-left-eq0 in
     let loop = c.loop-left in
-    sets-again loop.invariant if1.false if2.false c.if-b-ne-SET.false
+    sets-again loop.invariant if1.false if2.false c.if-b.false
 
 pub type_within-attributes_within-requires : goal.type_within-attributes_within-requires
 type_within-attributes_within-requires t c =
@@ -107,6 +107,6 @@ type_within-returns-in_default-kind t c =
     let d = c.in_default-kind in
     let differs : (k : Kind) → (c.in-Ok.kind ≡ k → ⊥) → kind loop.b.now ≡ kind_number k → ⊥ =
     λ k h e. kind-differs c.in-Ok.kind k h (c.in-Ok.ensures ∙ e) in
-    atom-open loop.left loop.b.now c.if-left-eq0.false c.if-b-eq0.false c.if-b-ne-SET.true (differs is_kind.Record d.not-Record)
+    atom-open loop.left loop.b.now c.if-left-eq0.false c.if-b-eq0.false c.if-b.true (differs is_kind.Record d.not-Record)
     (differs is_kind.Entity d.not-Entity) (differs is_kind.Action d.not-Action) (differs is_kind.Extension d.not-Extension)
     (omega (arith, c.in-Ok.ensures, kind-most c.in-Ok.kind)) ∙ sym loop.invariant.same
