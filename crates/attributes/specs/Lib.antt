@@ -1,5 +1,4 @@
 pub mod Place
 pub mod EntityAttribute
-pub mod MayHave
 pub mod Literal
 pub mod Laws

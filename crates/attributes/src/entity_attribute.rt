@@ -5,6 +5,7 @@ use crate::own_attribute::{Attribute, own_attribute};
 use forms::kinds::Openness;
 use forms::offsets::Offset;
 use forms::rows::Rows;
+use forms::type_forms::TypeForm;
 use forms::widths::Width;
 use schemas::schema::Schema;
 
@@ -23,7 +24,11 @@ pub fn entity_attribute<'a>(schema: &Schema<'a>, entity: usize, name: usize) -> 
     let Some(row) = schema.find_entity(entity) else {
         return EntityAttribute::Missing;
     };
-    match own_attribute(row.body, name, schema.sections.limits.levels) {
+    let body = TypeForm {
+        levels: schema.sections.limits.levels,
+        bytes: row.body,
+    };
+    match own_attribute(body, name) {
         Some(attribute) => EntityAttribute::Found(attribute),
         None => EntityAttribute::Absent(row.body[Offset::OPEN] == Openness::OPEN),
     }

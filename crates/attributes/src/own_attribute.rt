@@ -1,16 +1,17 @@
 // The attribute of a record or an action, found in its own form.
-ghost use Rattle.std.specs.Prelude.{◌≡◌, true, ◌+◌, ◌*◌, ◌-◌};
+ghost use Rattle.std.specs.Prelude.{◌≡◌, ◌+◌, ◌*◌, ◌-◌};
 ghost use Rattle.cedar.specs.Types.{find as find_in};
 ghost use Rattle.cedar.specs.Attribute.{own_attr};
 ghost use Rattle.cedar.specs.BodyPlace.{body_from, body_place};
 ghost use Rattle.forms.specs.Parts.{rd};
-ghost use Rattle.forms.specs.TypeBytes.{whole, dec};
+ghost use Rattle.forms.specs.TypeForms.{type_of};
 ghost use Rattle.forms.specs.Tables.{attrs_at, Tabled};
 ghost use Rattle.attributes.specs.Place.{Placed, span_of};
 
 use forms::kinds::Kind;
 use forms::offsets::Offset;
 use forms::rows::Rows;
+use forms::type_forms::TypeForm;
 use forms::widths::Width;
 
 // An attribute in the form that lists it: where its type's form starts, that form, and whether the attribute is required.
@@ -37,14 +38,13 @@ fn listed_attribute<'a>(t: &'a [u8], at: usize, name: usize, levels: usize) -> O
 }
 
 // The attribute of a record or an action; other kinds have none.
-pub fn own_attribute<'a>(t: &'a [u8], name: usize, levels: usize) -> Option<Attribute<'a>>
-    requires { whole levels t.now ≡ true }
-    ensures placed { Placed (levels - 1) t.now (own_attr name (dec levels t.now)) result }
-    ensures spanned { span_of result ≡ body_place name (dec levels t.now) }
+pub fn own_attribute<'a>(t: TypeForm<'a>, name: usize) -> Option<Attribute<'a>>
+    ensures placed { Placed (t.entry.levels - 1) t.entry.bytes.now (own_attr name (type_of t.entry)) result }
+    ensures spanned { span_of result ≡ body_place name (type_of t.entry) }
 {
-    match Kind::of(t) {
-        Kind::Record => listed_attribute(t, Offset::RECORD_COUNT, name, levels - 1),
-        Kind::Action => listed_attribute(t, Offset::ACTION_COUNT, name, levels - 1),
+    match Kind::of(t.bytes) {
+        Kind::Record => listed_attribute(t.bytes, Offset::RECORD_COUNT, name, t.levels - 1),
+        Kind::Action => listed_attribute(t.bytes, Offset::ACTION_COUNT, name, t.levels - 1),
         _ => None,
     }
 }

@@ -17,6 +17,7 @@ use forms::limits::Limits;
 use forms::modes::Mode;
 use forms::numbers::u16_at;
 use forms::offsets::Offset;
+use forms::type_forms::TypeForm;
 use forms::widths::Width;
 use schemas::schema::Schema;
 use writing::writers::copy;
@@ -125,7 +126,11 @@ pub fn look_up(
     if let Kind::Entity = Kind::of(t) {
         return look_up_types(schema, &t[Offset::ENTITY_NAMES..], name, last, work);
     }
-    let Some(attribute) = own_attribute(t, name, schema.sections.limits.levels) else {
+    let whole = TypeForm {
+        levels: schema.sections.limits.levels,
+        bytes: t,
+    };
+    let Some(attribute) = own_attribute(whole, name) else {
         return Ok(None);
     };
     Ok(Some(keep(schema, attribute, last)))

@@ -6,10 +6,10 @@ use Rattle.attributes.proofs.entity_attribute.entity_attribute.Goals as goal
 pub returns-in_default : goal.returns-in_default
 returns-in_default c = entity-not c.args.schema.now.sectioned c.args.entity c.find_entity.result c.find_entity.ensures c.in_default.is
 
-pub own_attribute-requires : goal.own_attribute-requires
-own_attribute-requires c =
+pub invariant_of-body : goal.invariant_of-body
+invariant_of-body c =
     let entry = entity-at c.args.schema.now.sectioned c.args.entity c.find_entity.result c.find_entity.ensures c.in-Some.row c.in-Some.is in
-    entry.body.good
+    record { whole = entry.body.good }
 
 pub bounds-row-1 : goal.bounds-row-1
 bounds-row-1 c =
