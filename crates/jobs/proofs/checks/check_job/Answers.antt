@@ -1,19 +1,8 @@
 use Rattle.std.specs.Prelude.{ℕ, List}
 use Rattle.std.specs.Borrow.{Bor}
 use mathlib.Core.Path.{ap, ◌∙◌}
-use native.Mathlib.Omega.{arith}
 use Rattle.jobs.specs.Laws.Checks.{schema-is, job-limits}
 use Rattle.jobs.proofs.checks.check_job.Goals as goal
-
-pub returns-then-job-lt-ENTRIES : goal.returns-then-job-lt-ENTRIES
-returns-then-job-lt-ENTRIES c =
-    let limits = c.new.ensures.1 ∙ job-limits c.standard-limits.result c.standard-limits.ensures in
-    (limits, λ h. absurd (omega (arith, h, c.if-job-lt-ENTRIES.true)))
-
-pub returns-then-job-bodies : goal.returns-then-job-bodies
-returns-then-job-bodies c =
-    let limits = c.new-then-job-bodies.ensures.1 ∙ job-limits c.standard-limits.result c.standard-limits.ensures in
-    (limits, λ h. absurd (omega (arith, h, c.bodies_from-bodies.ensures, c.if-job-bodies.true)))
 
 pub returns : goal.returns
 returns c =

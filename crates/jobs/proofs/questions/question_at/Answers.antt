@@ -23,32 +23,17 @@ returns-then-job-body-2-clause-question c =
     sym (stands-last c.args.job.now c.args.cursor (omega (arith, c.count.ensures.0, c.if-count-index.false)) (omega (arith, c.bodies_from.ensures, c.if-job-bodies_from.false)) c.in-Ok.ensures.0 c.if-job-body.false c.lengths-lengths.result c.lengths-lengths.ensures) ∙
     lt-leb c.lengths-lengths.result (length c.args.job.now - c.args.cursor.body) c.if-job-body-2.true
 
-pub overflow_mul-at : goal.overflow_mul-at
-overflow_mul-at c = let p = stands-entry c.args.job.now c.args.cursor (omega (arith, c.count.ensures.0, c.if-count-index.false)) (omega (arith, c.bodies_from.ensures, c.if-job-bodies_from.false)) in omega (arith, p, c.well_formed)
-
-pub overflow_add-at : goal.overflow_add-at
-overflow_add-at c = let p = stands-entry c.args.job.now c.args.cursor (omega (arith, c.count.ensures.0, c.if-count-index.false)) (omega (arith, c.bodies_from.ensures, c.if-job-bodies_from.false)) in omega (arith, p, c.well_formed)
-
 pub bounds-job-at : goal.bounds-job-at
 bounds-job-at c = let p = stands-entry c.args.job.now c.args.cursor (omega (arith, c.count.ensures.0, c.if-count-index.false)) (omega (arith, c.bodies_from.ensures, c.if-job-bodies_from.false)) in omega (arith, p, c.well_formed)
 
 pub lengths-lengths-requires : goal.lengths-lengths-requires
 lengths-lengths-requires c = let p = stands-entry c.args.job.now c.args.cursor (omega (arith, c.count.ensures.0, c.if-count-index.false)) (omega (arith, c.bodies_from.ensures, c.if-job-bodies_from.false)) in omega (arith, p, c.well_formed)
 
-pub overflow_add-at-2 : goal.overflow_add-at-2
-overflow_add-at-2 c = let p = stands-entry c.args.job.now c.args.cursor (omega (arith, c.count.ensures.0, c.if-count-index.false)) (omega (arith, c.bodies_from.ensures, c.if-job-bodies_from.false)) in omega (arith, p, c.well_formed)
-
 pub u16_at-requires : goal.u16_at-requires
 u16_at-requires c = let p = stands-entry c.args.job.now c.args.cursor (omega (arith, c.count.ensures.0, c.if-count-index.false)) (omega (arith, c.bodies_from.ensures, c.if-job-bodies_from.false)) in omega (arith, p, c.well_formed)
 
-pub overflow_add-question : goal.overflow_add-question
-overflow_add-question c = let p = stands-entry c.args.job.now c.args.cursor (omega (arith, c.count.ensures.0, c.if-count-index.false)) (omega (arith, c.bodies_from.ensures, c.if-job-bodies_from.false)) in omega (arith, p, c.well_formed)
-
 pub bounds-job-at-2 : goal.bounds-job-at-2
 bounds-job-at-2 c = let p = stands-entry c.args.job.now c.args.cursor (omega (arith, c.count.ensures.0, c.if-count-index.false)) (omega (arith, c.bodies_from.ensures, c.if-job-bodies_from.false)) in omega (arith, p, c.well_formed)
-
-pub overflow_add-at-3 : goal.overflow_add-at-3
-overflow_add-at-3 c = let p = stands-entry c.args.job.now c.args.cursor (omega (arith, c.count.ensures.0, c.if-count-index.false)) (omega (arith, c.bodies_from.ensures, c.if-job-bodies_from.false)) in omega (arith, p, c.well_formed)
 
 pub u16_at-requires-2 : goal.u16_at-requires-2
 u16_at-requires-2 c = let p = stands-entry c.args.job.now c.args.cursor (omega (arith, c.count.ensures.0, c.if-count-index.false)) (omega (arith, c.bodies_from.ensures, c.if-job-bodies_from.false)) in omega (arith, p, c.well_formed)

@@ -1,9 +1,6 @@
 use Rattle.std.proofs.Common.{arith, sym, ◌∙◌}
-use Rattle.jobs.specs.Laws.Whole.{entries-start, entries-unfit, entries-short, entries-again, entries-end}
+use Rattle.jobs.specs.Laws.Whole.{entries-unfit, entries-short, entries-again, entries-end}
 use Rattle.jobs.proofs.whole.entries_fit.Goals as goal
-
-pub loop-index-init : goal.loop-index-init
-loop-index-init c = entries-start c.requires
 
 pub returns-then-not-entry_fits : goal.returns-then-not-entry_fits
 returns-then-not-entry_fits c = entries-unfit c.loop-index.invariant c.loop-index-test.true (sym c.entry_fits.ensures ∙ c.if-not-entry_fits.true)
