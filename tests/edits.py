@@ -46,6 +46,8 @@ MISMATCH = re.compile(rf"{COMPUTED}|{PRINTED}|expected type `|`(?:omega|search|g
 FOLLOWS = re.compile(r"`[^`]+` was not admitted |\d+ declarations? that depends? on ")
 # Of an answer whose goal has another name now, and of a goal without an answer that it can show to be false.
 GONE = re.compile(r"`goal\.([^`]+)`: ")
+# Of a goal that nothing proves and no file answers: a clause, a bound, a loop's invariant; the invariant of a value that is made.
+UNPROVED = r"it is not proved that |`search` found no proof \(`invariant_of-"
 FALSE = "allow values at which this goal is false"
 
 
@@ -178,7 +180,7 @@ def goals(log, edit, texts):
     """The goals of a function that nothing proves and no file answers: place and text."""
     file, kind, name = source_of(edit.fails)
     lines = not edit.is_of_law() and span(texts.get(file, ""), kind, name)
-    for m in re.finditer(r"^note: (?:\./)?(\S+?):(\d+):\d+: (it is not proved that .*)$", log, re.M):
+    for m in re.finditer(rf"^note: (?:\./)?(\S+?):(\d+):\d+: ((?:{UNPROVED}).*)$", log, re.M):
         if lines and m[1] == file and lines[0] <= int(m[2]) < lines[2]:
             yield f"{m[1]}:{m[2]}", m[3]
 
@@ -320,6 +322,8 @@ PLACE = "./proofs/sizes/lower/Answers.antt:7:3: error: "
 GROUP = "./proofs/sizes/+sizes/Answers.antt:7:3: error: "
 GOAL = "note: src/sizes.rt:{}:1: it is not proved that what the function ensures holds when it returns (`returns`)"
 
+MADE = "note: src/sizes.rt:{}:5: `search` found no proof (`invariant_of-size`); `search` gave up at one of its limits"
+
 
 def log_tests(edit, texts):
     """The script tells an error of a function's own from none, from one that follows and from a proof of other code."""
@@ -333,6 +337,8 @@ def log_tests(edit, texts):
         "a mismatch of a function that calls itself": (True, f"{PLACE.replace('lower', '+lower')}`returns`: {mismatch}"),
         "a tactic that finds no proof": (True, f"{PLACE}`returns`: `omega`: the goal does not follow from what it read."),
         "a goal that is not proved": (True, f"{GOAL.format(1)}\nfn c::sizes::lower: no proof"),
+        "an invariant that is not proved": (True, MADE.format(1)),
+        "an invariant of another function": (False, MADE.format(8)),
         "a goal that is false, and a name that is gone": (True, f"{gone}\n{GOAL.format(1)}; the facts known there {FALSE}"),
         "a mismatch, and a name that is gone": (True, f"{gone}\n{PLACE}`returns`: {mismatch}"),
         "a goal of another sort, and a name that is gone": (True, f"{gone}\n{bounds}"),

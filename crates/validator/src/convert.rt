@@ -12,7 +12,6 @@ use conversions::core_types::{core_length, write_core};
 use forms::limits::Limits;
 use forms::refusals::Refusal;
 use forms::type_forms::TypeForm;
-use forms::types::whole_type;
 use levels::depths::type_levels;
 
 // The answer under limits that are allowed.
@@ -20,12 +19,8 @@ fn convert_under(limits: Limits, t: &[u8], out: &mut [u8]) -> Result<Answer, Ref
     requires { allowed (as_limits limits) ≡ true }
     ensures { Answered (convert_call (as_limits limits) t.now (length out.old)) out.old out.new (seen result) }
 {
-    if !whole_type(t, limits) {
+    let Some(whole) = TypeForm::within(t, limits) else {
         return Err(Refusal::First);
-    }
-    let whole = TypeForm {
-        levels: limits.levels,
-        bytes: t,
     };
     let n = core_length(whole)?;
     if !answer_fits(limits, n, out.len()) {

@@ -9,7 +9,7 @@ ghost use Rattle.validator.specs.Answers.{answer_of};
 use crate::answers::{Answer, yes_or_no};
 use forms::limits::Limits;
 use forms::refusals::Refusal;
-use forms::types::whole_type;
+use forms::type_forms::TypeForm;
 use schemas::checked::Checked;
 use schemas::schema::Schema;
 
@@ -17,11 +17,10 @@ use schemas::schema::Schema;
 fn may_have_under(schema: &Schema<'_>, attr: u16, t: &[u8]) -> Result<Answer, Refusal>
     ensures { seen result ≡ answer_of (may_have_call (limits_in schema.now) schema.now.bytes.now attr t.now) }
 {
-    let limits = schema.sections.limits;
-    if !whole_type(t, limits) {
+    let Some(whole) = TypeForm::within(t, schema.sections.limits) else {
         return Err(Refusal::First);
-    }
-    Ok(yes_or_no(attributes::may_have_attr::may_have_attr(schema, t, attr as usize)))
+    };
+    Ok(yes_or_no(attributes::may_have_attr::may_have_attr(schema, whole, attr as usize)))
 }
 
 // The answer under a schema that was checked before, and the limits of its check.

@@ -10,7 +10,7 @@ ghost use Rattle.validator.specs.Handed.{part_of, Handed};
 use attributes::own_attribute::own_attribute;
 use forms::limits::Limits;
 use forms::refusals::Refusal;
-use forms::types::whole_type;
+use forms::type_forms::TypeForm;
 use schemas::checked::Checked;
 use schemas::schema::Schema;
 
@@ -38,11 +38,10 @@ pub struct OwnPart {
 fn own_part_under(schema: &Schema<'_>, attr: u16, t: &[u8]) -> Result<Option<OwnPart>, Refusal>
     ensures { seen result ≡ part_of (own_attribute_call (limits_in schema.now) schema.now.bytes.now attr t.now) (body_in (limits_in schema.now) attr t.now) }
 {
-    let limits = schema.sections.limits;
-    if !whole_type(t, limits) {
+    let Some(whole) = TypeForm::within(t, schema.sections.limits) else {
         return Err(Refusal::First);
-    }
-    let Some(part) = own_attribute(t, attr as usize, limits.levels) else {
+    };
+    let Some(part) = own_attribute(whole, attr as usize) else {
         return Ok(None);
     };
     Ok(Some(OwnPart {
