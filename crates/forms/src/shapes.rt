@@ -1,8 +1,11 @@
 // What a type's form is made of, and the attributes of a list one by one.
 ghost use Rattle.std.specs.Prelude.{◌≡◌};
-ghost use Rattle.cedar.specs.Types.{names, eq_names};
+ghost use Rattle.cedar.specs.Bytes.{Bytes};
+ghost use Rattle.cedar.specs.Types.{names, eq_names, same};
+ghost use Rattle.forms.specs.Codes.{code};
+ghost use Rattle.forms.specs.Kinds.{kind_number};
 ghost use Rattle.forms.specs.Limits.{as_limits};
-ghost use Rattle.forms.specs.TypeForms.{TypeWithin, listed, Shaped, TookAttribute, SoughtAttribute};
+ghost use Rattle.forms.specs.TypeForms.{TypeWithin, type_of, listed, Shaped, TookAttribute, SoughtAttribute};
 
 use crate::kinds::{Kind, Openness};
 use crate::limits::Limits;
@@ -11,6 +14,16 @@ use crate::offsets::Offset;
 use crate::rows::Rows;
 use crate::type_forms::{AttributeForm, AttributeForms, Shape, TypeForm};
 use crate::types::whole_type;
+
+// Whether two lists of bytes are the same.
+#[inline]
+fn same_bytes(a: &[u8], b: &[u8]) -> bool
+    ensures is { result ≡ eq_names a.now b.now }
+    ensures a_bytes { Bytes a.now }
+    ensures b_bytes { Bytes b.now }
+{
+    a[..] == b[..]
+}
 
 impl<'a> TypeForm<'a> {
     // Bytes that are a whole type form within limits.
@@ -24,6 +37,22 @@ impl<'a> TypeForm<'a> {
             bytes,
             levels: limits.levels,
         })
+    }
+
+    // Its kind.
+    #[inline]
+    pub fn kind(self) -> Kind
+        ensures { kind_number result ≡ code (type_of self.entry) }
+    {
+        Kind::of(self.bytes)
+    }
+
+    // Whether it says the same type as another.
+    #[inline]
+    pub fn same(self, other: TypeForm) -> bool
+        ensures { result ≡ same (type_of self.entry) (type_of other.entry) }
+    {
+        same_bytes(self.bytes, other.bytes)
     }
 
     // What it is made of.

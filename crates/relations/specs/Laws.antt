@@ -2,6 +2,7 @@
 pub mod Names
 pub mod Disjoint
 pub mod Under
+pub mod Shapes
 pub mod SameForm
 pub mod Walks
 pub mod Subtype

@@ -1,18 +1,16 @@
 // Whether a type and a core type, a plain one, may have a value in common.
-ghost use Rattle.std.specs.Prelude.{◌≡◌, true};
+ghost use Rattle.std.specs.Prelude.{◌≡◌, ◌≤◌, length};
 ghost use Rattle.cedar.specs.Consistency.{covered_names, consistent_entity, consistent, consistent_attrs};
 ghost use Rattle.forms.specs.Kinds.{kind_number};
-ghost use Rattle.forms.specs.AttributeRows.{SoundRows, attributes_of};
-ghost use Rattle.forms.specs.TypeBytes.{whole, dec};
-ghost use Rattle.relations.specs.Names.{EntityForm, entity_names};
+ghost use Rattle.forms.specs.Names.{names_in, Ascending};
+ghost use Rattle.forms.specs.TypeForms.{type_of, listed};
 ghost use Rattle.relations.specs.Meets.{kind_meets};
 
 use crate::is_plain::kind_is_plain;
 use crate::names::names_share;
-use forms::kinds::{Kind, Openness};
+use forms::kinds::Kind;
 use forms::numbers::u16_at;
-use forms::offsets::Offset;
-use forms::rows::{Attributes, Rows};
+use forms::type_forms::{AttributeForms, Shape, TypeForm};
 use forms::widths::Width;
 
 // Whether a type of kind j is consistent with one of another kind k, which is no entity.
@@ -26,38 +24,34 @@ fn kind_consistent(j: Kind, k: Kind) -> bool
     }
 }
 
-// Whether a type is consistent with an entity: one that has its name, any entity, or an action of the name.
-fn entity_consistent(t0: &[u8], t1: &[u8], levels: usize) -> bool
-    requires t0_whole { whole levels t0.now ≡ true }
-    requires entity_form { EntityForm t1.now }
-    ensures { result ≡ consistent_entity (dec levels t0.now) (entity_names t1.now) }
+// Whether a type is consistent with an entity of a core type, by its name: one that has it, any entity, or an action of the name.
+fn entity_consistent(t: TypeForm, name: &[u8]) -> bool
+    requires { 2 ≤ length name.now }
+    ensures { result ≡ consistent_entity (type_of t.entry) (names_in name.now) }
 {
-    match Kind::of(t0) {
-        Kind::AnyEntity => true,
-        Kind::Entity => names_share(
-            &t0[Offset::ENTITY_NAMES..],
-            &t1[Offset::ENTITY_NAMES..Offset::ENTITY_NAMES + Width::NAME],
-        ),
-        Kind::Action => u16_at(t0, Offset::ACTION_NAME) == u16_at(t1, Offset::ENTITY_NAMES),
+    match t.shape() {
+        Shape::Plain(kind) => kind == Kind::AnyEntity,
+        Shape::Entity(names) => names_share(names, &name[..Width::NAME]),
+        Shape::Action(entity, _) => entity == u16_at(name, 0),
         _ => false,
     }
 }
 
 // Whether each attribute has its name in the core list, or is optional, or the core record is open. Both lists ascend, so a search goes
 // on where the last one ended.
-fn names_covered(attributes: Attributes, is_open: bool, core: Attributes, levels: usize) -> bool
-    requires sound { SoundRows levels attributes }
-    requires core_sound { SoundRows levels core }
-    ensures { result ≡ covered_names (attributes_of levels attributes.entry) is_open (attributes_of levels core.entry) }
+fn names_covered(
+    mut attributes: AttributeForms,
+    is_open: bool,
+    mut core: AttributeForms,
+) -> bool
+    ensures { result ≡ covered_names (listed attributes.entry) is_open (listed core.entry) }
 {
     if is_open {
         return true;
     }
-    let mut ahead = attributes;
-    let mut others = core;
-    while let Some(attribute) = ahead.next() {
-        if attribute.is_required() {
-            let Some(_) = others.find(attribute.name()) else {
+    while let Some(attribute) = attributes.next() {
+        if attribute.required {
+            let Some(_) = core.find(attribute.name) else {
                 return false;
             };
         }
@@ -69,26 +63,21 @@ fn names_covered(attributes: Attributes, is_open: bool, core: Attributes, levels
 // other list's record open.
 #[cycle(attributes_consistent_is_consistent_with)]
 fn attributes_consistent(
-    attributes: Attributes,
+    mut attributes: AttributeForms,
     is_open: bool,
-    core: Attributes,
-    levels: usize,
+    mut core: AttributeForms,
 ) -> bool
-    requires sound { SoundRows levels attributes }
-    requires core_sound { SoundRows levels core }
-    ensures { result ≡ consistent_attrs is_open (attributes_of levels attributes.entry) (attributes_of levels core.entry) }
+    ensures { result ≡ consistent_attrs is_open (listed attributes.entry) (listed core.entry) }
 {
-    let mut others = attributes;
-    let mut ahead = core;
-    while let Some(attribute) = ahead.next() {
-        match others.find(attribute.name()) {
+    while let Some(attribute) = core.next() {
+        match attributes.find(attribute.name) {
             Some(other) => {
-                if !is_consistent_with(other.body, attribute.body, levels) {
+                if !is_consistent_with(other.form, attribute.form) {
                     return false;
                 }
             }
             None => {
-                if attribute.is_required() && !is_open {
+                if attribute.required && !is_open {
                     return false;
                 }
             }
@@ -99,36 +88,30 @@ fn attributes_consistent(
 
 // Whether t0 is consistent with t1, a core type.
 #[cycle(attributes_consistent_is_consistent_with)]
-pub fn is_consistent_with(t0: &[u8], t1: &[u8], levels: usize) -> bool
-    requires t0_whole { whole levels t0.now ≡ true }
-    requires t1_whole { whole levels t1.now ≡ true }
-    ensures { result ≡ consistent (dec levels t0.now) (dec levels t1.now) }
+pub fn is_consistent_with(t0: TypeForm, t1: TypeForm) -> bool
+    ensures { result ≡ consistent (type_of t0.entry) (type_of t1.entry) }
 {
-    let j = Kind::of(t0);
-    let k = Kind::of(t1);
-    if k == Kind::Entity {
-        return entity_consistent(t0, t1, levels);
-    }
-    if j != k {
-        return kind_consistent(j, k);
-    }
-    match k {
-        Kind::Set => is_consistent_with(&t0[Offset::ELEMENT..], &t1[Offset::ELEMENT..], levels - 1),
-        Kind::Record => {
-            let attributes = Rows::at(t0, Offset::RECORD_COUNT);
-            let core = Rows::at(t1, Offset::RECORD_COUNT);
-            let is_open = t0[Offset::OPEN] == Openness::OPEN;
-            if !attributes_consistent(attributes, is_open, core, levels - 1) {
-                return false;
+    match t1.shape() {
+        Shape::Plain(k) => {
+            let j = t0.kind();
+            if j == k {
+                return kind_is_plain(k);
             }
-            names_covered(
-                attributes,
-                t1[Offset::OPEN] == Openness::OPEN,
-                core,
-                levels - 1,
-            )
+            kind_consistent(j, k)
         }
-        Kind::Extension => t0[..] == t1[..],
-        _ => kind_is_plain(k),
+        Shape::Set(core) => match t0.shape() {
+            Shape::Set(element) => is_consistent_with(element, core),
+            _ => false,
+        },
+        Shape::Record(core_open, core) => match t0.shape() {
+            Shape::Record(is_open, attributes) => {
+                attributes_consistent(attributes, is_open, core)
+                    && names_covered(attributes, core_open, core)
+            }
+            _ => false,
+        },
+        Shape::Entity(names) => entity_consistent(t0, names),
+        Shape::Action(_, _) => false,
+        Shape::Extension(_) => t0.same(t1),
     }
 }

@@ -1,15 +1,13 @@
 // Whether a type is plain throughout, as the types of a core schema are.
-ghost use Rattle.std.specs.Prelude.{◌≡◌, true};
+ghost use Rattle.std.specs.Prelude.{◌≡◌};
 ghost use Rattle.cedar.specs.Consistency.{plain, plain_attrs};
-ghost use Rattle.forms.specs.TypeBytes.{whole, dec};
 ghost use Rattle.forms.specs.Kinds.{kind_number};
-ghost use Rattle.forms.specs.AttributeRows.{SoundRows, attributes_of};
+ghost use Rattle.forms.specs.TypeForms.{type_of, listed};
 ghost use Rattle.relations.specs.Meets.{plain_kind};
 
 use forms::kinds::Kind;
-use forms::numbers::u16_at;
-use forms::offsets::Offset;
-use forms::rows::{Attributes, Rows};
+use forms::type_forms::{AttributeForms, Shape, TypeForm};
+use forms::widths::Width;
 
 // Whether a kind without parts, or an action's, is plain.
 pub fn kind_is_plain(kind: Kind) -> bool
@@ -23,13 +21,11 @@ pub fn kind_is_plain(kind: Kind) -> bool
 
 // Whether each attribute's type is plain.
 #[cycle(attributes_plain_is_plain)]
-fn attributes_plain(attributes: Attributes, levels: usize) -> bool
-    requires { SoundRows levels attributes }
-    ensures { result ≡ plain_attrs (attributes_of levels attributes.entry) }
+fn attributes_plain(mut attributes: AttributeForms) -> bool
+    ensures { result ≡ plain_attrs (listed attributes.entry) }
 {
-    let mut ahead = attributes;
-    while let Some(attribute) = ahead.next() {
-        if !is_plain(attribute.body, levels) {
+    while let Some(attribute) = attributes.next() {
+        if !is_plain(attribute.form) {
             return false;
         }
     }
@@ -38,16 +34,15 @@ fn attributes_plain(attributes: Attributes, levels: usize) -> bool
 
 // Whether t is of kinds 3 to 8, 12, and 10 with one name, throughout.
 #[cycle(attributes_plain_is_plain)]
-pub fn is_plain(t: &[u8], levels: usize) -> bool
-    requires { whole levels t.now ≡ true }
-    ensures { result ≡ plain (dec levels t.now) }
+pub fn is_plain(t: TypeForm) -> bool
+    ensures { result ≡ plain (type_of t.entry) }
 {
-    let kind = Kind::of(t);
-    match kind {
-        Kind::Set => is_plain(&t[Offset::ELEMENT..], levels - 1),
-        Kind::Record => attributes_plain(Rows::at(t, Offset::RECORD_COUNT), levels - 1),
-        Kind::Entity => u16_at(t, Offset::ENTITY_COUNT) == 1,
-        Kind::Extension => true,
-        _ => kind_is_plain(kind),
+    match t.shape() {
+        Shape::Plain(kind) => kind_is_plain(kind),
+        Shape::Set(element) => is_plain(element),
+        Shape::Record(_, attributes) => attributes_plain(attributes),
+        Shape::Entity(names) => names.len() == Width::NAME,
+        Shape::Action(_, _) => false,
+        Shape::Extension(_) => true,
     }
 }

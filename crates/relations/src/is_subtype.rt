@@ -1,18 +1,17 @@
 // Whether a type is a subtype of another.
-ghost use Rattle.std.specs.Prelude.{◌≡◌, true, ◌*◌, ◌≤◌, length};
+ghost use Rattle.std.specs.Prelude.{◌≡◌};
 ghost use Rattle.cedar.specs.Subtype.{sub_flag, sub_names, sub, sub_attrs};
+ghost use Rattle.cedar.specs.Types.{names};
 ghost use Rattle.forms.specs.Kinds.{kind_number};
-ghost use Rattle.forms.specs.AttributeRows.{SoundRows, attributes_of, names_of};
-ghost use Rattle.forms.specs.TypeBytes.{whole, dec};
-ghost use Rattle.relations.specs.Names.{EntityForm, entity_names};
 ghost use Rattle.forms.specs.Modes.{as_mode};
+ghost use Rattle.forms.specs.Names.{names_in, Ascending};
+ghost use Rattle.forms.specs.TypeForms.{type_of, listed};
 ghost use Rattle.relations.specs.Under.{kind_under, record_under};
 
 use crate::names::names_subset;
-use forms::kinds::{Kind, Openness};
+use forms::kinds::Kind;
 use forms::modes::Mode;
-use forms::offsets::Offset;
-use forms::rows::{Attributes, Rows};
+use forms::type_forms::{AttributeForms, Shape, TypeForm};
 
 // Whether a type of kind j stands under one of another kind k.
 fn kind_under(mode: Mode, j: Kind, k: Kind) -> bool
@@ -41,18 +40,16 @@ fn required_under(mode: Mode, lower: bool, upper: bool) -> bool
     lower == upper
 }
 
-// Whether an entity stands under another: strict, their names are equal; permissive, they are a subset.
-fn entity_under(mode: Mode, t0: &[u8], t1: &[u8]) -> bool
-    requires t0_form { EntityForm t0.now }
-    requires t1_form { EntityForm t1.now }
-    ensures { result ≡ sub_names (as_mode mode) (entity_names t0.now) (entity_names t1.now) }
+// Whether the names of an entity stand under another's: strict, they are equal; permissive, they are a subset.
+fn entity_under(mode: Mode, lower: &[u8], upper: &[u8]) -> bool
+    requires lower_up { Ascending lower.now }
+    requires upper_up { Ascending upper.now }
+    ensures { result ≡ sub_names (as_mode mode) (names_in lower.now) (names_in upper.now) }
 {
-    let a = &t0[Offset::ENTITY_NAMES..];
-    let b = &t1[Offset::ENTITY_NAMES..];
     if mode.is_permissive() {
-        return names_subset(a, b);
+        return names_subset(lower, upper);
     }
-    a == b
+    lower[..] == upper[..]
 }
 
 // Whether a record may stand under another but for its attributes: an open one only under an open one; with the same names or,
@@ -60,13 +57,11 @@ fn entity_under(mode: Mode, t0: &[u8], t1: &[u8]) -> bool
 fn record_under(
     mode: Mode,
     lower_open: bool,
-    lower: Attributes,
+    lower: AttributeForms,
     upper_open: bool,
-    upper: Attributes,
+    upper: AttributeForms,
 ) -> bool
-    requires lower_sized { 5 * lower.left ≤ length lower.entries.now }
-    requires upper_sized { 5 * upper.left ≤ length upper.entries.now }
-    ensures { result ≡ record_under (as_mode mode) lower_open (names_of lower.entry) upper_open (names_of upper.entry) }
+    ensures { result ≡ record_under (as_mode mode) lower_open (names (listed lower.entry)) upper_open (names (listed upper.entry)) }
 {
     if upper_open {
         return mode.is_permissive() || lower.same_names(upper);
@@ -77,21 +72,17 @@ fn record_under(
 // Whether each attribute of the upper list is found in the lower one, there with a flag and a type below. Both ascend, so a search goes on
 // where the last one ended.
 #[cycle(attributes_subtype_is_subtype)]
-fn attributes_subtype(mode: Mode, lower: Attributes, upper: Attributes, levels: usize) -> bool
-    requires lower_sound { SoundRows levels lower }
-    requires upper_sound { SoundRows levels upper }
-    ensures { result ≡ sub_attrs (as_mode mode) (attributes_of levels lower.entry) (attributes_of levels upper.entry) }
+fn attributes_subtype(mode: Mode, mut lower: AttributeForms, mut upper: AttributeForms) -> bool
+    ensures { result ≡ sub_attrs (as_mode mode) (listed lower.entry) (listed upper.entry) }
 {
-    let mut others = lower;
-    let mut ahead = upper;
-    while let Some(attribute) = ahead.next() {
-        let Some(other) = others.find(attribute.name()) else {
+    while let Some(attribute) = upper.next() {
+        let Some(other) = lower.find(attribute.name) else {
             return false;
         };
-        if !required_under(mode, other.is_required(), attribute.is_required()) {
+        if !required_under(mode, other.required, attribute.required) {
             return false;
         }
-        if !is_subtype(mode, other.body, attribute.body, levels) {
+        if !is_subtype(mode, other.form, attribute.form) {
             return false;
         }
     }
@@ -100,35 +91,28 @@ fn attributes_subtype(mode: Mode, lower: Attributes, upper: Attributes, levels: 
 
 // Whether t0 is a subtype of t1.
 #[cycle(attributes_subtype_is_subtype)]
-pub fn is_subtype(mode: Mode, t0: &[u8], t1: &[u8], levels: usize) -> bool
-    requires t0_whole { whole levels t0.now ≡ true }
-    requires t1_whole { whole levels t1.now ≡ true }
-    ensures { result ≡ sub (as_mode mode) (dec levels t0.now) (dec levels t1.now) }
+pub fn is_subtype(mode: Mode, t0: TypeForm, t1: TypeForm) -> bool
+    ensures { result ≡ sub (as_mode mode) (type_of t0.entry) (type_of t1.entry) }
 {
-    let j = Kind::of(t0);
-    let k = Kind::of(t1);
-    if j != k {
-        return kind_under(mode, j, k);
-    }
-    match k {
-        Kind::Set => is_subtype(
-            mode,
-            &t0[Offset::ELEMENT..],
-            &t1[Offset::ELEMENT..],
-            levels - 1,
-        ),
-        Kind::Record => {
-            let lower = Rows::at(t0, Offset::RECORD_COUNT);
-            let upper = Rows::at(t1, Offset::RECORD_COUNT);
-            let lower_open = t0[Offset::OPEN] == Openness::OPEN;
-            let upper_open = t1[Offset::OPEN] == Openness::OPEN;
-            if !record_under(mode, lower_open, lower, upper_open, upper) {
-                return false;
+    let j = t0.kind();
+    match t1.shape() {
+        Shape::Plain(k) => j == k || kind_under(mode, j, k),
+        Shape::Set(upper) => match t0.shape() {
+            Shape::Set(lower) => is_subtype(mode, lower, upper),
+            _ => j == Kind::Never,
+        },
+        Shape::Record(upper_open, upper) => match t0.shape() {
+            Shape::Record(lower_open, lower) => {
+                record_under(mode, lower_open, lower, upper_open, upper)
+                    && attributes_subtype(mode, lower, upper)
             }
-            attributes_subtype(mode, lower, upper, levels - 1)
-        }
-        Kind::Entity => entity_under(mode, t0, t1),
-        Kind::Action | Kind::Extension => t0[..] == t1[..],
-        _ => true,
+            _ => j == Kind::Never,
+        },
+        Shape::Entity(upper) => match t0.shape() {
+            Shape::Entity(lower) => entity_under(mode, lower, upper),
+            _ => j == Kind::Never,
+        },
+        Shape::Action(_, _) => j == Kind::Never || t0.same(t1),
+        Shape::Extension(_) => j == Kind::Never || t0.same(t1),
     }
 }

@@ -19,7 +19,8 @@ use Rattle.forms.specs.declared.kinds.Kind.{Kind}
 use Rattle.forms.specs.declared.kinds.Kind.TheVariants as kinds
 use Rattle.forms.specs.declared.type_forms.AttributeForms.{AttributeForms}
 use Rattle.forms.specs.declared.type_forms.TypeForm.{TypeForm}
-use Rattle.forms.specs.Laws.Codes.{kind-code}
+use Rattle.forms.specs.Codes.{code}
+use Rattle.forms.specs.Laws.Codes.{kind-code, code-dec}
 use Rattle.forms.specs.Laws.Kinds.{kind-same}
 use Rattle.forms.specs.Laws.NamesIn.{names-of-entity}
 use Rattle.forms.specs.Laws.Parts.{and_l, and_r, and_yes, length_rest}
@@ -44,6 +45,10 @@ module _ (t : TypeForm) where
 
   pub as_extension : kind t.bytes.now ≡ 12 → IsExtension t.levels t.bytes.now
   as_extension = is-extension t.levels t.bytes.now t.whole
+
+  -- Its kind is what its first byte says.
+  pub kind-said : code (type_of t) ≡ kind t.bytes.now
+  kind-said = code-dec t.levels t.bytes.now t.whole
 
   -- The names of an entity.
   pub entity-names : kind t.bytes.now ≡ 10 → (type_of t ≡ ent (names_in (rest 3 t.bytes.now))) × Ascending (rest 3 t.bytes.now)

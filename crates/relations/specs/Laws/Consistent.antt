@@ -1,56 +1,68 @@
--- A type with a core type, by what their forms show. Assumes nothing.
-use Rattle.std.specs.Prelude.{◌≡◌, refl, Bool, true, false, ◌&&◌, ℕ, ◌-◌}
+-- A type with a core type, by what they are made of. Assumes nothing.
+use Rattle.std.specs.Prelude.{◌≡◌, refl, Bool, true, false, ◌&&◌, ℕ}
 use Rattle.std.proofs.Math.Path.{ap, sym}
+use Rattle.std.proofs.Math.Option.{none}
 use Rattle.std.proofs.Common.{ap₂, ◌∙◌}
 use mathlib.Core.List.{List}
-use Rattle.cedar.specs.Bytes.{Bytes}
-use Rattle.cedar.specs.Types.{eq_names, same, Attrs, rec}
-use Rattle.cedar.specs.Consistency.{consistent_entity, consistent, consistent_attrs, covered_names}
-use Rattle.forms.specs.Parts.{rest, kind}
-use Rattle.forms.specs.TypeBytes.{whole, dec}
-use Rattle.forms.specs.Laws.Views.{is_set, is-entity, is-extension}
-use Rattle.relations.specs.Names.{entity_names}
+use Rattle.cedar.specs.Types.{Ty, Attrs, Atom, atom, set, rec, act, ent, ext, same, as_set, as_rec}
+use Rattle.cedar.specs.Consistency.{consistent_atom, consistent_entity, consistent, consistent_attrs, covered_names}
+use Rattle.forms.specs.Codes.{code}
+use Rattle.forms.specs.Kinds.{kind_number}
+use Rattle.forms.specs.TypeForms.{IsPlain}
+use Rattle.forms.specs.declared.kinds.Kind.{Kind}
+use Rattle.forms.specs.Laws.TypeForms.{plain-code}
 use Rattle.relations.specs.Meets.{plain_kind, kind_meets}
-use Rattle.forms.specs.Laws.Codes.{code-dec}
-use Rattle.relations.specs.Laws.SameForm.{same-types}
-use Rattle.relations.specs.Laws.Meets.{consistent-kinds, kinds-meet}
+use Rattle.relations.specs.Laws.Under.{atom-of}
+use Rattle.relations.specs.Laws.Meets.{atom-meets, meets-atom}
 
-module _ (l : ℕ) (a b : List ℕ) (h : whole l a ≡ true) (g : whole l b ≡ true) where
-  pub with-entity : kind b ≡ 10 → consistent_entity (dec l a) (entity_names b) ≡ consistent (dec l a) (dec l b)
+module _ (a b : Ty) where
+  pub with-set : {x y : Ty} → a ≡ set x → b ≡ set y → consistent x y ≡ consistent a b
   unfolding consistent
-  with-entity k = sym (ap (consistent (dec l a)) (is-entity l b g k).is)
+  with-set p q = sym (ap₂ consistent p q)
 
-  pub unlike-kinds : (kind b ≡ 10 → ⊥) → (kind a ≡ kind b → ⊥) → kind_meets (kind a) (kind b) ≡ consistent (dec l a) (dec l b)
-  unlike-kinds k n =
-      sym (consistent-kinds (dec l a) (dec l b) (λ e. n (sym (code-dec l a h) ∙ e ∙ code-dec l b g)) (λ e. k (sym (code-dec l b g) ∙ e)) ∙
-      ap₂ kind_meets (code-dec l a h) (code-dec l b g))
+  pub set-not : {y : Ty} → as_set a ≡ none → b ≡ set y → false ≡ consistent a b
+  unfolding consistent
+  set-not e q = sym (ap (consistent a) q ∙ rw e refl)
 
-  -- Kinds that are alike.
-  module _ (e : kind a ≡ kind b) where
-    pub with-set : kind b ≡ 7 → (r : Bool) → r ≡ consistent (dec (l - 1) (rest 1 a)) (dec (l - 1) (rest 1 b)) → r ≡ consistent (dec l a) (dec l b)
+  pub with-entity : {ks : List ℕ} → b ≡ ent ks → consistent_entity a ks ≡ consistent a b
+  unfolding consistent
+  with-entity q = sym (ap (consistent a) q)
+
+  pub with-action : {n : ℕ} {ys : Attrs} → b ≡ act n ys → false ≡ consistent a b
+  unfolding consistent
+  with-action q = sym (ap (consistent a) q)
+
+  pub with-extension : {n : ℕ} → b ≡ ext n → same a b ≡ consistent a b
+  unfolding consistent
+  with-extension q = rw q refl
+
+  -- Records, by their attributes.
+  pub record-not : {p : Bool} {ys : Attrs} → as_rec a ≡ none → b ≡ rec p ys → false ≡ consistent a b
+  unfolding consistent
+  record-not e q = sym (ap (consistent a) q ∙ rw e refl)
+
+  module _ {o p : Bool} {xs ys : Attrs} (aq : a ≡ rec o xs) (bq : b ≡ rec p ys) (x : Bool) (q : x ≡ consistent_attrs o xs ys) where
+    records : consistent a b ≡ (x && covered_names xs p ys)
     unfolding consistent
-    with-set k r q = q ∙ sym (ap₂ consistent (is_set l a h (e ∙ k)).is (is_set l b g k).is)
+    records = ap₂ consistent aq bq ∙ rw q refl
 
-    pub with-extension : Bytes a → Bytes b → kind b ≡ 12 → eq_names a b ≡ consistent (dec l a) (dec l b)
+    pub attributes-not : x ≡ false → x ≡ consistent a b
+    attributes-not z = z ∙ sym (records ∙ rw z refl)
+
+    pub with-record : x ≡ true → (y : Bool) → y ≡ covered_names xs p ys → y ≡ consistent a b
+    with-record z y yq = yq ∙ sym (records ∙ rw z refl)
+
+  -- A type without parts, by its kind.
+  module _ (n : ℕ) (c : n ≡ code a) {k : Kind} (p : IsPlain b k) where
+    with-atom : consistent a b ≡ consistent_atom a p.which
     unfolding consistent
-    with-extension x y k =
-        let s = (is-extension l b g k).is in
-        same-types l a b x y h g ∙ ap (same (dec l a)) s ∙ sym (ap (consistent (dec l a)) s)
+    with-atom = ap (consistent a) p.is
 
-    pub with-kind : (kind b ≡ 10 → ⊥) → (kind b ≡ 7 → ⊥) → (kind b ≡ 8 → ⊥) → (kind b ≡ 12 → ⊥) → plain_kind (kind b) ≡ consistent (dec l a) (dec l b)
-    with-kind r p q s =
-        let c = code-dec l b g in
-        ap plain_kind (sym c)
-        ∙ kinds-meet (dec l a) (dec l b) (code-dec l a h ∙ e ∙ sym c) (λ z. p (sym c ∙ z)) (λ z. q (sym c ∙ z)) (λ z. r (sym c ∙ z)) (λ z. s (sym c ∙ z))
+    pub with-alike : n ≡ kind_number k → plain_kind (kind_number k) ≡ consistent a b
+    with-alike e =
+        let s : a ≡ atom p.which = atom-of a p.which (sym c ∙ e ∙ sym (plain-code p)) in
+        ap plain_kind (sym (plain-code p)) ∙ atom-meets p.which ∙ sym (with-atom ∙ ap (λ (z : Ty). consistent_atom z p.which) s)
 
-    -- Records, by their attributes.
-    module _ {o p : Bool} {xs ys : Attrs} (aq : dec l a ≡ rec o xs) (bq : dec l b ≡ rec p ys) where
-      records : consistent (dec l a) (dec l b) ≡ (consistent_attrs o xs ys && covered_names xs p ys)
-      unfolding consistent
-      records = ap₂ consistent aq bq
-
-      pub record-not : (x : Bool) → x ≡ consistent_attrs o xs ys → x ≡ false → false ≡ consistent (dec l a) (dec l b)
-      record-not x q z = sym (records ∙ rw (sym q ∙ z) refl)
-
-      pub with-record : (x : Bool) → x ≡ consistent_attrs o xs ys → x ≡ true → (y : Bool) → y ≡ covered_names xs p ys → y ≡ consistent (dec l a) (dec l b)
-      with-record x q z y yq = yq ∙ sym (records ∙ rw (sym q ∙ z) refl)
+    pub with-unlike : (n ≡ kind_number k → ⊥) → kind_meets n (kind_number k) ≡ consistent a b
+    with-unlike h =
+        sym (with-atom ∙ meets-atom a p.which (λ e. h (c ∙ e ∙ plain-code p)) ∙ ap₂ kind_meets (sym c) (plain-code p))

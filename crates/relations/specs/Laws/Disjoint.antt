@@ -1,42 +1,34 @@
 -- The names of types, and whether two types share one. Assumes nothing.
-use Rattle.std.specs.Prelude.{◌≡◌, refl, List, Bool, true, false, not, ℕ, ◌+◌, ◌≤◌, length}
+use Rattle.std.specs.Prelude.{◌≡◌, refl, List, Bool, false, not, ℕ, ◌+◌, ◌≤◌, length}
 use Rattle.std.proofs.Math.Path.{ap, sym}
 use Rattle.std.proofs.Common.{◌∙◌}
 use Rattle.std.proofs.Math.Option.{none, some}
 use native.Mathlib.Omega.{arith}
-use Rattle.cedar.specs.Types.{Ty, atom, set, rec, act, ent, ext}
+use Rattle.cedar.specs.Types.{Ty, Attrs, act}
 use Rattle.cedar.specs.Disjoint.{type_names, shares, disjoint}
-use Rattle.forms.specs.Parts.{part, rest, kind}
-use Rattle.forms.specs.TypeBytes.{whole, dec}
-use Rattle.forms.specs.Names.{names_in}
-use Rattle.relations.specs.TypeNames.{NamesFound}
-use Rattle.forms.specs.Laws.Views.{is-entity, is-action}
 use Rattle.forms.specs.Codes.{code}
-use Rattle.forms.specs.Laws.Codes.{code-dec}
-use Rattle.relations.specs.Laws.Names.{entity-form, entity-names, names-of-entity, one-name, one-name-is}
+use Rattle.forms.specs.Parts.{part, kind}
+use Rattle.forms.specs.Names.{names_in}
+use Rattle.forms.specs.TypeForms.{type_of}
+use Rattle.forms.specs.declared.type_forms.TypeForm.{TypeForm}
+use Rattle.forms.specs.Laws.TypeForms.{as_action, kind-said}
+use Rattle.relations.specs.TypeNames.{NamesFound}
+use Rattle.relations.specs.Laws.Names.{one-name, one-name-is}
 
-no_names : (t : Ty) → (code t ≡ 10 → ⊥) → (code t ≡ 11 → ⊥) → type_names t ≡ none
-no_names (atom k) p q = refl
-no_names (set t) p q = refl
-no_names (rec o xs) p q = refl
-no_names (act n xs) p q = absurd (q refl)
-no_names (ent ns) p q = absurd (p refl)
-no_names (ext n) p q = refl
+-- An action's form has its name in two bytes.
+module _ (t : TypeForm) {n : ℕ} {xs : Attrs} (e : type_of t ≡ act n xs) where
+  action-kind : kind t.bytes.now ≡ 11
+  action-kind = sym (kind-said t) ∙ ap code e
 
-module _ (l : ℕ) (b : List ℕ) (h : whole l b ≡ true) where
-  pub named-entity : kind b ≡ 10 → NamesFound (type_names (dec l b)) (rest 3 b)
-  named-entity e =
-      let s = is-entity l b h e in
-      record { is = ap type_names s.is ∙ ap some (names-of-entity (entity-form s)); up = entity-names (entity-form s) }
+  pub name-room : 3 ≤ length t.bytes.now
+  name-room = omega (arith, (as_action t action-kind).some)
 
-  pub named-action : kind b ≡ 11 → NamesFound (type_names (dec l b)) (part 1 3 b)
-  named-action e =
-      let s = is-action l b h e in
-      let room : 1 + 2 ≤ length b = omega (arith, s.some) in
-      record { is = ap type_names s.is ∙ ap some (sym (one-name-is 1 b room)); up = one-name 1 b room }
-
-  pub named-nothing : (kind b ≡ 10 → ⊥) → (kind b ≡ 11 → ⊥) → type_names (dec l b) ≡ none
-  named-nothing p q = no_names (dec l b) (λ e. p (sym (code-dec l b h) ∙ e)) (λ e. q (sym (code-dec l b h) ∙ e))
+  pub named-action : NamesFound (type_names (type_of t)) (part 1 3 t.bytes.now)
+  named-action =
+      record {
+        is = ap type_names (as_action t action-kind).is ∙ ap some (sym (one-name-is 1 t.bytes.now name-room));
+        up = one-name 1 t.bytes.now name-room;
+      }
 
 pub disjoint-first : (t u : Ty) → type_names t ≡ none → false ≡ disjoint t u
 disjoint-first t u e = rw e refl

@@ -1,21 +1,20 @@
 -- Plain types and consistency, by what a form shows before its parts. Assumes nothing.
-use Rattle.std.specs.Prelude.{◌≡◌, List, [], ◌∷◌, Bool, true, false, ◌||◌, ℕ, ◌+◌, ◌-◌, ◌≤◌, ◌<◌, eqb, leb}
+use Rattle.std.specs.Prelude.{◌≡◌, List, [], ◌∷◌, Bool, true, false, ◌||◌, ℕ, ◌+◌, ◌-◌, ◌/◌, ◌≤◌, ◌<◌, eqb, leb, length}
 use Rattle.std.proofs.Math.Path.{refl}
 use Rattle.std.proofs.Common.{ap, ap₂, sym, ◌∙◌, arith}
 use borrow.Author.Tests.{eq-eqb, ne_eqb, le-leb, lt-leb}
-use Rattle.cedar.specs.Types.{Atom, true', false', anyset, anyent, Ty, atom, set, rec, act, ent, ext, is, mem}
-use Rattle.cedar.specs.TypeForm.{kind_of, atom_code}
+use Rattle.cedar.specs.Types.{Atom, true', false', anyset, anyent, Ty, Attrs, atom, set, rec, act, ent, ext, is, mem}
+use Rattle.cedar.specs.TypeForm.{atom_code}
 use Rattle.cedar.specs.Disjoint.{shares}
-use Rattle.cedar.specs.Consistency.{plain, consistent_atom, consistent_entity, consistent}
-use Rattle.forms.specs.Parts.{part, rest, rd, kind}
-use Rattle.forms.specs.TypeBytes.{names_by, whole, dec}
+use Rattle.cedar.specs.Consistency.{plain, consistent_atom, consistent_entity}
+use Rattle.forms.specs.Parts.{part, rest, rd}
+use Rattle.forms.specs.TypeBytes.{names_by}
+use Rattle.forms.specs.TypeForms.{IsPlain}
 use Rattle.forms.specs.Names.{names_in}
-use Rattle.forms.specs.Laws.Parts.{rest-is}
-use Rattle.forms.specs.Laws.Sure.{rd-drop, eqb_same}
+use Rattle.forms.specs.Laws.Sure.{eqb_same}
 use Rattle.forms.specs.Laws.Names.{names-first}
-use Rattle.forms.specs.Laws.Views.{is-entity, is-action}
-use Rattle.relations.specs.Names.{EntityForm, entity_names}
-use Rattle.relations.specs.Laws.Names.{entity-form, names-of-entity, one-name-is}
+use Rattle.forms.specs.Laws.TypeForms.{plain-code}
+use Rattle.relations.specs.Laws.Names.{one-name-is}
 use Rattle.relations.specs.Meets.{plain_kind, kind_meets}
 use Rattle.std.proofs.Math.Decide.{dec_lt}
 use Rattle.forms.specs.Kinds.{kind_number}
@@ -23,8 +22,7 @@ use Rattle.forms.specs.declared.kinds.Kind.{Kind}
 use Rattle.forms.specs.declared.kinds.Kind.TheVariants as is_kind
 use Rattle.forms.specs.Laws.Kinds.{kind-differs}
 use Rattle.forms.specs.Codes.{code}
-use Rattle.forms.specs.Laws.Codes.{code-dec}
-use Rattle.relations.specs.Laws.Under.{by-atom, is_code, one-injective, atom-kind, not-parts, not_code, no-set, no_record, unlike}
+use Rattle.relations.specs.Laws.Under.{by-atom, is_code, not-parts}
 
 -- Plain kinds.
 pub plain-low : (k : ℕ) → k < 3 → false ≡ plain_kind k
@@ -48,15 +46,10 @@ not_plain-kind k b l s a = go (dec_lt (kind_number k) 3)
         let p6 : kind_number k ≡ 6 → ⊥ = kind-differs k is_kind.AnySet a in
         sym (lt-leb (kind_number k) 6 (omega arith)) ∙ plain-high (kind_number k) (omega arith)
 
--- A type without parts, and an action, by its first byte.
-pub plain_code : (t : Ty) → (code t ≡ 7 → ⊥) → (code t ≡ 8 → ⊥) → (code t ≡ 10 → ⊥) → (code t ≡ 12 → ⊥) → plain_kind (code t) ≡ plain t
+-- An atom, by its kind.
+pub plain-atom : (k : Atom) → plain_kind (atom_code k) ≡ plain (atom k)
 unfolding plain plain_kind
-plain_code (atom k) p q r s = by-atom (λ k. plain_kind (atom_code k) ≡ plain (atom k)) refl refl refl refl refl refl refl refl k
-plain_code (set t) p q r s = absurd (p refl)
-plain_code (rec o xs) p q r s = absurd (q refl)
-plain_code (act n xs) p q r s = refl
-plain_code (ent ns) p q r s = absurd (r refl)
-plain_code (ext n) p q r s = absurd (s refl)
+plain-atom k = by-atom (λ k. plain_kind (atom_code k) ≡ plain (atom k)) refl refl refl refl refl refl refl refl k
 
 -- Unlike kinds, as `kind_consistent` tests them.
 module _ (j k : ℕ) where
@@ -84,50 +77,19 @@ atoms-meet j k h = by-atom (λ k. is j k ≡ false → consistent_atom (atom j) 
     go false true = refl
     go false false = refl
 
-atom-meets : (k : Atom) → plain_kind (atom_code k) ≡ consistent_atom (atom k) k
+pub atom-meets : (k : Atom) → plain_kind (atom_code k) ≡ consistent_atom (atom k) k
 unfolding plain_kind
 atom-meets k = by-atom (λ k. plain_kind (atom_code k) ≡ consistent_atom (atom k) k) refl refl refl refl refl refl refl refl k
 
 -- A type of another kind than an atom's, with it.
-atom-kinds : (a : Ty) (k : Atom) → (code a ≡ atom_code k → ⊥) → consistent_atom a k ≡ kind_meets (code a) (atom_code k)
+pub meets-atom : (a : Ty) (k : Atom) → (code a ≡ atom_code k → ⊥) → consistent_atom a k ≡ kind_meets (code a) (atom_code k)
 unfolding kind_meets
-atom-kinds (atom j) k n = atoms-meet j k (is_code j k ∙ ne_eqb (atom_code j) (atom_code k) n)
-atom-kinds (set t) k n = by-atom (λ k. is k anyset ≡ kind_meets 7 (atom_code k)) refl refl refl refl refl refl refl refl k
-atom-kinds (rec o xs) k n = by-atom (λ k. false ≡ kind_meets 8 (atom_code k)) refl refl refl refl refl refl refl refl k
-atom-kinds (act i xs) k n = by-atom (λ k. false ≡ kind_meets 11 (atom_code k)) refl refl refl refl refl refl refl refl k
-atom-kinds (ent ns) k n = by-atom (λ k. false ≡ kind_meets 10 (atom_code k)) refl refl refl refl refl refl refl refl k
-atom-kinds (ext i) k n = by-atom (λ k. false ≡ kind_meets 12 (atom_code k)) refl refl refl refl refl refl refl refl k
-
--- Types of unlike kinds, by their first bytes.
-pub consistent-kinds : (a b : Ty) → (code a ≡ code b → ⊥) → (code b ≡ 10 → ⊥) → consistent a b ≡ kind_meets (code a) (code b)
-unfolding consistent kind_meets
-consistent-kinds a (atom k) n p = atom-kinds a k n
-consistent-kinds a (set u) n p = rw (no-set a n) refl
-consistent-kinds a (rec o ys) n p = rw (no_record a n) refl
-consistent-kinds a (act i ys) n p = refl
-consistent-kinds a (ent ks) n p = absurd (p refl)
-consistent-kinds a (ext i) n p = unlike a (ext i) n
-
--- Types of one kind without parts, and an action, which is no core type.
-pub kinds-meet : (a b : Ty) → code a ≡ code b → (code b ≡ 7 → ⊥) → (code b ≡ 8 → ⊥) → (code b ≡ 10 → ⊥) → (code b ≡ 12 → ⊥) →
-    plain_kind (code b) ≡ consistent a b
-unfolding consistent plain_kind
-kinds-meet a (atom k) e p q r s = go a e
-  where
-    go : (a : Ty) → code a ≡ atom_code k → plain_kind (atom_code k) ≡ consistent_atom a k
-    go (atom j) e =
-        let z : j ≡ k = one-injective (sym (atom-kind j) ∙ ap kind_of e ∙ atom-kind k) in
-        atom-meets k ∙ ap (λ (i : Atom). consistent_atom (atom i) k) (sym z)
-    go (set t) e = absurd (not_code k 7 (not-parts k).0 e)
-    go (rec o xs) e = absurd (not_code k 8 (not-parts k).1 e)
-    go (act i xs) e = absurd (not_code k 11 (not-parts k).3 e)
-    go (ent ns) e = absurd (not_code k 10 (not-parts k).2 e)
-    go (ext i) e = absurd (not_code k 12 (not-parts k).4 e)
-kinds-meet a (set u) e p q r s = absurd (p refl)
-kinds-meet a (rec o ys) e p q r s = absurd (q refl)
-kinds-meet a (act i ys) e p q r s = refl
-kinds-meet a (ent ks) e p q r s = absurd (r refl)
-kinds-meet a (ext i) e p q r s = absurd (s refl)
+meets-atom (atom j) k n = atoms-meet j k (is_code j k ∙ ne_eqb (atom_code j) (atom_code k) n)
+meets-atom (set t) k n = by-atom (λ k. is k anyset ≡ kind_meets 7 (atom_code k)) refl refl refl refl refl refl refl refl k
+meets-atom (rec o xs) k n = by-atom (λ k. false ≡ kind_meets 8 (atom_code k)) refl refl refl refl refl refl refl refl k
+meets-atom (act i xs) k n = by-atom (λ k. false ≡ kind_meets 11 (atom_code k)) refl refl refl refl refl refl refl refl k
+meets-atom (ent ns) k n = by-atom (λ k. false ≡ kind_meets 10 (atom_code k)) refl refl refl refl refl refl refl refl k
+meets-atom (ext i) k n = by-atom (λ k. false ≡ kind_meets 12 (atom_code k)) refl refl refl refl refl refl refl refl k
 
 -- One name of a list.
 shares-one : (ns : List ℕ) (k : ℕ) → shares ns (k ∷ []) ≡ mem k ns
@@ -138,45 +100,16 @@ shares-one (n ∷ ns) k = ap₂ (λ (x y : Bool). x || y) (or-none (eqb n k) ∙
     or-none true = refl
     or-none false = refl
 
-no-entities : (a : Ty) (k : ℕ) (ks : List ℕ) → (code a ≡ 9 → ⊥) → (code a ≡ 10 → ⊥) → (code a ≡ 11 → ⊥) → false ≡ consistent_entity a (k ∷ ks)
-no-entities (atom j) k ks p q r = sym (is_code j anyent ∙ ne_eqb (atom_code j) 9 p)
-no-entities (set t) k ks p q r = refl
-no-entities (rec o xs) k ks p q r = refl
-no-entities (act i xs) k ks p q r = absurd (r refl)
-no-entities (ent ns) k ks p q r = absurd (q refl)
-no-entities (ext i) k ks p q r = refl
-
-any-entity : (a : Ty) (k : ℕ) (ks : List ℕ) → code a ≡ 9 → true ≡ consistent_entity a (k ∷ ks)
-any-entity (atom j) k ks e = sym (is_code j anyent ∙ eq-eqb (atom_code j) 9 e)
-any-entity (set t) k ks e = absurd (let z : ◌≡◌ {A = ℕ} 7 9 = e in omega arith)
-any-entity (rec o xs) k ks e = absurd (let z : ◌≡◌ {A = ℕ} 8 9 = e in omega arith)
-any-entity (act i xs) k ks e = absurd (let z : ◌≡◌ {A = ℕ} 11 9 = e in omega arith)
-any-entity (ent ns) k ks e = absurd (let z : ◌≡◌ {A = ℕ} 10 9 = e in omega arith)
-any-entity (ext i) k ks e = absurd (let z : ◌≡◌ {A = ℕ} 12 9 = e in omega arith)
-
-rd-rest : (a : ℕ) (b : List ℕ) → rd (rest a b) 0 ≡ rd b a
-rd-rest a b = let e : a + 0 ≡ a = omega arith in ap (λ (z : List ℕ). rd z 0) (rest-is a b) ∙ rd-drop a b 0 ∙ ap (λ (j : ℕ). rd b j) e
-
 -- A type with an entity, as `entity_consistent` tests them.
-module _ (l : ℕ) (a b : List ℕ) (h : whole l a ≡ true) (f : EntityForm b) where
-  heads : entity_names b ≡ rd (rest 3 b) 0 ∷ names_by 2 (rd b 1 - 1) (rest 2 (rest 3 b))
-  heads = names-first 2 (rd b 1) (rest 3 b) (omega (arith, f.many))
+module _ (a : Ty) (b : List ℕ) (h : 2 ≤ length b) where
+  heads : names_in b ≡ rd b 0 ∷ names_by 2 (length b / 2 - 1) (rest 2 b)
+  heads = names-first 2 (length b / 2) b (omega (arith, h))
 
-  pub entity-any : kind a ≡ 9 → true ≡ consistent_entity (dec l a) (entity_names b)
-  entity-any e = rw heads (any-entity (dec l a) (rd (rest 3 b) 0) (names_by 2 (rd b 1 - 1) (rest 2 (rest 3 b))) (code-dec l a h ∙ e))
+  pub entity-plain : {k : Kind} → IsPlain a k → eqb (kind_number k) 9 ≡ consistent_entity a (names_in b)
+  entity-plain p = rw (heads, p.is, ← plain-code p) (sym (is_code p.which anyent))
 
-  pub entity-name : kind a ≡ 10 → (r : Bool) → r ≡ shares (names_in (rest 3 a)) (names_in (part 3 5 b)) → r ≡ consistent_entity (dec l a) (entity_names b)
-  entity-name e r t =
-      let s = is-entity l a h e in
-      let first : names_in (part 3 5 b) ≡ rd (rest 3 b) 0 ∷ [] = one-name-is 3 b (omega (arith, f.sized, f.many)) ∙ ap (λ (x : ℕ). x ∷ []) (sym (rd-rest 3 b)) in
-      t ∙ ap₂ shares (sym (names-of-entity (entity-form s))) first ∙ shares-one (entity_names a) (rd (rest 3 b) 0) ∙ rw (heads, s.is) refl
+  pub entity-name : (ns : List ℕ) → a ≡ ent (names_in ns) → (r : Bool) → r ≡ shares (names_in ns) (names_in (part 0 2 b)) → r ≡ consistent_entity a (names_in b)
+  entity-name ns e r t = t ∙ rw (heads, e) (ap (shares (names_in ns)) (one-name-is 0 b h) ∙ shares-one (names_in ns) (rd b 0))
 
-  pub entity-action : kind a ≡ 11 → (x y : ℕ) → x ≡ rd a 1 → y ≡ rd b 3 → eqb x y ≡ consistent_entity (dec l a) (entity_names b)
-  entity-action e x y p q =
-      rw (heads, (is-action l a h e).is, p, q, rd-rest 3 b) (eqb_same (rd a 1) (rd b 3) (rd b 3) (rd a 1) (λ z. sym z) (λ z. sym z))
-
-  pub entity-other : (kind a ≡ 9 → ⊥) → (kind a ≡ 10 → ⊥) → (kind a ≡ 11 → ⊥) → false ≡ consistent_entity (dec l a) (entity_names b)
-  entity-other p q r =
-      let c = code-dec l a h in
-      rw heads (no-entities (dec l a) (rd (rest 3 b) 0) (names_by 2 (rd b 1 - 1) (rest 2 (rest 3 b))) (λ z. p (sym c ∙ z)) (λ z. q (sym c ∙ z))
-      (λ z. r (sym c ∙ z)))
+  pub entity-action : {n : ℕ} {xs : Attrs} → a ≡ act n xs → (x : ℕ) → x ≡ rd b 0 → eqb n x ≡ consistent_entity a (names_in b)
+  entity-action {n} e x q = rw (heads, e, q) (eqb_same n (rd b 0) (rd b 0) n (λ z. sym z) (λ z. sym z))

@@ -2,20 +2,23 @@
 use Rattle.std.specs.Prelude.{◌≡◌, refl, List, [], ◌∷◌, Bool, true, false, ◌||◌, ◌&&◌, ℕ, suc, ◌+◌, ◌-◌, ◌/◌, ◌≤◌, ◌<◌, length, drop}
 use Rattle.std.proofs.Common.{ap, ap₂, sym, ◌∙◌, add-one, arith, le-leb, lt-ltb, le-ltb, eq-eqb, ne_eqb}
 use Rattle.std.proofs.Math.Decide.{dec_lt}
-use Rattle.cedar.specs.Types.{mem}
+use Rattle.cedar.specs.Types.{mem, ent}
 use Rattle.cedar.specs.Laws.Shape.{Ascend}
 use Rattle.cedar.specs.Disjoint.{shares}
 use Rattle.cedar.specs.Subtype.{subset}
+use Rattle.forms.specs.Codes.{code}
 use Rattle.forms.specs.Parts.{part, rest, rd}
+use Rattle.forms.specs.TypeForms.{type_of}
+use Rattle.forms.specs.declared.type_forms.TypeForm.{TypeForm}
 use Rattle.forms.specs.TypeBytes.{names_up, names_by}
 use Rattle.forms.specs.Names.{names_in, Ascending}
 use Rattle.forms.specs.Laws.Parts.{length_part, length_rest, rd-take}
 use Rattle.forms.specs.Laws.Sure.{rd-drop}
 use Rattle.forms.specs.Laws.Types.{names-up}
-use Rattle.forms.specs.Laws.Names.{names-first, names-ascend}
+use Rattle.forms.specs.Laws.Names.{names-first, names-ascend, names-length}
+use Rattle.forms.specs.Laws.TypeForms.{as_entity, kind-said}
 use Rattle.forms.specs.Laws.NamesIn.{names-over}
-use Rattle.forms.specs.Laws.Views.{IsEntity}
-use Rattle.relations.specs.Names.{EntityForm, entity_names, from_name}
+use Rattle.relations.specs.Names.{from_name}
 
 -- A name below all names of a list is not in it.
 pub mem_below : (x low : ℕ) (ks : List ℕ) → Ascend low ks → x < low → mem x ks ≡ false
@@ -56,19 +59,17 @@ first-name {b} s p =
     pos [] h = absurd (h refl)
     pos (x ∷ b) h = omega arith
 
--- The names of an entity.
-pub entity-form : {l : ℕ} {b : List ℕ} → IsEntity l b → EntityForm b
-entity-form s = record { many = s.many; sized = s.sized; up = s.up }
-
-module _ {b : List ℕ} (s : EntityForm b) where
-  count : rd b 1 ≡ length (rest 3 b) / 2
-  count = omega (arith, length_rest 3 b, s.sized)
-
-  pub entity-names : Ascending (rest 3 b)
-  entity-names = record { low = 0; even = omega (arith, length_rest 3 b, s.sized); up = rw count at s.up }
-
-  pub names-of-entity : entity_names b ≡ names_in (rest 3 b)
-  names-of-entity = ap (λ (n : ℕ). names_by 2 n (rest 3 b)) count
+-- An entity has a name.
+pub entity-named : (t : TypeForm) (ns : List ℕ) → type_of t ≡ ent (names_in ns) → 2 ≤ length ns
+entity-named t ns e =
+    let s = as_entity t (sym (kind-said t) ∙ ap code e) in
+    let same : names_by 2 (rd t.bytes.now 1) (rest 3 t.bytes.now) ≡ names_in ns = ent-injective (sym s.is ∙ e) in
+    let count : rd t.bytes.now 1 ≡ length ns / 2 =
+    sym (names-length 2 (rd t.bytes.now 1) (rest 3 t.bytes.now)) ∙ ap length same ∙ names-length 2 (length ns / 2) ns in
+    omega (arith, s.many, count)
+  where
+    ent-injective : {ks ms : List ℕ} → ent ks ≡ ent ms → ks ≡ ms
+    ent-injective q = cc
 
 -- One name, which ascends.
 module _ (a : ℕ) (b : List ℕ) (h : a + 2 ≤ length b) where

@@ -1,71 +1,60 @@
--- Whether a type is plain, by what its form shows. Assumes nothing.
-use Rattle.std.specs.Prelude.{◌≡◌, List, Bool, true, false, ◌&&◌, ℕ, zero, suc, ◌+◌, ◌-◌, eqb, length}
+-- Whether a type is plain, by what it is made of. Assumes nothing.
+use Rattle.std.specs.Prelude.{◌≡◌, List, Bool, true, false, ◌&&◌, ℕ, ◌/◌, eqb, length}
 use Rattle.std.proofs.Math.Path.{refl, ap, sym}
-use Rattle.std.proofs.Common.{◌∙◌}
-use Rattle.cedar.specs.Types.{Attrs, rec}
+use Rattle.std.proofs.Common.{◌∙◌, arith}
+use Rattle.cedar.specs.Types.{Ty, set, rec, act, ent, ext, Attrs, nil}
 use Rattle.cedar.specs.Consistency.{plain, plain_attrs}
-use Rattle.forms.specs.Parts.{rest, rd, kind}
-use Rattle.forms.specs.TypeBytes.{names_by, whole, dec}
-use Rattle.forms.specs.Laws.Views.{is_set, is-entity, is-extension}
-use Rattle.forms.specs.declared.rows.Row.{Row}
-use Rattle.forms.specs.declared.rows.Rows.{Rows}
-use Rattle.forms.specs.RowBytes.{TookFirst}
-use Rattle.forms.specs.AttributeRows.{SoundFrom, attributes_of}
-use Rattle.forms.specs.Laws.AttributeRows.{taken-attribute, taken-none}
+use Rattle.forms.specs.Kinds.{kind_number}
+use Rattle.forms.specs.Names.{names_in, Ascending}
+use Rattle.forms.specs.TypeForms.{type_of, listed, IsPlain, TookFirstAttribute}
+use Rattle.forms.specs.declared.kinds.Kind.{Kind}
+use Rattle.forms.specs.declared.type_forms.AttributeForm.{AttributeForm}
+use Rattle.forms.specs.declared.type_forms.AttributeForms.{AttributeForms}
+use Rattle.forms.specs.Laws.Names.{names-length}
+use Rattle.forms.specs.Laws.Sure.{eqb_same}
+use Rattle.forms.specs.Laws.TypeForms.{plain-code}
 use Rattle.relations.specs.Meets.{plain_kind}
-use Rattle.forms.specs.Laws.Codes.{code-dec}
-use Rattle.relations.specs.Laws.Meets.{plain_code}
+use Rattle.relations.specs.Laws.Meets.{plain-atom}
 
 -- A walk that has come so far: what is left answers for the whole.
-pub record PlainLeft (l : ℕ) (xs : Attrs) (ahead : Rows 5) : Type 0 where
-  pub low : ℕ
-  pub sound : SoundFrom l low ahead
-  pub same : plain_attrs xs ≡ plain_attrs (attributes_of l ahead)
+pub plain-end : {all : Bool} {xs : Attrs} → all ≡ plain_attrs xs → xs ≡ nil → true ≡ all
+unfolding plain
+plain-end i h = sym (i ∙ ap plain_attrs h)
 
-module _ {l : ℕ} {xs : Attrs} {ahead : Rows 5} (i : PlainLeft l xs ahead) where
-  pub plain_end : ahead.left ≡ 0 → true ≡ plain_attrs xs
+module _ {all : Bool} {xs : AttributeForms} (i : all ≡ plain_attrs (listed xs)) where
+  module _ {ys : AttributeForms} {a : AttributeForm} (t : TookFirstAttribute xs ys a) (x : Bool) (xq : x ≡ plain (type_of a.form)) where
+    step : all ≡ (x && plain_attrs (listed ys))
+    unfolding plain
+    step = i ∙ ap plain_attrs t.all ∙ rw xq refl
+
+    pub plain-not : x ≡ false → false ≡ all
+    plain-not h = sym (step ∙ rw h refl)
+
+    pub plain-again : x ≡ true → all ≡ plain_attrs (listed ys)
+    plain-again h = step ∙ rw h refl
+
+module _ (t : Ty) where
+  pub plain-set : {x : Ty} → t ≡ set x → plain x ≡ plain t
   unfolding plain
-  plain_end h = sym (i.same ∙ ap plain_attrs (taken-none i.sound h))
+  plain-set e = sym (ap plain e)
 
-  module _ (more : Rows 5) {r : Row} (t : TookFirst 5 ahead.left ahead.entries.now ahead.bodies.now more.left more.entries.now more.bodies.now r) where
-    pub plain-first : whole l r.body.now ≡ true
-    plain-first = (taken-attribute i.sound t).body
-
-    module _ (x : Bool) (xq : x ≡ plain (dec l r.body.now)) where
-      step : plain_attrs xs ≡ (x && plain_attrs (attributes_of l more))
-      unfolding plain
-      step = i.same ∙ ap plain_attrs (taken-attribute i.sound t).is ∙ rw xq refl
-
-      pub plain-not : x ≡ false → false ≡ plain_attrs xs
-      plain-not h = sym (step ∙ rw h refl)
-
-      pub plain-again : x ≡ true → PlainLeft l xs more
-      plain-again h = record { low = rd r.head.now 0 + 1; sound = (taken-attribute i.sound t).more; same = step ∙ rw h refl }
-
-length-names : (n : ℕ) (b : List ℕ) → length (names_by 2 n b) ≡ n
-unfolding names_by
-length-names zero b = refl
-length-names (suc n) b = ap suc (length-names n (rest 2 b))
-
--- By the first byte.
-module _ (l : ℕ) (b : List ℕ) (h : whole l b ≡ true) where
-  pub plain-set : kind b ≡ 7 → plain (dec (l - 1) (rest 1 b)) ≡ plain (dec l b)
-  unfolding plain
-  plain-set e = sym (ap plain (is_set l b h e).is)
-
-  pub plain-record : {o : Bool} {xs : Attrs} → dec l b ≡ rec o xs → plain_attrs xs ≡ plain (dec l b)
+  pub plain-record : {o : Bool} {xs : Attrs} → t ≡ rec o xs → plain_attrs xs ≡ plain t
   unfolding plain
   plain-record e = sym (ap plain e)
 
-  pub plain-entity : kind b ≡ 10 → (n : ℕ) → n ≡ rd b 1 → eqb n 1 ≡ plain (dec l b)
+  pub plain-entity : (ns : List ℕ) → t ≡ ent (names_in ns) → Ascending ns → eqb (length ns) 2 ≡ plain t
   unfolding plain
-  plain-entity e n q = rw (q, (is-entity l b h e).is, length-names (rd b 1) (rest 3 b)) refl
+  plain-entity ns e s =
+      eqb_same (length ns) 2 (length ns / 2) 1 (λ z. omega (arith, z)) (λ z. omega (arith, s.even, z))
+      ∙ sym (ap plain e ∙ ap (λ (n : ℕ). eqb n 1) (names-length 2 (length ns / 2) ns))
 
-  pub plain-extension : kind b ≡ 12 → true ≡ plain (dec l b)
+  pub plain-action : {n : ℕ} {xs : Attrs} → t ≡ act n xs → false ≡ plain t
   unfolding plain
-  plain-extension e = sym (ap plain (is-extension l b h e).is)
+  plain-action e = sym (ap plain e)
 
-  pub plain_other : (kind b ≡ 7 → ⊥) → (kind b ≡ 8 → ⊥) → (kind b ≡ 10 → ⊥) → (kind b ≡ 12 → ⊥) → plain_kind (kind b) ≡ plain (dec l b)
-  plain_other p q r s =
-      let c = code-dec l b h in
-      ap plain_kind (sym c) ∙ plain_code (dec l b) (λ z. p (sym c ∙ z)) (λ z. q (sym c ∙ z)) (λ z. r (sym c ∙ z)) (λ z. s (sym c ∙ z))
+  pub plain-extension : {n : ℕ} → t ≡ ext n → true ≡ plain t
+  unfolding plain
+  plain-extension e = sym (ap plain e)
+
+  pub plain-plain : {k : Kind} → IsPlain t k → plain_kind (kind_number k) ≡ plain t
+  plain-plain p = ap plain_kind (sym (plain-code p)) ∙ plain-atom p.which ∙ sym (ap plain p.is)

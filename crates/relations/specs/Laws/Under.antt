@@ -79,10 +79,10 @@ by-atom P a b c d e f g h anyset = g
 by-atom P a b c d e f g h anyent = h
 
 -- Atoms are equal where their bytes are.
-pub atom-kind : (a : Atom) → kind_of (atom_code a) ≡ one a
+atom-kind : (a : Atom) → kind_of (atom_code a) ≡ one a
 atom-kind a = by-atom (λ a. kind_of (atom_code a) ≡ one a) refl refl refl refl refl refl refl refl a
 
-pub one-injective : {a b : Atom} → one a ≡ one b → a ≡ b
+one-injective : {a b : Atom} → one a ≡ one b → a ≡ b
 one-injective e = cc
 
 pub is_code : (j k : Atom) → is j k ≡ eqb (atom_code j) (atom_code k)
@@ -95,7 +95,7 @@ is_code j k =
     go e = rw e (is-refl k)
 
 -- Never, by its first byte.
-never-code : (a : Ty) → is_never a ≡ eqb (code a) 0
+pub never-code : (a : Ty) → is_never a ≡ eqb (code a) 0
 never-code (atom k) = is_code k never
 never-code (set t) = refl
 never-code (rec o xs) = refl
@@ -118,13 +118,22 @@ not-parts a =
     )
     (refl, refl, refl, refl, refl) (refl, refl, refl, refl, refl) (refl, refl, refl, refl, refl) (refl, refl, refl, refl, refl) a
 
-pub not_code : (a : Atom) (c : ℕ) → eqb (atom_code a) c ≡ false → c ≡ atom_code a → ⊥
+not_code : (a : Atom) (c : ℕ) → eqb (atom_code a) c ≡ false → c ≡ atom_code a → ⊥
 not_code a c h e = eqb-false (atom_code a) c h (sym e)
 
+-- A type of an atom's kind is that atom.
+pub atom-of : (a : Ty) (k : Atom) → code a ≡ atom_code k → a ≡ atom k
+atom-of (atom j) k e = ap atom (one-injective (sym (atom-kind j) ∙ ap kind_of e ∙ atom-kind k))
+atom-of (set t) k e = absurd (not_code k 7 (not-parts k).0 e)
+atom-of (rec o xs) k e = absurd (not_code k 8 (not-parts k).1 e)
+atom-of (act i xs) k e = absurd (not_code k 11 (not-parts k).3 e)
+atom-of (ent ns) k e = absurd (not_code k 10 (not-parts k).2 e)
+atom-of (ext i) k e = absurd (not_code k 12 (not-parts k).4 e)
+
 -- A type of another kind than an atom's, under it.
-atom-kinds : (m : Mode) (a : Ty) (k : Atom) → (code a ≡ atom_code k → ⊥) → is_never a || sub_atom m a k ≡ kind_under m (code a) (atom_code k)
+pub under-atom : (m : Mode) (a : Ty) (k : Atom) → (code a ≡ atom_code k → ⊥) → is_never a || sub_atom m a k ≡ kind_under m (code a) (atom_code k)
 unfolding kind_under
-atom-kinds m (atom j) k n =
+under-atom m (atom j) k n =
     rw (is_code j never, is_code j k, ne_eqb (atom_code j) (atom_code k) n, is_code k bool, is_code j true', is_code j false')
     (ap (λ (z : Bool). eqb (atom_code j) 0 || z) (go j k))
   where
@@ -137,46 +146,8 @@ atom-kinds m (atom j) k n =
         (by-atom (λ k. eqb (atom_code k) 3 && (eqb (atom_code j) 1 || eqb (atom_code j) 2) ≡ cond (eqb (atom_code k) 3) (eqb (atom_code j) 1 || eqb (atom_code j) 2)
         (cond (eqb (atom_code k) 6) false (eqb (atom_code k) 9 && (false && is_permissive m))))
         refl refl refl refl refl refl refl refl k)
-atom-kinds m (set t) k n = by-atom (λ k. is k anyset ≡ kind_under m 7 (atom_code k)) refl refl refl refl refl refl refl refl k
-atom-kinds m (rec o xs) k n = by-atom (λ k. false ≡ kind_under m 8 (atom_code k)) refl refl refl refl refl refl refl refl k
-atom-kinds m (act i xs) k n = by-atom (λ k. is k anyent && is_permissive m ≡ kind_under m 11 (atom_code k)) refl refl refl refl refl refl refl refl k
-atom-kinds m (ent ns) k n = by-atom (λ k. is k anyent && is_permissive m ≡ kind_under m 10 (atom_code k)) refl refl refl refl refl refl refl refl k
-atom-kinds m (ext i) k n = by-atom (λ k. false ≡ kind_under m 12 (atom_code k)) refl refl refl refl refl refl refl refl k
-
--- Types of unlike kinds show unlike parts.
-pub no-set : (a : Ty) → (code a ≡ 7 → ⊥) → as_set a ≡ none
-no-set (atom k) n = refl
-no-set (set t) n = absurd (n refl)
-no-set (rec o xs) n = refl
-no-set (act i xs) n = refl
-no-set (ent ns) n = refl
-no-set (ext i) n = refl
-
-pub no_record : (a : Ty) → (code a ≡ 8 → ⊥) → as_rec a ≡ none
-no_record (atom k) n = refl
-no_record (set t) n = refl
-no_record (rec o xs) n = absurd (n refl)
-no_record (act i xs) n = refl
-no_record (ent ns) n = refl
-no_record (ext i) n = refl
-
-no-entity : (a : Ty) → (code a ≡ 10 → ⊥) → as_ent a ≡ none
-no-entity (atom k) n = refl
-no-entity (set t) n = refl
-no-entity (rec o xs) n = refl
-no-entity (act i xs) n = refl
-no-entity (ent ns) n = absurd (n refl)
-no-entity (ext i) n = refl
-
-pub unlike : (a b : Ty) → (code a ≡ code b → ⊥) → same a b ≡ false
-unlike a b n = not-T→false (same a b) (λ t. n (ap code (same→eq a b t)))
-
--- Types of unlike kinds, by their first bytes.
-pub sub-kinds : (m : Mode) (a b : Ty) → (code a ≡ code b → ⊥) → sub m a b ≡ kind_under m (code a) (code b)
-unfolding sub kind_under
-sub-kinds m a (atom k) n = atom-kinds m a k n
-sub-kinds m a (set u) n = rw (no-set a n, never-code a) refl
-sub-kinds m a (rec p ys) n = rw (no_record a n, never-code a) refl
-sub-kinds m a (act i ys) n = rw (unlike a (act i ys) n, never-code a) refl
-sub-kinds m a (ent ks) n = rw (no-entity a n, never-code a) refl
-sub-kinds m a (ext i) n = rw (unlike a (ext i) n, never-code a) refl
+under-atom m (set t) k n = by-atom (λ k. is k anyset ≡ kind_under m 7 (atom_code k)) refl refl refl refl refl refl refl refl k
+under-atom m (rec o xs) k n = by-atom (λ k. false ≡ kind_under m 8 (atom_code k)) refl refl refl refl refl refl refl refl k
+under-atom m (act i xs) k n = by-atom (λ k. is k anyent && is_permissive m ≡ kind_under m 11 (atom_code k)) refl refl refl refl refl refl refl refl k
+under-atom m (ent ns) k n = by-atom (λ k. is k anyent && is_permissive m ≡ kind_under m 10 (atom_code k)) refl refl refl refl refl refl refl refl k
+under-atom m (ext i) k n = by-atom (λ k. false ≡ kind_under m 12 (atom_code k)) refl refl refl refl refl refl refl refl k
