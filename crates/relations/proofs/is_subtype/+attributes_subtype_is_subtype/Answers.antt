@@ -4,9 +4,8 @@ use Rattle.forms.specs.Modes.{as_mode}
 use Rattle.forms.specs.TypeForms.{type_of}
 use Rattle.forms.specs.declared.kinds.Kind.TheVariants as is_kind
 use Rattle.forms.specs.Laws.Kinds.{kinds-agree, kinds-differ, same-number}
-use Rattle.relations.specs.Under.{kind_under}
-use Rattle.relations.specs.Laws.Shapes.{no-set, no-record, no-entity}
-use Rattle.relations.specs.Laws.Subtype.{set-under, entity-under, record-under, record-not, not-set, not-record, not-entity, never-under, same-under}
+use Rattle.relations.specs.Laws.Shapes.{no-set, no-record}
+use Rattle.relations.specs.Laws.Subtype.{set-under, record-under, record-not, not-set, not-record, never-under, same-under}
 use Rattle.relations.specs.Laws.Subtype.{alike-under, unlike-under, action-is, extension-is}
 use Rattle.relations.specs.Laws.Walks.{under-end, under-missing, under-flag, under-type, under-again}
 use Rattle.relations.proofs.is_subtype.+attributes_subtype_is_subtype.Goals as goal
@@ -28,7 +27,7 @@ pub attributes_subtype-loop-attribute-preserved : goal.attributes_subtype-loop-a
 attributes_subtype-loop-attribute-preserved t c = (
   c.in-Some.ensures.levels ∙ c.loop-attribute.invariant.0,
   under-again c.loop-attribute.invariant.1 c.in-Some.ensures c.in-Some-find.ensures.1 c.required_under.result c.required_under.ensures
-  c.if-not-required_under.false c.is_subtype.result c.is_subtype.ensures c.in-Some-find.ensures.0 c.if-not-is_subtype.false,
+      c.if-not-required_under.false c.is_subtype.result c.is_subtype.ensures c.in-Some-find.ensures.0 c.if-not-is_subtype.false,
 )
 
 pub attributes_subtype-returns : goal.attributes_subtype-returns

@@ -1,7 +1,6 @@
-use Rattle.std.proofs.Common.{arith, lit<, refl}
+use Rattle.std.proofs.Common.{lit<, refl}
 use Rattle.forms.specs.Laws.Attributes.{laid}
 use Rattle.forms.specs.Laws.AttributeRows.{found-attribute, found-none}
-use Rattle.forms.specs.Laws.RowBytes.{head-length}
 use Rattle.forms.specs.Laws.TypeForms.{sound-ahead, passed-ahead}
 use Rattle.forms.proofs.type_forms.AttributeForms.find.Goals as goal
 
