@@ -16,6 +16,7 @@ use bounds::bound_writes::write_bound;
 use forms::limits::Limits;
 use forms::modes::Mode;
 use forms::refusals::Refusal;
+use forms::type_forms::TypeForm;
 use relations::is_subtype::is_subtype;
 use writing::writers::copy;
 
@@ -104,7 +105,15 @@ pub fn join_step(
     requires t_whole { whole limits.levels t.now ≡ true }
     ensures { Stepped (as_limits limits) (bound (as_mode mode) (dec limits.levels (part 0 len last.old)) (dec limits.levels t.now)) (length work.old) last.new result }
 {
-    if !is_subtype(mode, t, &last[0..len], limits.levels) {
+    let lower = TypeForm {
+        levels: limits.levels,
+        bytes: t,
+    };
+    let upper = TypeForm {
+        levels: limits.levels,
+        bytes: &last[0..len],
+    };
+    if !is_subtype(mode, lower, upper) {
         return write_step(mode, last, len, t, limits, second, work);
     }
     if work.len() / 2 < len {

@@ -17,7 +17,9 @@ fn type_names<'a>(t: TypeForm<'a>) -> Option<&'a [u8]>
 {
     match t.shape() {
         Shape::Entity(names) => Some(names),
-        Shape::Action(_, _) => Some(&t.bytes[Offset::ACTION_NAME..Offset::ACTION_NAME + Width::NAME]),
+        Shape::Action(_, _) => Some(
+            &t.bytes[Offset::ACTION_NAME..Offset::ACTION_NAME + Width::NAME],
+        ),
         _ => None,
     }
 }

@@ -1,6 +1,7 @@
 // Whether a type and a core type, a plain one, may have a value in common.
 ghost use Rattle.std.specs.Prelude.{◌≡◌, ◌≤◌, length};
 ghost use Rattle.cedar.specs.Consistency.{covered_names, consistent_entity, consistent, consistent_attrs};
+ghost use Rattle.cedar.specs.Types.{set, rec};
 ghost use Rattle.forms.specs.Kinds.{kind_number};
 ghost use Rattle.forms.specs.Names.{names_in, Ascending};
 ghost use Rattle.forms.specs.TypeForms.{type_of, listed};
@@ -39,11 +40,7 @@ fn entity_consistent(t: TypeForm, name: &[u8]) -> bool
 
 // Whether each attribute has its name in the core list, or is optional, or the core record is open. Both lists ascend, so a search goes
 // on where the last one ended.
-fn names_covered(
-    mut attributes: AttributeForms,
-    is_open: bool,
-    mut core: AttributeForms,
-) -> bool
+fn names_covered(mut attributes: AttributeForms, is_open: bool, mut core: AttributeForms) -> bool
     ensures { result ≡ covered_names (listed attributes.entry) is_open (listed core.entry) }
 {
     if is_open {
@@ -86,8 +83,35 @@ fn attributes_consistent(
     true
 }
 
+// Whether a type is consistent with a core record.
+#[cycle(attributes_consistent_is_consistent_with)]
+#[inline(never)]
+fn record_consistent(t: TypeForm, core_open: bool, core: AttributeForms) -> bool
+    ensures { result ≡ consistent (type_of t.entry) (rec core_open (listed core.entry)) }
+{
+    match t.shape() {
+        Shape::Record(is_open, attributes) => {
+            attributes_consistent(attributes, is_open, core)
+                && names_covered(attributes, core_open, core)
+        }
+        _ => false,
+    }
+}
+
+// Whether a type is consistent with a core set.
+#[cycle(attributes_consistent_is_consistent_with)]
+fn set_consistent(t: TypeForm, core: TypeForm) -> bool
+    ensures { result ≡ consistent (type_of t.entry) (set (type_of core.entry)) }
+{
+    match t.shape() {
+        Shape::Set(element) => is_consistent_with(element, core),
+        _ => false,
+    }
+}
+
 // Whether t0 is consistent with t1, a core type.
 #[cycle(attributes_consistent_is_consistent_with)]
+#[inline]
 pub fn is_consistent_with(t0: TypeForm, t1: TypeForm) -> bool
     ensures { result ≡ consistent (type_of t0.entry) (type_of t1.entry) }
 {
@@ -99,17 +123,8 @@ pub fn is_consistent_with(t0: TypeForm, t1: TypeForm) -> bool
             }
             kind_consistent(j, k)
         }
-        Shape::Set(core) => match t0.shape() {
-            Shape::Set(element) => is_consistent_with(element, core),
-            _ => false,
-        },
-        Shape::Record(core_open, core) => match t0.shape() {
-            Shape::Record(is_open, attributes) => {
-                attributes_consistent(attributes, is_open, core)
-                    && names_covered(attributes, core_open, core)
-            }
-            _ => false,
-        },
+        Shape::Set(core) => set_consistent(t0, core),
+        Shape::Record(is_open, core) => record_consistent(t0, is_open, core),
         Shape::Entity(names) => entity_consistent(t0, names),
         Shape::Action(_, _) => false,
         Shape::Extension(_) => t0.same(t1),

@@ -1,7 +1,7 @@
 // Whether a type is a subtype of another.
 ghost use Rattle.std.specs.Prelude.{◌≡◌};
 ghost use Rattle.cedar.specs.Subtype.{sub_flag, sub_names, sub, sub_attrs};
-ghost use Rattle.cedar.specs.Types.{names};
+ghost use Rattle.cedar.specs.Types.{set, rec, ent, names};
 ghost use Rattle.forms.specs.Kinds.{kind_number};
 ghost use Rattle.forms.specs.Modes.{as_mode};
 ghost use Rattle.forms.specs.Names.{names_in, Ascending};
@@ -40,8 +40,8 @@ fn required_under(mode: Mode, lower: bool, upper: bool) -> bool
     lower == upper
 }
 
-// Whether the names of an entity stand under another's: strict, they are equal; permissive, they are a subset.
-fn entity_under(mode: Mode, lower: &[u8], upper: &[u8]) -> bool
+// Whether names stand under others, as those of entities do: strict, they are equal; permissive, they are a subset.
+fn names_under(mode: Mode, lower: &[u8], upper: &[u8]) -> bool
     requires lower_up { Ascending lower.now }
     requires upper_up { Ascending upper.now }
     ensures { result ≡ sub_names (as_mode mode) (names_in lower.now) (names_in upper.now) }
@@ -50,6 +50,17 @@ fn entity_under(mode: Mode, lower: &[u8], upper: &[u8]) -> bool
         return names_subset(lower, upper);
     }
     lower[..] == upper[..]
+}
+
+// Whether a type stands under an entity of these names.
+fn entity_under(mode: Mode, t: TypeForm, upper: &[u8]) -> bool
+    requires { Ascending upper.now }
+    ensures { result ≡ sub (as_mode mode) (type_of t.entry) (ent (names_in upper.now)) }
+{
+    match t.shape() {
+        Shape::Entity(lower) => names_under(mode, lower, upper),
+        _ => t.kind() == Kind::Never,
+    }
 }
 
 // Whether a record may stand under another but for its attributes: an open one only under an open one; with the same names or,
@@ -89,29 +100,44 @@ fn attributes_subtype(mode: Mode, mut lower: AttributeForms, mut upper: Attribut
     true
 }
 
+// Whether a type stands under a record.
+#[cycle(attributes_subtype_is_subtype)]
+#[inline(never)]
+fn record_subtype(mode: Mode, t: TypeForm, upper_open: bool, upper: AttributeForms) -> bool
+    ensures { result ≡ sub (as_mode mode) (type_of t.entry) (rec upper_open (listed upper.entry)) }
+{
+    match t.shape() {
+        Shape::Record(lower_open, lower) => {
+            record_under(mode, lower_open, lower, upper_open, upper)
+                && attributes_subtype(mode, lower, upper)
+        }
+        _ => t.kind() == Kind::Never,
+    }
+}
+
+// Whether a type stands under a set.
+#[cycle(attributes_subtype_is_subtype)]
+fn set_under(mode: Mode, t: TypeForm, upper: TypeForm) -> bool
+    ensures { result ≡ sub (as_mode mode) (type_of t.entry) (set (type_of upper.entry)) }
+{
+    match t.shape() {
+        Shape::Set(lower) => is_subtype(mode, lower, upper),
+        _ => t.kind() == Kind::Never,
+    }
+}
+
 // Whether t0 is a subtype of t1.
 #[cycle(attributes_subtype_is_subtype)]
+#[inline]
 pub fn is_subtype(mode: Mode, t0: TypeForm, t1: TypeForm) -> bool
     ensures { result ≡ sub (as_mode mode) (type_of t0.entry) (type_of t1.entry) }
 {
     let j = t0.kind();
     match t1.shape() {
         Shape::Plain(k) => j == k || kind_under(mode, j, k),
-        Shape::Set(upper) => match t0.shape() {
-            Shape::Set(lower) => is_subtype(mode, lower, upper),
-            _ => j == Kind::Never,
-        },
-        Shape::Record(upper_open, upper) => match t0.shape() {
-            Shape::Record(lower_open, lower) => {
-                record_under(mode, lower_open, lower, upper_open, upper)
-                    && attributes_subtype(mode, lower, upper)
-            }
-            _ => j == Kind::Never,
-        },
-        Shape::Entity(upper) => match t0.shape() {
-            Shape::Entity(lower) => entity_under(mode, lower, upper),
-            _ => j == Kind::Never,
-        },
+        Shape::Set(upper) => set_under(mode, t0, upper),
+        Shape::Record(is_open, upper) => record_subtype(mode, t0, is_open, upper),
+        Shape::Entity(names) => entity_under(mode, t0, names),
         Shape::Action(_, _) => j == Kind::Never || t0.same(t1),
         Shape::Extension(_) => j == Kind::Never || t0.same(t1),
     }

@@ -4,7 +4,7 @@ use Rattle.std.proofs.Math.Path.{ap, sym}
 use Rattle.std.proofs.Math.Option.{none}
 use Rattle.std.proofs.Common.{ap₂, ◌∙◌}
 use mathlib.Core.List.{List}
-use Rattle.cedar.specs.Types.{Ty, Attrs, Atom, atom, set, rec, act, ent, ext, same, as_set, as_rec}
+use Rattle.cedar.specs.Types.{Ty, Attrs, atom, set, rec, act, ent, ext, same, as_set, as_rec}
 use Rattle.cedar.specs.Consistency.{consistent_atom, consistent_entity, consistent, consistent_attrs, covered_names}
 use Rattle.forms.specs.Codes.{code}
 use Rattle.forms.specs.Kinds.{kind_number}

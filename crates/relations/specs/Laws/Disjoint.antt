@@ -1,5 +1,5 @@
 -- The names of types, and whether two types share one. Assumes nothing.
-use Rattle.std.specs.Prelude.{◌≡◌, refl, List, Bool, false, not, ℕ, ◌+◌, ◌≤◌, length}
+use Rattle.std.specs.Prelude.{◌≡◌, refl, List, Bool, false, not, ℕ, ◌≤◌, length}
 use Rattle.std.proofs.Math.Path.{ap, sym}
 use Rattle.std.proofs.Common.{◌∙◌}
 use Rattle.std.proofs.Math.Option.{none, some}

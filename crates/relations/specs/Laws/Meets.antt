@@ -1,8 +1,8 @@
 -- Plain types and consistency, by what a form shows before its parts. Assumes nothing.
-use Rattle.std.specs.Prelude.{◌≡◌, List, [], ◌∷◌, Bool, true, false, ◌||◌, ℕ, ◌+◌, ◌-◌, ◌/◌, ◌≤◌, ◌<◌, eqb, leb, length}
+use Rattle.std.specs.Prelude.{◌≡◌, List, [], ◌∷◌, Bool, true, false, ◌||◌, ℕ, ◌-◌, ◌/◌, ◌≤◌, ◌<◌, eqb, leb, length}
 use Rattle.std.proofs.Math.Path.{refl}
 use Rattle.std.proofs.Common.{ap, ap₂, sym, ◌∙◌, arith}
-use borrow.Author.Tests.{eq-eqb, ne_eqb, le-leb, lt-leb}
+use borrow.Author.Tests.{ne_eqb, le-leb, lt-leb}
 use Rattle.cedar.specs.Types.{Atom, true', false', anyset, anyent, Ty, Attrs, atom, set, rec, act, ent, ext, is, mem}
 use Rattle.cedar.specs.TypeForm.{atom_code}
 use Rattle.cedar.specs.Disjoint.{shares}

@@ -3,7 +3,7 @@ use Rattle.std.specs.Prelude.{◌≡◌, Bool, List, ℕ}
 use Rattle.std.specs.Borrow.{Bor}
 use Rattle.std.proofs.Math.Path.{refl, ap}
 use Rattle.std.proofs.Math.Option.{none}
-use Rattle.cedar.specs.Types.{Ty, as_set, as_rec, as_ent}
+use Rattle.cedar.specs.Types.{as_set, as_rec, as_ent}
 use Rattle.forms.specs.TypeForms.{type_of, Shaped}
 use Rattle.forms.specs.declared.type_forms.TypeForm.{TypeForm}
 use Rattle.forms.specs.declared.type_forms.AttributeForms.{AttributeForms}

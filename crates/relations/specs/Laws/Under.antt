@@ -3,13 +3,12 @@ use Rattle.std.specs.Prelude.{◌≡◌, List, Bool, true, false, not, ◌||◌,
 use Rattle.std.proofs.Math.Path.{refl}
 use Rattle.std.proofs.Common.{ap, sym, ◌∙◌, eqb→eq}
 use borrow.Author.Tests.{ne_eqb, eqb-false}
-use Rattle.std.proofs.Math.Option.{none}
-use Rattle.cedar.specs.Types.{is_never, as_set, as_rec, as_ent, same, Mode, is_permissive, Atom, never, true', false', bool, long}
+use Rattle.cedar.specs.Types.{is_never, Mode, is_permissive, Atom, never, true', false', bool, long}
 use Rattle.cedar.specs.Types.{string, anyset, anyent, Ty, atom, set, rec, act, ent, ext, is, eq_names}
-use Rattle.cedar.specs.Subtype.{sub_atom, sub}
+use Rattle.cedar.specs.Subtype.{sub_atom}
 use Rattle.cedar.specs.TypeForm.{one, kind_of, atom_code}
-use Rattle.cedar.proofs.Laws.Tests.{T-ext, not-T→false, eqb-equal}
-use Rattle.cedar.proofs.Laws.Equality.{is→eq, is-refl, same→eq}
+use Rattle.cedar.proofs.Laws.Tests.{T-ext, eqb-equal}
+use Rattle.cedar.proofs.Laws.Equality.{is→eq, is-refl}
 use Rattle.relations.specs.Under.{kind_under, record_under}
 use Rattle.forms.specs.Codes.{code}
 

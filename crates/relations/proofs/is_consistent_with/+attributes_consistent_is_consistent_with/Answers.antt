@@ -1,4 +1,6 @@
-use Rattle.std.proofs.Common.{sym, ◌∙◌}
+use Rattle.std.proofs.Common.{refl, sym, ap, ◌∙◌}
+use Rattle.cedar.specs.Consistency.{consistent}
+use Rattle.forms.specs.TypeForms.{type_of}
 use Rattle.forms.specs.Laws.Kinds.{kinds-agree, kinds-differ}
 use Rattle.relations.specs.Laws.Consistent.{with-set, set-not, with-entity, with-action, with-extension, record-not, attributes-not, with-record}
 use Rattle.relations.specs.Laws.Consistent.{with-alike, with-unlike}
@@ -18,7 +20,7 @@ pub attributes_consistent-loop-attribute-preserved-else-not-is_consistent_with :
 attributes_consistent-loop-attribute-preserved-else-not-is_consistent_with t c = (
   c.in-Some.ensures.levels ∙ c.loop-attribute.invariant.0,
   meeting-again c.loop-attribute.invariant.1 c.in-Some.ensures c.in-Some-find.ensures.1 c.is_consistent_with.result c.is_consistent_with.ensures
-  c.in-Some-find.ensures.0 c.if-not-is_consistent_with.false,
+      c.in-Some-find.ensures.0 c.if-not-is_consistent_with.false,
 )
 
 pub attributes_consistent-returns-then-not-is_open : goal.attributes_consistent-returns-then-not-is_open
@@ -53,26 +55,29 @@ is_consistent_with-returns-else-eq t c =
     c.kind_consistent.ensures
     ∙ with-unlike _ _ _ c.kind-j.ensures c.in-Plain.ensures (kinds-differ c.kind-j.result c.in-Plain.k c.eq.result c.eq.ensures c.if-eq.false)
 
-pub is_consistent_with-returns-in-Set-shape : goal.is_consistent_with-returns-in-Set-shape
-is_consistent_with-returns-in-Set-shape t c = c.is_consistent_with.ensures ∙ with-set _ _ c.in-Set-shape.ensures.0 c.in-Set.ensures.0
+pub set_consistent-returns-in-Set : goal.set_consistent-returns-in-Set
+set_consistent-returns-in-Set t c = c.is_consistent_with.ensures ∙ with-set _ _ c.in-Set.ensures.0 refl
 
-pub is_consistent_with-returns-in_default : goal.is_consistent_with-returns-in_default
-is_consistent_with-returns-in_default t c =
-    set-not _ _ (no-set c.args.t0 c.shape-in-Set.result c.shape-in-Set.ensures c.in_default.not-Set) c.in-Set.ensures.0
+pub set_consistent-returns-in_default : goal.set_consistent-returns-in_default
+set_consistent-returns-in_default t c = set-not _ _ (no-set c.args.t c.shape.result c.shape.ensures c.in_default.not-Set) refl
 
-pub is_consistent_with-returns-then-attributes_consistent : goal.is_consistent_with-returns-then-attributes_consistent
-is_consistent_with-returns-then-attributes_consistent t c =
-    with-record _ _ c.in-Record-shape.ensures.0 c.in-Record.ensures.0 c.attributes_consistent.result c.attributes_consistent.ensures
-    c.if-attributes_consistent.true _ c.names_covered.ensures
+pub record_consistent-returns-then-attributes_consistent : goal.record_consistent-returns-then-attributes_consistent
+record_consistent-returns-then-attributes_consistent t c =
+    with-record _ _ c.in-Record.ensures.0 refl c.attributes_consistent.result c.attributes_consistent.ensures c.if-attributes_consistent.true _
+    c.names_covered.ensures
 
-pub is_consistent_with-returns-else-attributes_consistent : goal.is_consistent_with-returns-else-attributes_consistent
-is_consistent_with-returns-else-attributes_consistent t c =
-    attributes-not _ _ c.in-Record-shape.ensures.0 c.in-Record.ensures.0 c.attributes_consistent.result c.attributes_consistent.ensures
-    c.if-attributes_consistent.false
+pub record_consistent-returns-else-attributes_consistent : goal.record_consistent-returns-else-attributes_consistent
+record_consistent-returns-else-attributes_consistent t c =
+    attributes-not _ _ c.in-Record.ensures.0 refl c.attributes_consistent.result c.attributes_consistent.ensures c.if-attributes_consistent.false
 
-pub is_consistent_with-returns-in_default-shape : goal.is_consistent_with-returns-in_default-shape
-is_consistent_with-returns-in_default-shape t c =
-    record-not _ _ (no-record c.args.t0 c.shape-in-Record.result c.shape-in-Record.ensures c.in_default-shape.not-Record) c.in-Record.ensures.0
+pub record_consistent-returns-in_default : goal.record_consistent-returns-in_default
+record_consistent-returns-in_default t c = record-not _ _ (no-record c.args.t c.shape.result c.shape.ensures c.in_default.not-Record) refl
+
+pub is_consistent_with-returns-in-Set : goal.is_consistent_with-returns-in-Set
+is_consistent_with-returns-in-Set t c = c.set_consistent.ensures ∙ ap (consistent (type_of c.args.t0)) (sym c.in-Set.ensures.0)
+
+pub is_consistent_with-returns-in-Record : goal.is_consistent_with-returns-in-Record
+is_consistent_with-returns-in-Record t c = c.record_consistent.ensures ∙ ap (consistent (type_of c.args.t0)) (sym c.in-Record.ensures.0)
 
 pub is_consistent_with-returns-in-Entity : goal.is_consistent_with-returns-in-Entity
 is_consistent_with-returns-in-Entity t c = c.entity_consistent.ensures ∙ with-entity _ _ c.in-Entity.ensures.0

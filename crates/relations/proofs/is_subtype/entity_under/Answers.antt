@@ -1,14 +1,14 @@
-use Rattle.std.proofs.Common.{sym, ◌∙◌}
-use Rattle.forms.specs.Modes.{as_mode}
-use Rattle.forms.specs.Laws.Bytes.{Bytes-index}
-use Rattle.forms.specs.Laws.SameForm.{same-bytes}
-use Rattle.relations.specs.Laws.SameForm.{names-strict}
+use Rattle.std.proofs.Common.{refl, ◌∙◌}
+use Rattle.forms.specs.declared.kinds.Kind.TheVariants as is_kind
+use Rattle.forms.specs.Laws.Kinds.{same-number}
+use Rattle.relations.specs.Laws.Shapes.{no-entity}
+use Rattle.relations.specs.Laws.Subtype.{entity-under, not-entity}
 use Rattle.relations.proofs.is_subtype.entity_under.Goals as goal
 
-pub returns : goal.returns
-returns c =
-    let args = c.args in
-    c.eq.ensures ∙ same-bytes args.lower.now args.upper.now
-    ∙ names-strict (as_mode args.mode) args.lower.now args.upper.now (Bytes-index args.lower.now (λ i. (c.type_inv.lower i).fits))
-    (Bytes-index args.upper.now (λ i. (c.type_inv.upper i).fits)) c.requires.lower_up c.requires.upper_up
-    (sym c.is_permissive.ensures ∙ c.if-is_permissive.false)
+pub returns-in-Entity : goal.returns-in-Entity
+returns-in-Entity c = c.names_under.ensures ∙ entity-under _ _ _ c.in-Entity.ensures.0 refl
+
+pub returns-in_default : goal.returns-in_default
+returns-in_default c =
+    c.eq.ensures ∙ same-number c.kind.result is_kind.Never
+    ∙ not-entity _ _ _ _ c.kind.ensures (no-entity c.args.t c.shape.result c.shape.ensures c.in_default.not-Entity) refl
