@@ -9,20 +9,20 @@ ghost use Rattle.validator.specs.Answers.{answer_of};
 use crate::answers::{Answer, yes_or_no};
 use forms::limits::Limits;
 use forms::refusals::Refusal;
-use forms::types::whole_type;
+use forms::type_forms::TypeForm;
 
 // The answer under limits that are allowed.
 fn disjoint_under(limits: Limits, t0: &[u8], t1: &[u8]) -> Result<Answer, Refusal>
     requires { allowed (as_limits limits) ≡ true }
     ensures { seen result ≡ answer_of (disjoint_call (as_limits limits) t0.now t1.now) }
 {
-    if !whole_type(t0, limits) {
+    let Some(first) = TypeForm::within(t0, limits) else {
         return Err(Refusal::First);
-    }
-    if !whole_type(t1, limits) {
+    };
+    let Some(second) = TypeForm::within(t1, limits) else {
         return Err(Refusal::Second);
-    }
-    Ok(yes_or_no(relations::are_types_disjoint::are_types_disjoint(t0, t1, limits.levels)))
+    };
+    Ok(yes_or_no(relations::are_types_disjoint::are_types_disjoint(first, second)))
 }
 
 pub fn are_types_disjoint(limits: Limits, t0: &[u8], t1: &[u8]) -> Result<Answer, Refusal>

@@ -9,7 +9,7 @@ ghost use Rattle.validator.specs.Answers.{answer_of};
 use crate::answers::{Answer, yes_or_no};
 use forms::limits::Limits;
 use forms::refusals::Refusal;
-use forms::types::whole_type;
+use forms::type_forms::TypeForm;
 use relations::is_plain::is_plain;
 
 // The answer under limits that are allowed.
@@ -17,16 +17,16 @@ fn consistent_under(limits: Limits, t0: &[u8], t1: &[u8]) -> Result<Answer, Refu
     requires { allowed (as_limits limits) ≡ true }
     ensures { seen result ≡ answer_of (consistent_call (as_limits limits) t0.now t1.now) }
 {
-    if !whole_type(t0, limits) {
+    let Some(first) = TypeForm::within(t0, limits) else {
         return Err(Refusal::First);
-    }
-    if !whole_type(t1, limits) {
+    };
+    let Some(second) = TypeForm::within(t1, limits) else {
         return Err(Refusal::Second);
-    }
-    if !is_plain(t1, limits.levels) {
+    };
+    if !is_plain(second) {
         return Err(Refusal::NotPlain);
     }
-    Ok(yes_or_no(relations::is_consistent_with::is_consistent_with(t0, t1, limits.levels)))
+    Ok(yes_or_no(relations::is_consistent_with::is_consistent_with(first, second)))
 }
 
 pub fn is_consistent_with(limits: Limits, t0: &[u8], t1: &[u8]) -> Result<Answer, Refusal>

@@ -9,7 +9,7 @@ use crate::answers::{Answer, yes_or_no};
 use forms::limits::Limits;
 use forms::modes::Mode;
 use forms::refusals::Refusal;
-use forms::types::whole_type;
+use forms::type_forms::TypeForm;
 use schemas::checked::Checked;
 
 // The answer under a schema that was checked before, and the limits of its check.
@@ -29,13 +29,13 @@ pub fn is_subtype_checked(
     let Some(_) = schema.sections else {
         return Err(Refusal::Schema);
     };
-    if !whole_type(t0, limits) {
+    let Some(first) = TypeForm::within(t0, limits) else {
         return Err(Refusal::First);
-    }
-    if !whole_type(t1, limits) {
+    };
+    let Some(second) = TypeForm::within(t1, limits) else {
         return Err(Refusal::Second);
-    }
-    Ok(yes_or_no(relations::is_subtype::is_subtype(m, t0, t1, limits.levels)))
+    };
+    Ok(yes_or_no(relations::is_subtype::is_subtype(m, first, second)))
 }
 
 pub fn is_subtype(

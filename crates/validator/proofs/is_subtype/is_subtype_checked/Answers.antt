@@ -1,7 +1,6 @@
 use Rattle.cedar.specs.Result.{ok}
 use Rattle.forms.specs.Limits.{as_limits}
 use Rattle.forms.specs.Laws.Modes.{mode-known}
-use Rattle.validator.specs.Laws.Questions.{type-missing, type-there, type-whole}
 use Rattle.validator.specs.Laws.Schemas.{limits-fair, checked-missing, checked-there}
 use Rattle.validator.specs.Laws.Subtype.{subtype-schema, subtype-first, subtype-second, subtype-said}
 use Rattle.validator.proofs.is_subtype.is_subtype_checked.Goals as goal
@@ -10,54 +9,31 @@ pub returns-in_default : goal.returns-in_default
 returns-in_default c =
     let args = c.args in
     let fair = limits-fair (as_limits args.schema.now.limits) c.are_allowed.result c.are_allowed.ensures c.if-not-are_allowed.false-raw in
-    let by-mode-known = mode-known args.mode c.try_from.result c.try_from.ensures c.in_ok-m.m c.in_ok-m.was in
-    let by-checked-missing = checked-missing args.schema.now fair c.in_default.is in
-    subtype-schema (as_limits args.schema.now.limits) fair args.mode args.schema.now.bytes.now args.t0.now args.t1.now _ by-mode-known by-checked-missing
+    let mode = mode-known args.mode c.try_from.result c.try_from.ensures c.in_ok-m.m c.in_ok-m.was in
+    subtype-schema (as_limits args.schema.now.limits) fair args.mode args.schema.now.bytes.now args.t0.now args.t1.now _ mode
+    (checked-missing args.schema.now fair c.in_default.is)
 
-pub returns-then-not-whole_type : goal.returns-then-not-whole_type
-returns-then-not-whole_type c =
+pub returns-in_default-within : goal.returns-in_default-within
+returns-in_default-within c =
     let args = c.args in
     let fair = limits-fair (as_limits args.schema.now.limits) c.are_allowed.result c.are_allowed.ensures c.if-not-are_allowed.false-raw in
-    let by-mode-known = mode-known args.mode c.try_from.result c.try_from.ensures c.in_ok-m.m c.in_ok-m.was in
-    let by-checked-there = checked-there args.schema.now c.in-Some.field-0 c.in-Some.is in
-    let by-type-missing = type-missing (as_limits args.schema.now.limits) args.t0.now c.whole_type.result c.whole_type.ensures
-    c.if-not-whole_type.true-raw in
-    subtype-first (as_limits args.schema.now.limits) fair args.mode args.schema.now.bytes.now args.t0.now
-    args.t1.now _ by-mode-known _ by-checked-there by-type-missing
+    let mode = mode-known args.mode c.try_from.result c.try_from.ensures c.in_ok-m.m c.in_ok-m.was in
+    subtype-first (as_limits args.schema.now.limits) fair args.mode args.schema.now.bytes.now args.t0.now args.t1.now _ mode _
+    (checked-there args.schema.now c.in-Some.field-0 c.in-Some.is) c.in_default-within.ensures
 
-pub returns-then-not-whole_type-2 : goal.returns-then-not-whole_type-2
-returns-then-not-whole_type-2 c =
+pub returns-in_default-within-2 : goal.returns-in_default-within-2
+returns-in_default-within-2 c =
     let args = c.args in
     let fair = limits-fair (as_limits args.schema.now.limits) c.are_allowed.result c.are_allowed.ensures c.if-not-are_allowed.false-raw in
-    let by-mode-known = mode-known args.mode c.try_from.result c.try_from.ensures c.in_ok-m.m c.in_ok-m.was in
-    let by-checked-there = checked-there args.schema.now c.in-Some.field-0 c.in-Some.is in
-    let by-type-there = type-there (as_limits args.schema.now.limits) args.t0.now c.whole_type.result c.whole_type.ensures
-    c.if-not-whole_type.false-raw in
-    let by-type-missing = type-missing (as_limits args.schema.now.limits) args.t1.now c.whole_type-2.result c.whole_type-2.ensures
-    c.if-not-whole_type-2.true-raw in
-    subtype-second (as_limits args.schema.now.limits) fair args.mode args.schema.now.bytes.now args.t0.now
-    args.t1.now _ by-mode-known _ by-checked-there _ by-type-there by-type-missing
+    let mode = mode-known args.mode c.try_from.result c.try_from.ensures c.in_ok-m.m c.in_ok-m.was in
+    subtype-second (as_limits args.schema.now.limits) fair args.mode args.schema.now.bytes.now args.t0.now args.t1.now _ mode _
+    (checked-there args.schema.now c.in-Some.field-0 c.in-Some.is) _ c.in-Some-within.ensures.3 c.in_default-within-2.ensures
 
 pub returns : goal.returns
 returns c =
     let args = c.args in
     let fair = limits-fair (as_limits args.schema.now.limits) c.are_allowed.result c.are_allowed.ensures c.if-not-are_allowed.false-raw in
-    let by-mode-known = mode-known args.mode c.try_from.result c.try_from.ensures c.in_ok-m.m c.in_ok-m.was in
-    let by-checked-there = checked-there args.schema.now c.in-Some.field-0 c.in-Some.is in
-    let by-type-there = type-there (as_limits args.schema.now.limits) args.t0.now c.whole_type.result c.whole_type.ensures
-    c.if-not-whole_type.false-raw in
-    let by-type-there-2 = type-there (as_limits args.schema.now.limits) args.t1.now c.whole_type-2.result c.whole_type-2.ensures
-    c.if-not-whole_type-2.false-raw in
-    subtype-said (as_limits args.schema.now.limits) fair args.mode args.schema.now.bytes.now args.t0.now
-    args.t1.now _ by-mode-known _ by-checked-there _ by-type-there _ by-type-there-2
-    (ok c.yes_or_no.result) c.is_subtype.result c.yes_or_no.ensures c.is_subtype.ensures
-
-pub is_subtype-requires : goal.is_subtype-requires
-is_subtype-requires c =
-    let args = c.args in
-    let by-type-whole = type-whole (as_limits args.schema.now.limits) args.t0.now c.whole_type.result
-    c.whole_type.ensures c.if-not-whole_type.false-raw in record {
-      t0_whole = by-type-whole;
-      t1_whole = type-whole (as_limits args.schema.now.limits) args.t1.now c.whole_type-2.result
-          c.whole_type-2.ensures c.if-not-whole_type-2.false-raw;
-    }
+    let mode = mode-known args.mode c.try_from.result c.try_from.ensures c.in_ok-m.m c.in_ok-m.was in
+    subtype-said (as_limits args.schema.now.limits) fair args.mode args.schema.now.bytes.now args.t0.now args.t1.now _ mode _
+    (checked-there args.schema.now c.in-Some.field-0 c.in-Some.is) _ c.in-Some-within.ensures.3 _ c.in-Some-within-2.ensures.3 (ok c.yes_or_no.result)
+    c.is_subtype.result c.yes_or_no.ensures c.is_subtype.ensures
