@@ -1,5 +1,5 @@
 -- Bounds by kinds alone. Assumes nothing: these are definitions.
-use Rattle.std.specs.Prelude.{ℕ, Bool, ◌&&◌, cond, leb, Result as RustResult, Ok, Err}
+use Rattle.std.specs.Prelude.{ℕ, Bool, ◌&&◌, cond, eqb, leb, Result as RustResult, Ok, Err}
 use Rattle.cedar.specs.Types.{Mode, is_permissive, bool, anyset, anyent, Ty, atom}
 use Rattle.cedar.specs.Result.{Result, ok, err, entity_type, entity_record, no_bound}
 use Rattle.forms.specs.Codes.{code}
@@ -23,6 +23,10 @@ unlike m j k =
     (cond (both_in 6 7 j k) (ok (atom anyset))
     (cond (both_in 9 11 j k) (cond (is_permissive m) (ok (atom anyent)) (err entity_type))
     (cond (both_in 8 11 j k) (err entity_record) (err no_bound))))
+
+-- The bound of two types of which no part is joined: with Never it is the other.
+abbrev pub partless : Mode → Ty → Ty → Result Ty
+partless m u v = cond (eqb (code u) 0) (ok v) (cond (eqb (code v) 0) (ok u) (unlike m (code u) (code v)))
 
 -- A bound of kinds: its kind's number.
 abbrev pub joined_of : Result Ty → Result ℕ

@@ -3,4 +3,6 @@ pub mod Names
 pub mod Kinds
 pub mod Pairs
 pub mod Sets
+pub mod Lengths
+pub mod Shapes
 pub mod Bounds

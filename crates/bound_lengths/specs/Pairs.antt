@@ -7,7 +7,9 @@ use Rattle.cedar.specs.Result.{Result, ok, err, attribute_qualifier, record_widt
 use Rattle.cedar.specs.Bound.{same_names}
 use Rattle.cedar.specs.Laws.DirectBound.{direct, direct_attrs}
 use Rattle.forms.specs.TypeBytes.{whole, dec}
+use Rattle.forms.specs.TypeForms.{type_of}
 use Rattle.forms.specs.declared.rows.Row.{Row}
+use Rattle.forms.specs.declared.type_forms.AttributeForm.{AttributeForm}
 use Rattle.writing.specs.FormLengths.{cap}
 
 -- The bound of two attribute lists, with the names that the mode allows.
@@ -47,3 +49,8 @@ attribute_in l None = none
 -- What the attribute of a row comes to, with that of another.
 abbrev pub joined_row : Mode → ℕ → Row → Maybe Row → Result (Option (Bool × Ty))
 joined_row m l r o = joined m (row_flag r) (dec l r.body.now) (attribute_in l o)
+
+-- What an attribute comes to, with that of its name in another list.
+abbrev pub joined_form : Mode → AttributeForm → Maybe AttributeForm → Result (Option (Bool × Ty))
+joined_form m x (Some y) = joined m x.required (type_of x.form) (some (y.required, type_of y.form))
+joined_form m x None = joined m x.required (type_of x.form) none

@@ -1,16 +1,14 @@
 // How long the least upper bound of two types is, or why there is none: one walk.
-ghost use Rattle.std.specs.Prelude.{◌≡◌, true, ◌+◌, ◌*◌, length};
-ghost use Rattle.std.specs.Option.{ForSome};
+ghost use Rattle.std.specs.Prelude.{◌≡◌};
+ghost use Rattle.cedar.specs.Bound.{join_set};
 ghost use Rattle.cedar.specs.TypeForm.{enc};
 ghost use Rattle.cedar.specs.Laws.DirectBound.{direct, direct_names};
-ghost use Rattle.forms.specs.Kinds.{kind_number};
 ghost use Rattle.forms.specs.Modes.{as_mode};
-ghost use Rattle.forms.specs.Parts.{rd, rest, kind};
-ghost use Rattle.forms.specs.Tables.{Tabled, attrs_at};
-ghost use Rattle.forms.specs.TypeBytes.{whole, dec, names_up, names_by};
-ghost use Rattle.writing.specs.FormLengths.{seen, form_length_of, table};
-ghost use Rattle.bound_lengths.specs.Kinds.{unlike};
-ghost use Rattle.bound_lengths.specs.Pairs.{WholeRow, joined_row, joined_attrs, pair_length_of};
+ghost use Rattle.forms.specs.Names.{names_in, Ascending};
+ghost use Rattle.forms.specs.TypeForms.{type_of, listed};
+ghost use Rattle.writing.specs.FormLengths.{seen, plus, form_length_of, table};
+ghost use Rattle.bound_lengths.specs.Kinds.{partless};
+ghost use Rattle.bound_lengths.specs.Pairs.{joined_form, joined_attrs, pair_length_of};
 
 use crate::kinds::unlike_kinds;
 use crate::names::Union;
@@ -18,137 +16,148 @@ use crate::pairs::{dropped, kept, names_allowed};
 use crate::sets::set_length;
 use forms::kinds::Kind;
 use forms::modes::Mode;
-use forms::numbers::u16_at;
 use forms::offsets::Offset;
 use forms::refusals::Refusal;
-use forms::rows::{Row, Rows};
+use forms::type_forms::{AttributeForm, AttributeForms, Shape, TypeForm};
 use forms::widths::Width;
 use writing::form_lengths::{capped, longer};
 
-// Of two unlike kinds, neither of them Never.
-fn unlike_length(mode: Mode, j: Kind, k: Kind) -> Result<usize, Refusal>
-    ensures { seen result ≡ form_length_of enc (unlike (as_mode mode) (kind_number j) (kind_number k)) }
+// Of two types of which no part is joined.
+fn partless_length(mode: Mode, a: TypeForm, b: TypeForm) -> Result<usize, Refusal>
+    ensures { seen result ≡ form_length_of enc (partless (as_mode mode) (type_of a.entry) (type_of b.entry)) }
 {
+    let j = Kind::of(a.bytes);
+    let k = Kind::of(b.bytes);
+    if j == Kind::Never {
+        return Ok(capped(b.bytes.len()));
+    }
+    if k == Kind::Never {
+        return Ok(capped(a.bytes.len()));
+    }
     unlike_kinds(mode, j, k)?;
     Ok(Offset::ELEMENT)
 }
 
-// Of two entities.
+// Of the names of two entities.
 fn entities_length(mode: Mode, a: &[u8], b: &[u8]) -> Result<usize, Refusal>
-    requires a_len { (length a.now ≡ 3 + 2 * rd a.now 1) × (names_up (rd a.now 1) 0 (rest 3 a.now) ≡ true) }
-    requires b_len { (length b.now ≡ 3 + 2 * rd b.now 1) × (names_up (rd b.now 1) 0 (rest 3 b.now) ≡ true) }
-    ensures { seen result ≡ form_length_of enc (direct_names (as_mode mode) (names_by 2 (rd a.now 1) (rest 3 a.now)) (names_by 2 (rd b.now 1) (rest 3 b.now))) }
+    requires { Ascending a.now × Ascending b.now }
+    ensures { seen result ≡ form_length_of enc (direct_names (as_mode mode) (names_in a.now) (names_in b.now)) }
 {
-    let names = Union {
-        left: &a[Offset::ENTITY_NAMES..],
-        right: &b[Offset::ENTITY_NAMES..],
-    };
     if mode.is_permissive() {
+        let names = Union { left: a, right: b };
         return Ok(longer(Width::NAME * names.count(), Offset::ENTITY_NAMES));
     }
-    if names.left == names.right {
-        return Ok(capped(a.len()));
+    if a[..] == b[..] {
+        return Ok(longer(a.len(), Offset::ENTITY_NAMES));
     }
     Err(Refusal::EntityType)
 }
 
 // Of two types.
-#[cycle(attributes_length_bound_length_pair_length_record_length)]
-pub fn bound_length(mode: Mode, a: &[u8], b: &[u8], levels: usize) -> Result<usize, Refusal>
-    requires a_whole { whole levels a.now ≡ true }
-    requires b_whole { whole levels b.now ≡ true }
-    ensures { seen result ≡ form_length_of enc (direct (as_mode mode) (dec levels a.now) (dec levels b.now)) }
+#[cycle(actions_length_attributes_length_bound_length_pair_length_records_length_sets_length)]
+pub fn bound_length(mode: Mode, a: TypeForm, b: TypeForm) -> Result<usize, Refusal>
+    ensures { seen result ≡ form_length_of enc (direct (as_mode mode) (type_of a.entry) (type_of b.entry)) }
 {
-    let j = Kind::of(a);
-    let k = Kind::of(b);
-    if j == Kind::Never {
-        return Ok(capped(b.len()));
-    }
-    if k == Kind::Never {
-        return Ok(capped(a.len()));
-    }
-    if j != k {
-        return unlike_length(mode, j, k);
-    }
-    match j {
-        Kind::Set => {
-            let x = &a[Offset::ELEMENT..];
-            let y = &b[Offset::ELEMENT..];
-            set_length(mode, bound_length(mode, x, y, levels - 1))
-        }
-        Kind::Record => record_length(mode, a, b, levels),
-        Kind::Entity => entities_length(mode, a, b),
-        Kind::Action => {
-            if u16_at(a, Offset::ACTION_NAME) == u16_at(b, Offset::ACTION_NAME) {
-                let x = &a[Offset::ACTION_COUNT..];
-                let y = &b[Offset::ACTION_COUNT..];
-                let n = attributes_length(Mode::Strict, x, y, levels - 1)?;
-                return Ok(longer(n, Offset::ACTION_ENTRIES));
+    match a.shape() {
+        Shape::Plain(j) => {
+            if j == Kind::of(b.bytes) {
+                return Ok(Offset::ELEMENT);
             }
-            unlike_length(mode, j, k)
         }
-        Kind::Extension => {
-            if u16_at(a, Offset::EXTENSION_NAME) == u16_at(b, Offset::EXTENSION_NAME) {
-                return Ok(Offset::EXTENSION_END);
+        Shape::Set(x) => {
+            if let Shape::Set(y) = b.shape() {
+                return sets_length(mode, x, y);
             }
-            unlike_length(mode, j, k)
         }
-        _ => Ok(Offset::ELEMENT),
+        Shape::Record(_, x) => {
+            if let Shape::Record(_, y) = b.shape() {
+                return records_length(mode, x, y);
+            }
+        }
+        Shape::Entity(x) => {
+            if let Shape::Entity(y) = b.shape() {
+                return entities_length(mode, x, y);
+            }
+        }
+        Shape::Action(j, x) => {
+            if let Shape::Action(k, y) = b.shape() {
+                if j == k {
+                    return actions_length(Mode::Strict, x, y);
+                }
+            }
+        }
+        Shape::Extension(j) => {
+            if let Shape::Extension(k) = b.shape() {
+                if j == k {
+                    return Ok(Offset::EXTENSION_END);
+                }
+            }
+        }
     }
+    partless_length(mode, a, b)
 }
 
-// Of two records.
-#[cycle(attributes_length_bound_length_pair_length_record_length)]
-fn record_length(mode: Mode, a: &[u8], b: &[u8], levels: usize) -> Result<usize, Refusal>
-    requires a_whole { (whole levels a.now ≡ true) × (kind a.now ≡ 8) }
-    requires b_whole { (whole levels b.now ≡ true) × (kind b.now ≡ 8) }
-    ensures { seen result ≡ form_length_of enc (direct (as_mode mode) (dec levels a.now) (dec levels b.now)) }
+// Of two sets, by their elements.
+#[cycle(actions_length_attributes_length_bound_length_pair_length_records_length_sets_length)]
+fn sets_length(mode: Mode, a: TypeForm, b: TypeForm) -> Result<usize, Refusal>
+    ensures { seen result ≡ form_length_of enc (join_set (as_mode mode) (direct (as_mode mode) (type_of a.entry) (type_of b.entry))) }
 {
-    let x = &a[Offset::RECORD_COUNT..];
-    let y = &b[Offset::RECORD_COUNT..];
-    let n = attributes_length(mode, x, y, levels - 1)?;
-    Ok(longer(n, Offset::RECORD_ENTRIES))
+    set_length(mode, bound_length(mode, a, b))
 }
 
-// Of two tables of attributes, each from its count on.
-#[cycle(attributes_length_bound_length_pair_length_record_length)]
-fn attributes_length(mode: Mode, a: &[u8], b: &[u8], levels: usize) -> Result<usize, Refusal>
-    requires a_tabled { Tabled levels 0 a.now }
-    requires b_tabled { Tabled levels 0 b.now }
-    ensures { seen result ≡ form_length_of table (joined_attrs (as_mode mode) (attrs_at levels 0 a.now) (attrs_at levels 0 b.now)) }
+// Of two records, by their attributes.
+#[cycle(actions_length_attributes_length_bound_length_pair_length_records_length_sets_length)]
+fn records_length(mode: Mode, a: AttributeForms, b: AttributeForms) -> Result<usize, Refusal>
+    ensures { seen result ≡ plus 4 (form_length_of table (joined_attrs (as_mode mode) (listed a.entry) (listed b.entry))) }
 {
-    let mut rows = Rows::at(a, 0);
-    let mut others = Rows::at(b, 0);
-    if !names_allowed(mode, rows, others) {
+    attributes_length(mode, a, b, Offset::RECORD_ENTRIES)
+}
+
+// Of two actions of one name, by their attributes.
+#[cycle(actions_length_attributes_length_bound_length_pair_length_records_length_sets_length)]
+fn actions_length(mode: Mode, a: AttributeForms, b: AttributeForms) -> Result<usize, Refusal>
+    ensures { seen result ≡ plus 5 (form_length_of table (joined_attrs (as_mode mode) (listed a.entry) (listed b.entry))) }
+{
+    attributes_length(mode, a, b, Offset::ACTION_ENTRIES)
+}
+
+// Of two lists of attributes, with so many bytes before them.
+#[cycle(actions_length_attributes_length_bound_length_pair_length_records_length_sets_length)]
+fn attributes_length(
+    mode: Mode,
+    mut attributes: AttributeForms,
+    mut others: AttributeForms,
+    front: usize,
+) -> Result<usize, Refusal>
+    ensures { seen result ≡ plus front (form_length_of table (joined_attrs (as_mode mode) (listed attributes.entry) (listed others.entry))) }
+{
+    if !names_allowed(mode, attributes, others) {
         return Err(Refusal::RecordWidth);
     }
     let mut sum = 0;
-    while let Some(row) = rows.next() {
-        let other = others.find(row.name());
-        if let Some(n) = pair_length(mode, row, other, levels)? {
+    while let Some(attribute) = attributes.next() {
+        let other = others.find(attribute.name);
+        if let Some(n) = pair_length(mode, attribute, other)? {
             sum = capped(sum + n + Width::ATTRIBUTE);
         }
     }
-    Ok(sum)
+    Ok(longer(sum, front))
 }
 
 // Of an attribute, with the attribute of its name; none where it is dropped.
-#[cycle(attributes_length_bound_length_pair_length_record_length)]
+#[cycle(actions_length_attributes_length_bound_length_pair_length_records_length_sets_length)]
 fn pair_length(
     mode: Mode,
-    row: Row,
-    other: Option<Row>,
-    levels: usize,
+    attribute: AttributeForm,
+    other: Option<AttributeForm>,
 ) -> Result<Option<usize>, Refusal>
-    requires row_whole { WholeRow levels row }
-    requires other_whole { ForSome other (WholeRow levels) }
-    ensures { seen result ≡ pair_length_of (joined_row (as_mode mode) levels row.entry other.entry) }
+    ensures { seen result ≡ pair_length_of (joined_form (as_mode mode) attribute.entry other.entry) }
 {
     let Some(other) = other else {
         return dropped(mode, Refusal::RecordWidth);
     };
-    match bound_length(mode, row.body, other.body, levels) {
-        Ok(n) => kept(mode, row.is_required(), other.is_required(), n),
+    match bound_length(mode, attribute.form, other.form) {
+        Ok(n) => kept(mode, attribute.required, other.required, n),
         Err(refusal) => dropped(mode, refusal),
     }
 }

@@ -1,22 +1,21 @@
 // What two attributes of one name come to, and what the mode allows.
-ghost use Rattle.std.specs.Prelude.{◌≡◌, ◌||◌, cond, ◌*◌, Some, None, length};
+ghost use Rattle.std.specs.Prelude.{◌≡◌, ◌||◌, cond, Some, None};
 ghost use Rattle.cedar.specs.Result.{ok, err};
-ghost use Rattle.cedar.specs.Types.{is_permissive, eq_names, eq_flag};
+ghost use Rattle.cedar.specs.Types.{is_permissive, names, eq_names, eq_flag};
 ghost use Rattle.forms.specs.Modes.{as_mode};
 ghost use Rattle.forms.specs.Refusals.{number_of};
-ghost use Rattle.forms.specs.AttributeRows.{names_of};
+ghost use Rattle.forms.specs.TypeForms.{listed};
 ghost use Rattle.writing.specs.FormLengths.{seen};
 
 use forms::modes::Mode;
 use forms::refusals::Refusal;
-use forms::rows::Attributes;
+use forms::type_forms::AttributeForms;
 
 // Strict, two attribute lists need the same names.
-pub fn names_allowed(mode: Mode, rows: Attributes, others: Attributes) -> bool
-    requires { (length rows.entries.now ≡ 5 * rows.left) × (length others.entries.now ≡ 5 * others.left) }
-    ensures { result ≡ (is_permissive (as_mode mode) || eq_names (names_of rows.entry) (names_of others.entry)) }
+pub fn names_allowed(mode: Mode, attributes: AttributeForms, others: AttributeForms) -> bool
+    ensures { result ≡ (is_permissive (as_mode mode) || eq_names (names (listed attributes.entry)) (names (listed others.entry))) }
 {
-    mode.is_permissive() || rows.same_names(others)
+    mode.is_permissive() || attributes.same_names(others)
 }
 
 // No attribute: permissive it is dropped, strict that is a refusal.

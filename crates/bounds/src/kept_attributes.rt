@@ -15,6 +15,7 @@ use forms::kinds::Kind;
 use forms::modes::Mode;
 use forms::offsets::Offset;
 use forms::rows::{Row, Rows};
+use forms::type_forms::TypeForm;
 use forms::widths::Width;
 
 // Whether two types have a bound, permissive. Of one kind, only sets, actions and extensions may have none, and loose no sets.
@@ -24,9 +25,11 @@ pub fn has_bound(mode: Mode, a: &[u8], b: &[u8], levels: usize) -> bool
     requires b_whole { whole levels b.now ≡ true }
     ensures { result ≡ is_ok (direct (as_mode mode) (dec levels a.now) (dec levels b.now)) }
 {
+    let left = TypeForm { levels, bytes: a };
+    let right = TypeForm { levels, bytes: b };
     let kind = Kind::of(a);
     if kind != Kind::of(b) {
-        return bound_length(mode, a, b, levels).is_ok();
+        return bound_length(mode, left, right).is_ok();
     }
     match kind {
         Kind::Set => {
@@ -34,7 +37,7 @@ pub fn has_bound(mode: Mode, a: &[u8], b: &[u8], levels: usize) -> bool
             let y = &b[Offset::ELEMENT..];
             mode.is_loose() || has_bound(mode, x, y, levels - 1)
         }
-        Kind::Action | Kind::Extension => bound_length(mode, a, b, levels).is_ok(),
+        Kind::Action | Kind::Extension => bound_length(mode, left, right).is_ok(),
         _ => true,
     }
 }

@@ -76,7 +76,12 @@ fn write_step(
     ensures { Stepped (as_limits limits) (bound (as_mode mode) (dec limits.levels (part 0 len last.old)) (dec limits.levels t.now)) (length work.old) last.new result }
 {
     let half = work.len() / 2;
-    let n = match bound_length(mode, &last[0..len], t, limits.levels) {
+    let levels = limits.levels;
+    let joined = TypeForm {
+        levels,
+        bytes: &last[0..len],
+    };
+    let n = match bound_length(mode, joined, TypeForm { levels, bytes: t }) {
         Ok(n) => n,
         Err(reason) => return Err(NoStep::Unbounded(reason)),
     };

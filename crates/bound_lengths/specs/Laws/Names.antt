@@ -13,11 +13,10 @@ use Rattle.cedar.specs.Bound.{insert, union}
 use Rattle.cedar.proofs.Laws.Names.{union-ascend}
 use Rattle.forms.specs.Parts.{rest, rd}
 use Rattle.forms.specs.TypeBytes.{names_up, names_by}
-use Rattle.forms.specs.Laws.Parts.{length_rest, rest-is}
+use Rattle.forms.specs.Laws.Parts.{length_rest}
 use Rattle.forms.specs.Laws.Types.{names-up}
 use Rattle.forms.specs.Laws.Names.{names-first, names-none, names-length, names-ascend}
 use Rattle.cedar.specs.Bytes.{Bytes, enc_names}
-use Rattle.cedar.proofs.Laws.Bytes.{Bytes-drop}
 use Rattle.forms.specs.Laws.SameForm.{same-bytes, same-names}
 use lib.Pointwise.{pointwise}
 use Rattle.bound_lengths.specs.Names.{least, without, Next}
@@ -208,17 +207,9 @@ module _ (b : List ℕ) (h : (length b ≡ 3 + 2 * rd b 1) × (names_up (rd b 1)
   pub entity-names : names_in (rest 3 b) ≡ names_by 2 (rd b 1) (rest 3 b)
   entity-names = rw count-is refl
 
-  pub entity-up : Ascending (rest 3 b)
-  entity-up = record { low = 0; even = omega (arith, length_rest 3 b, h.0); up = rw (← count-is) at h.1 }
-
--- The names of two entity forms are equal where their bytes are.
-pub entities-same : (a b : List ℕ) → Bytes a → Bytes b → (length a ≡ 3 + 2 * rd a 1) × (names_up (rd a 1) 0 (rest 3 a) ≡ true) →
-    (length b ≡ 3 + 2 * rd b 1) × (names_up (rd b 1) 0 (rest 3 b) ≡ true) →
-    pointwise eqb (rest 3 a) (rest 3 b) ≡ eq_names (names_by 2 (rd a 1) (rest 3 a)) (names_by 2 (rd b 1) (rest 3 b))
-entities-same a b x y g h =
-    same-bytes (rest 3 a) (rest 3 b)
-    ∙ same-names (rest 3 a) (rest 3 b) (rw (rest-is 3 a) (Bytes-drop 3 a x)) (rw (rest-is 3 b) (Bytes-drop 3 b y)) (entity-up a g) (entity-up b h)
-    ∙ rw (entity-names a g, entity-names b h) refl
+-- Ascending names are equal where their bytes are.
+pub entities-same : (a b : List ℕ) → Bytes a → Bytes b → Ascending a → Ascending b → pointwise eqb a b ≡ eq_names (names_in a) (names_in b)
+entities-same a b x y s t = same-bytes a b ∙ same-names a b x y s t
 
 -- The bound of two entity forms.
 module _ (M : Mode) (ns ks : List ℕ) where

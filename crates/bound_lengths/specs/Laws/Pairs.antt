@@ -1,29 +1,30 @@
 -- The bound of two attribute lists, attribute by attribute, from the first on. Assumes nothing.
-use Rattle.std.specs.Prelude.{◌≡◌, refl, Option as Maybe, Some, None, List, Bool, true, false, not, ◌&&◌, ◌||◌, cond, ℕ, zero, suc, ◌+◌, ◌≤◌, eqb, length, get_or}
+use Rattle.std.specs.Prelude.{◌≡◌, refl, Option as Maybe, Some, None, List, Bool, true, false, ◌&&◌, ◌||◌, cond, ℕ, zero, suc, ◌+◌, ◌≤◌, length}
 use Rattle.std.specs.Option.{ForSome}
-use Rattle.std.proofs.Common.{ap, ap₂, ◌∙◌, sub-one, arith}
+use Rattle.std.proofs.Common.{ap, ap₂, subst, ◌∙◌, sub-one, arith}
 use Rattle.std.proofs.Math.Path.{sym}
 use Rattle.std.proofs.Math.Option.{Option, none, some}
-use Rattle.std.proofs.lemmas.Bool.{not-true, not-false}
-use Rattle.cedar.specs.Types.{Mode, is_permissive, eq_flag, Ty, Attrs, nil, attr, find, maybe, names, eq_names}
+use Rattle.cedar.specs.Types.{Mode, is_permissive, eq_flag, Ty, Attrs, nil, attr, find, maybe, names}
 use Rattle.cedar.specs.TypeForm.{enc}
 use Rattle.cedar.specs.Result.{Result, ok, err, attribute_qualifier, record_width}
 use Rattle.cedar.specs.Bound.{absent, join_kept, join_equal, join_one}
-use Rattle.cedar.specs.Limits.{most_bytes}
+use Rattle.cedar.specs.Laws.Shape.{Ascend}
 use Rattle.cedar.specs.Laws.DirectBound.{direct, direct_attrs}
-use Rattle.forms.specs.Parts.{part, rest, rd}
-use Rattle.forms.specs.TypeBytes.{dec_a, dec, Sound, names_by}
+use Rattle.forms.specs.Parts.{rest, rd}
+use Rattle.forms.specs.TypeBytes.{dec_a, dec, Sound}
 use Rattle.forms.specs.Laws.Attributes.{entry, attrs-none, laid}
 use Rattle.forms.specs.RowBytes.{TookFirst, Skipped, Sought}
 use Rattle.forms.specs.declared.rows.Row.{Row}
+use Rattle.forms.specs.declared.type_forms.AttributeForm.{AttributeForm}
+use Rattle.forms.specs.declared.type_forms.AttributeForms.{AttributeForms}
+use Rattle.forms.specs.TypeForms.{type_of, listed, TookFirstAttribute, AttributeNamed, SoughtAttribute}
 use Rattle.forms.specs.Laws.RowBytes.{head-length}
 use Rattle.forms.specs.Laws.AttributeRows.{Attribute, taken-attribute, Ahead, ahead, found-attribute, found-none}
 use Rattle.writing.specs.FormLengths.{cap, table, form_length_of}
-use Rattle.bound_lengths.specs.Pairs.{joined_attrs, joined_to, joined, pair_length_of, WholeRow, row_flag, attribute_in, joined_row}
-use Rattle.forms.specs.Tables.{attrs_at, Tabled}
-use Rattle.forms.specs.Laws.Names.{names-of-entries}
+use Rattle.bound_lengths.specs.Pairs.{joined_to, joined, pair_length_of, WholeRow, row_flag, attribute_in, joined_row, joined_form}
+use Rattle.forms.specs.Tables.{Tabled}
 use Rattle.forms.specs.Laws.Tables.{Split}
-use Rattle.writing.specs.Laws.FormLengths.{before, of-ok, not_err, Summing, summing_start, summing-err, summing-more}
+use Rattle.writing.specs.Laws.FormLengths.{before, not_err, Summing, summing-err, summing-more}
 
 -- An attribute as it was joined, before the others.
 abbrev pub after : ℕ → Result (Option (Bool × Ty)) → Result Attrs → Result Attrs
@@ -64,21 +65,49 @@ attr-step m n r t xs ys = go (find n ys)
     go (some y) = one-step m n r y.0 (direct m t y.1) (direct_attrs m xs ys)
 
 -- Only the names of the first list are looked for in the second.
-later_same : (m : Mode) (l n low : ℕ) (es bs : List ℕ) (ys zs : Attrs) → Sound l n low es bs → ((k : ℕ) → low ≤ k → find k ys ≡ find k zs) →
-    direct_attrs m (dec_a (dec l) n es bs) ys ≡ direct_attrs m (dec_a (dec l) n es bs) zs
-later_same m l zero low es bs ys zs s f = rw (attrs-none (dec l) 0 es bs (omega arith)) (unfold direct in refl)
-later_same m l (suc n) low es bs ys zs s f =
+later-same : (m : Mode) (xs : Attrs) (low : ℕ) (ys zs : Attrs) → Ascend low (names xs) → ((k : ℕ) → low ≤ k → find k ys ≡ find k zs) →
+    direct_attrs m xs ys ≡ direct_attrs m xs zs
+later-same m nil low ys zs a f = unfold direct in refl
+later-same m (attr n r t xs) low ys zs a f =
+    let ih = later-same m xs (suc n) ys zs a.1 (λ k h. f k (omega (arith, a.0))) in
+    attr-step m n r t xs ys ∙ ap₂ (λ (o : Option (Bool × Ty)) (cs : Result Attrs). after n (joined m r t o) cs) (f n a.0) ih ∙ sym (attr-step m n r t xs zs)
+
+-- The names of whole attributes ascend.
+sound-ascends : (l n low : ℕ) (es bs : List ℕ) → Sound l n low es bs → Ascend low (names (dec_a (dec l) n es bs))
+sound-ascends l zero low es bs s = rw (attrs-none (dec l) 0 es bs (omega arith)) tt
+sound-ascends l (suc n) low es bs s =
     let e = entry s (omega arith) in
-    let i : dec_a (dec l) (suc n) es bs ≡ attr (rd es 0) (eqb (get_or es 2 0) 1) (dec l (part 0 (rd es 3) bs))
-    (dec_a (dec l) n (rest 5 es) (rest (rd es 3) bs)) = e.is ∙ rw (sub-one (suc n)) refl in
     let more : Sound l n (rd es 0 + 1) (rest 5 es) (rest (rd es 3) bs) = rw (sub-one (suc n)) at e.more in
-    let ih = later_same m l n (rd es 0 + 1) (rest 5 es) (rest (rd es 3) bs) ys zs more (λ k h. f k (omega (arith, e.up))) in
-    let a = attr-step m (rd es 0) (eqb (get_or es 2 0) 1) (dec l (part 0 (rd es 3) bs)) (dec_a (dec l) n (rest 5 es) (rest (rd es 3) bs)) ys in
-    let b = attr-step m (rd es 0) (eqb (get_or es 2 0) 1) (dec l (part 0 (rd es 3) bs)) (dec_a (dec l) n (rest 5 es) (rest (rd es 3) bs)) zs in
-    ap (λ (xs : Attrs). direct_attrs m xs ys) i ∙ a
-    ∙ ap₂ (λ (o : Option (Bool × Ty)) (cs : Result Attrs). after (rd es 0) (joined m (eqb (get_or es 2 0) 1) (dec l (part 0 (rd es 3) bs)) o) cs)
-    (f (rd es 0) e.up) ih
-    ∙ sym b ∙ ap (λ (xs : Attrs). direct_attrs m xs zs) (sym i)
+    let next : suc (rd es 0) ≡ rd es 0 + 1 = omega arith in
+    rw (e.is, sub-one (suc n), next) (e.up, sound-ascends l n (rd es 0 + 1) (rest 5 es) (rest (rd es 3) bs) more)
+
+-- An attribute was joined: J is what it came to, and cs what the others do.
+pub record Joins (ahead : Result Attrs) (n : ℕ) (J : Result (Option (Bool × Ty))) (cs : Result Attrs) : Type 0 where
+  pub is : ahead ≡ after n J cs
+
+-- The first list is at its end.
+pub joined-end : (m : Mode) {xs : Attrs} (ys : Attrs) → xs ≡ nil → direct_attrs m xs ys ≡ ok nil
+unfolding direct
+joined-end m ys e = rw e refl
+
+-- An attribute was taken of the first list, and its name sought in the second.
+module _ (m : Mode) {xs xs' : AttributeForms} {x : AttributeForm} (t : TookFirstAttribute xs xs' x) {ys ys' : AttributeForms} (o : Maybe AttributeForm)
+    (s : SoughtAttribute ys x.name ys' o) where
+  above : Ascend (suc x.name) (names (listed xs'))
+  above = (subst (λ (zs : Attrs). Ascend 0 (names zs)) t.all (sound-ascends xs.levels xs.rows.left 0 xs.rows.entries.now xs.rows.bodies.now xs.sound)).1
+
+  found-joined : (o : Maybe AttributeForm) → AttributeNamed ys x.name o → joined m x.required (type_of x.form) (find x.name (listed ys)) ≡ joined_form m x o
+  found-joined (Some y) n = ap (joined m x.required (type_of x.form)) n.found
+  found-joined None n = ap (joined m x.required (type_of x.form)) n
+
+  pub joined-step : Joins (direct_attrs m (listed xs) (listed ys)) x.name (joined_form m x o) (direct_attrs m (listed xs') (listed ys'))
+  joined-step =
+      record {
+        is = ap (λ (z : Attrs). direct_attrs m z (listed ys)) t.all
+            ∙ attr-step m x.name x.required (type_of x.form) (listed xs') (listed ys)
+            ∙ ap₂ (after x.name) (found-joined o s.1)
+            (later-same m (listed xs') (suc x.name) (listed ys) (listed ys') above (λ k h. s.0.later k (omega (arith, h))));
+      }
 
 -- A walk over two lists: what is left of both.
 pub record Walk (l n : ℕ) (es bs : List ℕ) (m : ℕ) (fs cs : List ℕ) : Type 0 where
@@ -89,10 +118,6 @@ pub record Walk (l n : ℕ) (es bs : List ℕ) (m : ℕ) (fs cs : List ℕ) : Ty
 
 pub walk_end : (M : Mode) (l n : ℕ) (es bs : List ℕ) (ys : Attrs) → n ≤ 0 → direct_attrs M (dec_a (dec l) n es bs) ys ≡ ok nil
 walk_end M l n es bs ys h = rw (attrs-none (dec l) n es bs h) (unfold direct in refl)
-
--- An attribute was joined: J is what it came to, and cs what the others do.
-pub record Joins (ahead : Result Attrs) (n : ℕ) (J : Result (Option (Bool × Ty))) (cs : Result Attrs) : Type 0 where
-  pub is : ahead ≡ after n J cs
 
 -- What is left of two lists, where an attribute of the first was taken, and the second was searched for its name.
 module _ {l n m : ℕ} {es bs fs cs : List ℕ} (w : Walk l n es bs m fs cs) {n' m' : ℕ} {es' bs' fs' cs' : List ℕ} {r : Row} (t : TookFirst 5 n es bs n' es' bs' r)
@@ -139,7 +164,8 @@ module _ {l n m : ℕ} {es bs fs cs : List ℕ} (w : Walk l n es bs m fs cs) {n'
           is = ap (λ (z : Attrs). direct_attrs M z ys) walk-row.is
               ∙ attr-step M (rd r.head.now 0) (row_flag r) (dec l r.body.now) xs ys
               ∙ ap₂ (λ (o : Option (Bool × Ty)) (c : Result Attrs). after (rd r.head.now 0) (joined M (row_flag r) (dec l r.body.now) o) c)
-              (sym walk-found) (later_same M l n' (rd r.head.now 0 + 1) es' bs' ys zs walk-row.more (λ j h. others.later j (omega (arith, q))));
+              (sym walk-found) (later-same M xs (rd r.head.now 0 + 1) ys zs (sound-ascends l n' (rd r.head.now 0 + 1) es' bs' walk-row.more)
+              (λ j h. others.later j (omega (arith, q))));
         }
 
 -- The loop of the length pass, where an attribute was joined.
@@ -168,51 +194,25 @@ module _ {all ahead : Result Attrs} {sum : ℕ} (i : Summing all ahead sum) {n :
       go (ok (some y)) e = (y, (refl, cc))
       go (err d) e = absurd (let z : ◌≡◌ {A = ℕ} 0 1 = cc in omega arith)
 
-  module _ (k : ℕ) (q : ok (Some k) ≡ pair_length_of J) where
-    pub pair-small : (k ≤ suc most_bytes) × (sum ≤ suc most_bytes)
-    pair-small = (omega (arith, (kept-is k q).1.1), i.small)
-
-    pub pair-more : (s : ℕ) → s ≡ cap (sum + k + 5) → Summing all cs s
-    pair-more s g =
-        let y = kept-is k q in
-        summing-more i n y.0.0 (ok y.0.1) cs (step.is ∙ ap (λ (j : Result (Option (Bool × Ty))). after n j cs) y.1.0) (ok k) (ap ok y.1.1) k s refl g
+  pub pair-more : (k : ℕ) → ok (Some k) ≡ pair_length_of J → (s : ℕ) → s ≡ cap (sum + k + 5) → Summing all cs s
+  pair-more k q s g =
+      let y = kept-is k q in
+      summing-more i n y.0.0 (ok y.0.1) cs (step.is ∙ ap (λ (j : Result (Option (Bool × Ty))). after n j cs) y.1.0) (ok k) (ap ok y.1.1) k s refl g
 
 -- A pair that is dropped or refused.
 dropped-pair : (p : Bool) (d : ℕ) → cond p (ok None) (err d) ≡ pair_length_of (cond p (ok none) (err d))
 dropped-pair true d = refl
 dropped-pair false d = refl
 
--- A pair, found or not.
-pub pair-absent : (m : Mode) (r : Bool) (t : Ty) (x : Result (Maybe ℕ)) → x ≡ cond (is_permissive m) (ok None) (err 12) → x ≡ pair_length_of (joined m r t none)
-pair-absent m r t x q = q ∙ dropped-pair (is_permissive m) 12
-
+-- A pair whose types have no bound.
 module _ (m : Mode) (r s : Bool) (t u : Ty) where
   pub pair-none : (d : ℕ) (y : Result (Maybe ℕ)) → err d ≡ form_length_of enc (direct m t u) → y ≡ cond (is_permissive m) (ok None) (err d) →
       y ≡ pair_length_of (joined m r t (some (s, u)))
   pair-none d y q g = g ∙ rw (not_err enc (direct m t u) (err d) d q refl) (dropped-pair (is_permissive m) d)
 
-  pub pair-some : (k : ℕ) (y : Result (Maybe ℕ)) → ok k ≡ form_length_of enc (direct m t u) →
-      y ≡ cond (is_permissive m || eq_flag r s) (ok (Some k)) (err 11) → y ≡ pair_length_of (joined m r t (some (s, u)))
-  pair-some k y q g =
-      let c = of-ok enc (direct m t u) (ok k) k q refl in
-      g ∙ go (is_permissive m || eq_flag r s) c.0 c.1.1 ∙ sym (ap (λ z. pair_length_of (joined_to m r s z)) c.1.0)
-    where
-      go : (p : Bool) (c : Ty) → k ≡ cap (length (enc c)) → cond p (ok (Some k)) (err 11) ≡ pair_length_of (cond p (ok (some (r && s, c))) (err 11))
-      go true c h = ap (λ (z : ℕ). ok (Some z)) h
-      go false c h = refl
-
 -- Where a walk over the attributes of two forms starts.
 module _ (M : Mode) (l c : ℕ) (a b : List ℕ) (ta : Tabled l c a) (tb : Tabled l c b) {n m : ℕ} {es bs fs cs : List ℕ} (p : Split c a n es bs)
     (q : Split c b m fs cs) where
-  abbrev R : Result Attrs
-  R = joined_attrs M (attrs_at l c a) (attrs_at l c b)
-
-  first-is : attrs_at l c a ≡ dec_a (dec l) n es bs
-  first-is = rw (p.n-is, p.es-is, p.bs-is) refl
-
-  second_is : attrs_at l c b ≡ dec_a (dec l) m fs cs
-  second_is = rw (q.n-is, q.es-is, q.bs-is) refl
-
   first-sound : Sound l n 0 es bs
   first-sound = rw (p.n-is, p.es-is, p.bs-is) ta.sound
 
@@ -221,20 +221,3 @@ module _ (M : Mode) (l c : ℕ) (a b : List ℕ) (ta : Tabled l c a) (tb : Table
 
   pub start-walk : Walk l n es bs m fs cs
   start-walk = record { low = 0; first = first-sound; low' = 0; second = second-sound }
-
-  module _ (r : Bool) (told : r ≡ (is_permissive M || eq_names (names_by 5 n es) (names_by 5 m fs))) where
-    allowed : r ≡ (is_permissive M || eq_names (names (attrs_at l c a)) (names (attrs_at l c b)))
-    allowed =
-        told ∙ ap₂ (λ (x y : List ℕ). is_permissive M || eq_names x y)
-        (sym (names-of-entries (dec l) n es bs) ∙ ap names (sym first-is)) (sym (names-of-entries (dec l) m fs cs) ∙ ap names (sym second_is))
-
-    pub start-not : not r ≡ true → err 12 ≡ form_length_of table R
-    start-not h = rw (sym allowed ∙ not-true r h) refl
-
-    start-same : not r ≡ false → R ≡ direct_attrs M (dec_a (dec l) n es bs) (dec_a (dec l) m fs cs)
-    start-same h =
-        ap (λ (z : Bool). cond z (direct_attrs M (attrs_at l c a) (attrs_at l c b)) (err 12)) (sym allowed ∙ not-false r h) ∙
-        ap₂ (direct_attrs M) first-is second_is
-
-    pub start-summing : not r ≡ false → Summing R (direct_attrs M (dec_a (dec l) n es bs) (dec_a (dec l) m fs cs)) 0
-    start-summing h = rw (start-same h) (summing_start (direct_attrs M (dec_a (dec l) n es bs) (dec_a (dec l) m fs cs)))
