@@ -12,7 +12,7 @@ use bounds::bound_writes::write_bound;
 use forms::limits::Limits;
 use forms::modes::Mode;
 use forms::refusals::Refusal;
-use forms::types::whole_type;
+use forms::type_forms::TypeForm;
 use levels::depths::type_levels;
 use schemas::checked::Checked;
 
@@ -34,17 +34,17 @@ pub fn least_upper_bound_checked(
     let Some(_) = schema.sections else {
         return Err(Refusal::Schema);
     };
-    if !whole_type(t0, limits) {
+    let Some(first) = TypeForm::within(t0, limits) else {
         return Err(Refusal::First);
-    }
-    if !whole_type(t1, limits) {
+    };
+    let Some(second) = TypeForm::within(t1, limits) else {
         return Err(Refusal::Second);
-    }
-    let n = bound_length(m, t0, t1, limits.levels)?;
+    };
+    let n = bound_length(m, first, second)?;
     if !answer_fits(limits, n, out.len()) {
         return Err(Refusal::Answer);
     }
-    write_bound(m, t0, t1, limits.levels, Some(n), out);
+    write_bound(m, first.bytes, second.bytes, limits.levels, Some(n), out);
     let form = &out[0..n];
     Ok(Answer::Typed(n, type_levels(form, limits.levels)))
 }

@@ -14,7 +14,6 @@ use Rattle.cedar.specs.Calls.{mode_of, write_type, bound_call}
 use Rattle.cedar.proofs.Laws.Whole.{whole_type-reads}
 use Rattle.cedar.proofs.Laws.Direct.{direct-bound}
 use Rattle.cedar.proofs.Laws.Join.{bound-WF}
-use Rattle.forms.specs.TypeBytes.{dec}
 use Rattle.forms.specs.Laws.Bytes.{Bytes-index}
 
 -- A whole type is in order, within the levels.
@@ -33,17 +32,11 @@ module _ (lim : Limits) (fair : allowed lim ≡ true) (mode : ℕ) (s t₀ t₁ 
       pub bound-first : whole_type lim t₀ ≡ none → bound_call lim mode s t₀ t₁ room ≡ refused 3
       bound-first e = rw (fair, em, es, e) refl
 
-      module _ (ea : whole_type lim t₀ ≡ some (dec lim.levels t₀)) where
+      module _ (a : Ty) (ea : whole_type lim t₀ ≡ some a) where
         pub bound-second : whole_type lim t₁ ≡ none → bound_call lim mode s t₀ t₁ room ≡ refused 4
         bound-second e = rw (fair, em, es, ea, e) refl
 
-        module _ (k₀ : (i : ℕ) → get_or t₀ i 0 < 256) (k₁ : (i : ℕ) → get_or t₁ i 0 < 256) (eb : whole_type lim t₁ ≡ some (dec lim.levels t₁)) where
-          abbrev a : Ty
-          a = dec lim.levels t₀
-
-          abbrev b : Ty
-          b = dec lim.levels t₁
-
+        module _ (k₀ : (i : ℕ) → get_or t₀ i 0 < 256) (k₁ : (i : ℕ) → get_or t₁ i 0 < 256) (b : Ty) (eb : whole_type lim t₁ ≡ some b) where
           first-WF : WF lim.levels a
           first-WF = in_order lim t₀ a k₀ ea
 
