@@ -82,11 +82,13 @@ def edits(text):
         yield Edit(name[1], fails[0], changes)
 
 
-def source_of(function):
-    """The file of a function's module, the type that it is a method of, and its own name."""
+def source_of(function, texts):
+    """The file of a function, the type that it is a method of, and its own name. A method may stand in another file than its type."""
     *path, name = function.split("::")
     kind = path.pop() if path and path[-1][0].isupper() else ""
-    return f"src/{'/'.join(path) or 'lib'}.rt", kind, name
+    own = f"src/{'/'.join(path) or 'lib'}.rt"
+    files = [own, *(file for file in sorted(texts) if kind and file.startswith("src/"))]
+    return next((file for file in files if span(texts.get(file, ""), kind, name)), own), kind, name
 
 
 def impl_of(line):
@@ -117,13 +119,13 @@ def stands(edit, texts):
     if edit.is_of_law():
         file, law = edit.fails.split(" ")
         return bool(re.search(rf"^ *(?:[a-z]+ )*{re.escape(law)}\s", texts.get(file, ""), re.M))
-    file, kind, name = source_of(edit.fails)
+    file, kind, name = source_of(edit.fails, texts)
     return bool(span(texts.get(file, ""), kind, name))
 
 
 def in_own_function(edit, texts):
     """Whether an edit changes nothing but the function that it names, and its proof, and nothing that another function's proof sees."""
-    file, kind, name = source_of(edit.fails)
+    file, kind, name = source_of(edit.fails, texts)
     text = texts.get(file, "")
     lines = span(text, kind, name)
     called = any(re.search(rf"(?<!fn )\b{name}\(", other) for path, other in texts.items() if path.startswith("src/"))
@@ -178,7 +180,7 @@ def errors(log, edit):
 
 def goals(log, edit, texts):
     """The goals of a function that nothing proves and no file answers: place and text."""
-    file, kind, name = source_of(edit.fails)
+    file, kind, name = source_of(edit.fails, texts)
     lines = not edit.is_of_law() and span(texts.get(file, ""), kind, name)
     for m in re.finditer(rf"^note: (?:\./)?(\S+?):(\d+):\d+: ((?:{UNPROVED}).*)$", log, re.M):
         if lines and m[1] == file and lines[0] <= int(m[2]) < lines[2]:
