@@ -138,7 +138,6 @@ pub fn is_subtype(mode: Mode, t0: TypeForm, t1: TypeForm) -> bool
         Shape::Set(upper) => set_under(mode, t0, upper),
         Shape::Record(is_open, upper) => record_subtype(mode, t0, is_open, upper),
         Shape::Entity(names) => entity_under(mode, t0, names),
-        Shape::Action(_, _) => j == Kind::Never || t0.same(t1),
-        Shape::Extension(_) => j == Kind::Never || t0.same(t1),
+        Shape::Action(_, _) | Shape::Extension(_) => j == Kind::Never || t0.same(t1),
     }
 }

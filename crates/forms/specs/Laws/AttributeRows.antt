@@ -4,13 +4,12 @@ use Rattle.std.proofs.Math.Path.{refl}
 use Rattle.std.proofs.Common.{ap, sym, ◌∙◌, arith, ne_eqb}
 use Rattle.std.proofs.Math.Decide.{dec_lt}
 use Rattle.std.proofs.Math.Option.{none, some}
-use Rattle.cedar.specs.Types.{Attrs, attr, names, find, rec, act}
+use Rattle.cedar.specs.Types.{Attrs, attr, find, rec, act}
 use Rattle.forms.specs.Parts.{part, rest, rd, kind}
 use Rattle.forms.specs.TypeBytes.{dec_a, whole, dec, Sound}
 use Rattle.forms.specs.Search.{below, used}
 use Rattle.forms.specs.RowBytes.{IsFirst, TookFirst, Skipped}
-use Rattle.forms.specs.AttributeRows.{SoundRows, attributes_of, names_of}
-use Rattle.forms.specs.Laws.Names.{names-of-entries}
+use Rattle.forms.specs.AttributeRows.{SoundRows, attributes_of}
 use Rattle.forms.specs.declared.rows.Row.{Row}
 use Rattle.forms.specs.declared.rows.Rows.{Rows}
 use Rattle.forms.specs.Laws.Views.{is-record, is-action}
@@ -105,10 +104,3 @@ module _ (l : ℕ) (b : List ℕ) (h : whole l b ≡ true) (r : Rows 5) where
   pub action-rows : kind b ≡ 11 → r.left ≡ rd b 3 → r.entries.now ≡ part 5 (5 + 5 * rd b 3) b → r.bodies.now ≡ rest (5 + 5 * rd b 3) b →
       SoundRows (l - 1) r × (dec l b ≡ act (rd b 1) (attributes_of (l - 1) r))
   action-rows k n e c = let v = is-action l b h k in (rw (n, e, c) v.sound, rw (n, e, c) v.is)
-
--- What is left of a list has as many entries as it says, and their names.
-pub rows-sized : {l : ℕ} (r : Rows 5) → SoundRows l r → 5 * r.left ≤ length r.entries.now
-rows-sized r s = omega (arith, s.sized)
-
-pub rows-names : (l : ℕ) (r : Rows 5) → names_of r ≡ names (attributes_of l r)
-rows-names l r = sym (names-of-entries (dec l) r.left r.entries.now r.bodies.now)

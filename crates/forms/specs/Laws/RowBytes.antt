@@ -17,11 +17,6 @@ pub took : (w n : ℕ) (es bs : List ℕ) (m : ℕ) (fs cs : List ℕ) (o : Opti
 took w n es bs m fs cs (Some r) t p = (r, refl, t)
 took w n es bs m fs cs None t p = absurd (omega (arith, t.none))
 
--- By what the call answered.
-pub took-some : {w n : ℕ} {es bs : List ℕ} {m : ℕ} {fs cs : List ℕ} (o : Option Row) {r : Row} → Taken w n es bs m fs cs o → o ≡ Some r →
-    TookFirst w n es bs m fs cs r
-took-some {w} {n} {es} {bs} {m} {fs} {cs} o t e = rw e at t
-
 -- Past the first row, past the first k, and past those below a name, what is left is laid out too.
 pub laid-next : (w n : ℕ) (es bs : List ℕ) → Laid w n es bs → 0 < n → Laid w (n - 1) (rest w es) (rest (rd es (w - 2)) bs)
 laid-next w n es bs l p =

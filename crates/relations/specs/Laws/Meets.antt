@@ -25,11 +25,11 @@ use Rattle.forms.specs.Codes.{code}
 use Rattle.relations.specs.Laws.Under.{by-atom, is_code, not-parts}
 
 -- Plain kinds.
-pub plain-low : (k : ℕ) → k < 3 → false ≡ plain_kind k
+plain-low : (k : ℕ) → k < 3 → false ≡ plain_kind k
 unfolding plain_kind
 plain-low k h = rw (lt-leb 3 k h) refl
 
-pub plain-high : (k : ℕ) → 3 ≤ k → leb k 6 ≡ plain_kind k
+plain-high : (k : ℕ) → 3 ≤ k → leb k 6 ≡ plain_kind k
 unfolding plain_kind
 plain-high k h = rw (le-leb 3 k h) refl
 

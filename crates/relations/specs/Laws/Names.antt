@@ -21,12 +21,12 @@ use Rattle.forms.specs.Laws.NamesIn.{names-over}
 use Rattle.relations.specs.Names.{from_name}
 
 -- A name below all names of a list is not in it.
-pub mem_below : (x low : ℕ) (ks : List ℕ) → Ascend low ks → x < low → mem x ks ≡ false
+mem_below : (x low : ℕ) (ks : List ℕ) → Ascend low ks → x < low → mem x ks ≡ false
 mem_below x low [] a h = refl
 mem_below x low (k ∷ ks) a h = rw (ne_eqb x k (λ e. let p = a.0 in omega arith)) (mem_below x (suc k) ks a.1 (let p = a.0 in omega arith))
 
 -- A name of the second list that is below all of the first does not count.
-pub shares-skip : (y low : ℕ) (ns ks : List ℕ) → Ascend low ns → y < low → shares ns (y ∷ ks) ≡ shares ns ks
+shares-skip : (y low : ℕ) (ns ks : List ℕ) → Ascend low ns → y < low → shares ns (y ∷ ks) ≡ shares ns ks
 shares-skip y low [] ks a h = refl
 shares-skip y low (n ∷ ns) ks a h =
     rw (ne_eqb n y (λ e. let p = a.0 in omega arith)) (ap (λ (z : Bool). mem n ks || z) (shares-skip y (suc n) ns ks a.1 (let p = a.0 in omega arith)))

@@ -1,6 +1,6 @@
 -- A type under another, by what they are made of. Assumes nothing.
 use Rattle.std.specs.Prelude.{◌≡◌, refl, Bool, true, false, ◌||◌, ◌&&◌, ℕ, eqb}
-use Rattle.std.proofs.Common.{ap, ◌∙◌}
+use Rattle.std.proofs.Common.{ap, ◌∙◌, ◌⊎◌, inl, inr}
 use Rattle.std.proofs.Math.Path.{ap₂, sym}
 use Rattle.std.proofs.Math.Option.{none}
 use mathlib.Core.List.{List}
@@ -10,7 +10,11 @@ use Rattle.cedar.proofs.Laws.Tests.{T→true, or_inl, or_inr}
 use Rattle.cedar.proofs.Laws.Equality.{is-refl}
 use Rattle.forms.specs.Codes.{code}
 use Rattle.forms.specs.Kinds.{kind_number}
-use Rattle.forms.specs.TypeForms.{IsPlain}
+use Rattle.forms.specs.TypeForms.{type_of, IsPlain, Shaped}
+use Rattle.forms.specs.declared.type_forms.TypeForm.{TypeForm}
+use Rattle.forms.specs.declared.type_forms.AttributeForms.{AttributeForms}
+use Rattle.forms.specs.declared.type_forms.Shape.{Shape}
+use Rattle.forms.specs.declared.type_forms.Shape.TheVariants as shape
 use Rattle.forms.specs.declared.kinds.Kind.{Kind}
 use Rattle.forms.specs.Laws.TypeForms.{plain-code}
 use Rattle.relations.specs.Under.{kind_under, record_under}
@@ -81,10 +85,17 @@ module _ (m : Mode) (a b : Ty) where
           let u = under-atom m a p.which (λ e. h (c ∙ e ∙ plain-code p)) in
           sym (ap (sub m a) p.is ∙ u ∙ ap₂ (kind_under m) (sym c) (plain-code p))
 
-  pub action-is : {n : ℕ} {ys : Attrs} → b ≡ act n ys → sub m a b ≡ (is_never a || same a b)
+-- Under an action or an extension stand Never and the same.
+module _ (m : Mode) (a : Ty) where
+  under-action : (b : Ty) {n : ℕ} {ys : Attrs} → b ≡ act n ys → sub m a b ≡ (is_never a || same a b)
   unfolding sub
-  action-is e = rw e refl
+  under-action b e = rw e refl
 
-  pub extension-is : {n : ℕ} → b ≡ ext n → sub m a b ≡ (is_never a || same a b)
+  under-extension : (b : Ty) {n : ℕ} → b ≡ ext n → sub m a b ≡ (is_never a || same a b)
   unfolding sub
-  extension-is e = rw e refl
+  under-extension b e = rw e refl
+
+  pub same-only : (t : TypeForm) (s : Shape) → Shaped t s → ((n : ℕ) × (xs : AttributeForms) × (s ≡ shape.Action n xs)) ⊎ ((n : ℕ) × (s ≡ shape.Extension n)) →
+      sub m a (type_of t) ≡ (is_never a || same a (type_of t))
+  same-only t s p (inl (n, xs, e)) = under-action (type_of t) (rw e at p).0
+  same-only t s p (inr (n, e)) = under-extension (type_of t) (rw e at p).0

@@ -6,7 +6,7 @@ use Rattle.forms.specs.declared.kinds.Kind.TheVariants as is_kind
 use Rattle.forms.specs.Laws.Kinds.{kinds-agree, kinds-differ, same-number}
 use Rattle.relations.specs.Laws.Shapes.{no-set, no-record}
 use Rattle.relations.specs.Laws.Subtype.{set-under, record-under, record-not, not-set, not-record, never-under, same-under}
-use Rattle.relations.specs.Laws.Subtype.{alike-under, unlike-under, action-is, extension-is}
+use Rattle.relations.specs.Laws.Subtype.{alike-under, unlike-under, same-only}
 use Rattle.relations.specs.Laws.Walks.{under-end, under-missing, under-flag, under-type, under-again}
 use Rattle.relations.proofs.is_subtype.+attributes_subtype_is_subtype.Goals as goal
 
@@ -76,23 +76,11 @@ is_subtype-returns-in-Entity t c = c.entity_under.ensures ∙ ap (sub (as_mode c
 pub is_subtype-returns-then-eq-2 : goal.is_subtype-returns-then-eq-2
 is_subtype-returns-then-eq-2 t c =
     c.if-eq-2.true
-    ∙ never-under _ _ _ _ c.kind-j.ensures (action-is _ _ _ c.in-Action.ensures.0)
+    ∙ never-under _ _ _ _ c.kind-j.ensures (same-only _ _ c.args.t1 c.shape.result c.shape.ensures c.in-Action.is)
     (sym (same-number c.kind-j.result is_kind.Never) ∙ sym c.eq-in-Action.ensures ∙ c.if-eq-2.true)
 
 pub is_subtype-returns-else-eq-2 : goal.is_subtype-returns-else-eq-2
 is_subtype-returns-else-eq-2 t c =
     c.same.ensures
-    ∙ same-under _ _ _ _ c.kind-j.ensures (action-is _ _ _ c.in-Action.ensures.0)
+    ∙ same-under _ _ _ _ c.kind-j.ensures (same-only _ _ c.args.t1 c.shape.result c.shape.ensures c.in-Action.is)
     (sym (same-number c.kind-j.result is_kind.Never) ∙ sym c.eq-in-Action.ensures ∙ c.if-eq-2.false)
-
-pub is_subtype-returns-then-eq-3 : goal.is_subtype-returns-then-eq-3
-is_subtype-returns-then-eq-3 t c =
-    c.if-eq-3.true
-    ∙ never-under _ _ _ _ c.kind-j.ensures (extension-is _ _ _ c.in-Extension.ensures.0)
-    (sym (same-number c.kind-j.result is_kind.Never) ∙ sym c.eq-in-Extension.ensures ∙ c.if-eq-3.true)
-
-pub is_subtype-returns-else-eq-3 : goal.is_subtype-returns-else-eq-3
-is_subtype-returns-else-eq-3 t c =
-    c.same-else-eq-3.ensures
-    ∙ same-under _ _ _ _ c.kind-j.ensures (extension-is _ _ _ c.in-Extension.ensures.0)
-    (sym (same-number c.kind-j.result is_kind.Never) ∙ sym c.eq-in-Extension.ensures ∙ c.if-eq-3.false)
