@@ -27,6 +27,7 @@ use forms::modes::Mode;
 use forms::numbers::u16_at;
 use forms::offsets::Offset;
 use forms::rows::Rows;
+use forms::type_forms::TypeForm;
 use forms::widths::Width;
 use writing::writers::{copy, put_attribute, put_bytes, put_first, put_kind, put_record};
 
@@ -121,7 +122,15 @@ fn write_set(
 {
     let x = &a[Offset::ELEMENT..];
     let y = &b[Offset::ELEMENT..];
-    if is_untyped(mode, x, y, levels - 1, known) {
+    let left = TypeForm {
+        levels: levels - 1,
+        bytes: x,
+    };
+    let right = TypeForm {
+        levels: levels - 1,
+        bytes: y,
+    };
+    if is_untyped(mode, left, right, known) {
         put_first(out, Kind::AnySet);
         return Offset::ELEMENT;
     }

@@ -6,40 +6,46 @@ ghost use Rattle.cedar.specs.Types.{is_permissive};
 ghost use Rattle.cedar.specs.Laws.DirectBound.{direct};
 ghost use Rattle.forms.specs.Modes.{as_mode};
 ghost use Rattle.forms.specs.Tables.{Tabled, attrs_at};
-ghost use Rattle.forms.specs.TypeBytes.{whole, dec};
+ghost use Rattle.forms.specs.TypeForms.{type_of};
 ghost use Rattle.bound_lengths.specs.Pairs.{WholeRow, joined_row, joined_attrs};
 ghost use Rattle.bounds.specs.Joins.{count_of, is_ok, KeptWith};
 
 use bound_lengths::bound_length::bound_length;
 use forms::kinds::Kind;
 use forms::modes::Mode;
-use forms::offsets::Offset;
 use forms::rows::{Row, Rows};
-use forms::type_forms::TypeForm;
+use forms::type_forms::{Shape, TypeForm};
 use forms::widths::Width;
 
 // Whether two types have a bound, permissive. Of one kind, only sets, actions and extensions may have none, and loose no sets.
-pub fn has_bound(mode: Mode, a: &[u8], b: &[u8], levels: usize) -> bool
-    requires permissive { is_permissive (as_mode mode) ≡ true }
-    requires a_whole { whole levels a.now ≡ true }
-    requires b_whole { whole levels b.now ≡ true }
-    ensures { result ≡ is_ok (direct (as_mode mode) (dec levels a.now) (dec levels b.now)) }
+pub fn has_bound(mode: Mode, a: TypeForm, b: TypeForm) -> bool
+    requires { is_permissive (as_mode mode) ≡ true }
+    ensures { result ≡ is_ok (direct (as_mode mode) (type_of a.entry) (type_of b.entry)) }
 {
-    let left = TypeForm { levels, bytes: a };
-    let right = TypeForm { levels, bytes: b };
-    let kind = Kind::of(a);
-    if kind != Kind::of(b) {
-        return bound_length(mode, left, right).is_ok();
-    }
-    match kind {
-        Kind::Set => {
-            let x = &a[Offset::ELEMENT..];
-            let y = &b[Offset::ELEMENT..];
-            mode.is_loose() || has_bound(mode, x, y, levels - 1)
+    match a.shape() {
+        Shape::Plain(kind) => {
+            if kind == Kind::of(b.bytes) {
+                return true;
+            }
         }
-        Kind::Action | Kind::Extension => bound_length(mode, left, right).is_ok(),
-        _ => true,
+        Shape::Set(x) => {
+            if let Shape::Set(y) = b.shape() {
+                return mode.is_loose() || has_bound(mode, x, y);
+            }
+        }
+        Shape::Record(_, _) => {
+            if let Shape::Record(_, _) = b.shape() {
+                return true;
+            }
+        }
+        Shape::Entity(_) => {
+            if let Shape::Entity(_) = b.shape() {
+                return true;
+            }
+        }
+        _ => {}
     }
+    bound_length(mode, a, b).is_ok()
 }
 
 // The attribute with which an attribute is kept: that of its name. None where it is dropped.
@@ -50,7 +56,15 @@ pub fn kept_with<'a>(mode: Mode, row: Row, other: Option<Row<'a>>, levels: usize
     ensures { KeptWith (as_mode mode) levels row.entry other.entry result }
 {
     let other = other?;
-    if mode.is_permissive() && !has_bound(mode, row.body, other.body, levels) {
+    let mine = TypeForm {
+        levels,
+        bytes: row.body,
+    };
+    let theirs = TypeForm {
+        levels,
+        bytes: other.body,
+    };
+    if mode.is_permissive() && !has_bound(mode, mine, theirs) {
         return None;
     }
     Some(other)

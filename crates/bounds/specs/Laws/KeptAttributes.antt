@@ -1,23 +1,23 @@
 -- Which attributes a bound keeps, and how many. Assumes nothing.
-use Rattle.std.specs.Prelude.{◌≡◌, refl, Option as Maybe, Some, None, is_some, List, Bool, true, false, ◌&&◌, ◌||◌, cond, ℕ, suc, ◌+◌, ◌-◌, ◌≤◌, ◌<◌, eqb, get_or}
+use Rattle.std.specs.Prelude.{◌≡◌, refl, Option as Maybe, Some, None, is_some, List, Bool, true, false, ◌&&◌, ◌||◌, cond, ℕ, suc, ◌+◌, ◌≤◌, ◌<◌}
 use Rattle.std.proofs.Common.{ap, sym, ◌∙◌, arith}
 use Rattle.std.proofs.Math.Option.{Option, none, some}
-use Rattle.std.proofs.Math.Decide.{ℕ_discrete}
-use Rattle.cedar.specs.Types.{Mode, is_permissive, is_loose, eq_names, eq_flag, Ty, Attrs, nil, attr, maybe, names, find}
-use Rattle.cedar.specs.TypeForm.{count}
+use Rattle.cedar.specs.Types.{Mode, is_permissive, is_loose, eq_names, eq_flag, Atom, Ty, atom, set, rec, ent, Attrs, nil, attr, maybe, names, find}
+use Rattle.cedar.specs.TypeForm.{count, enc}
 use Rattle.cedar.specs.Result.{Result, ok, err, bind}
 use Rattle.cedar.specs.Bound.{absent, join_equal, join_kept, join_one, join_record}
 use Rattle.cedar.specs.Laws.DirectBound.{direct, direct_attrs}
-use Rattle.forms.specs.Parts.{rest, rd, kind}
+use Rattle.forms.specs.Parts.{rd}
 use Rattle.forms.specs.RowBytes.{TookFirst, Skipped, Sought}
 use Rattle.forms.specs.Tables.{attrs_at}
-use Rattle.forms.specs.TypeBytes.{whole, dec, dec_a}
+use Rattle.forms.specs.TypeBytes.{dec, dec_a}
 use Rattle.forms.specs.declared.rows.Row.{Row}
 use Rattle.forms.specs.Laws.Tables.{attrs-count}
+use Rattle.writing.specs.FormLengths.{form_length_of}
 use Rattle.writing.specs.Laws.FormLengths.{before}
 use Rattle.bound_lengths.specs.Pairs.{joined_attrs, joined_to, row_flag, joined_row}
 use Rattle.bound_lengths.specs.Laws.Pairs.{after, Joins, Walk, walk_end, walk_more, walk_step}
-use Rattle.bound_lengths.specs.Laws.Bounds.{set-join, record-join, entity-join, atoms-join}
+use Rattle.bound_lengths.specs.Laws.Bounds.{atoms-length, sets-join, records-join, entities-join}
 use Rattle.bounds.specs.Joins.{count_of, is_ok, is_kept, KeptWith}
 use Rattle.bounds.specs.Laws.UntypedSets.{loose-known, joined-known}
 
@@ -44,30 +44,29 @@ lists-bound m p (attr n r t xs) ys = go (find n ys) (direct_attrs m xs ys) (list
     go none cs h = rw p h
     go (some y) cs h = rw p (kept y.0 (direct m t y.1) cs h)
 
--- Two whole forms of one kind, permissive.
-module _ (m : Mode) (p : is_permissive m ≡ true) (l : ℕ) (a b : List ℕ) (ha : whole l a ≡ true) (hb : whole l b ≡ true) (k : kind a ≡ kind b) where
-  pub loose-sets-bound : kind a ≡ 7 → is_loose m ≡ true → true ≡ is_ok (direct m (dec l a) (dec l b))
-  loose-sets-bound e h = sym (ap is_ok (set-join m l a b ha hb e (sym k ∙ e)) ∙ loose-known m h (direct m (dec (l - 1) (rest 1 a)) (dec (l - 1) (rest 1 b))))
-
-  pub sets-bound : kind a ≡ 7 → is_loose m ≡ false → (z : Bool) → z ≡ is_ok (direct m (dec (l - 1) (rest 1 a)) (dec (l - 1) (rest 1 b))) →
-      z ≡ is_ok (direct m (dec l a) (dec l b))
-  sets-bound e h z q =
-      q ∙ sym (ap is_ok (set-join m l a b ha hb e (sym k ∙ e)) ∙ joined-known m h (direct m (dec (l - 1) (rest 1 a)) (dec (l - 1) (rest 1 b))))
-
-  pub others-bound : (kind a ≡ 7 → ⊥) → (kind a ≡ 11 → ⊥) → (kind a ≡ 12 → ⊥) → true ≡ is_ok (direct m (dec l a) (dec l b))
-  others-bound p7 p11 p12 = go (ℕ_discrete (kind a) 8) (ℕ_discrete (kind a) 10)
+-- Two types of one kind, permissive.
+module _ (m : Mode) (p : is_permissive m ≡ true) (u v : Ty) where
+  pub plain-bound : (a : Atom) → u ≡ atom a → v ≡ atom a → true ≡ is_ok (direct m u v)
+  plain-bound a e f = go (direct m u v) (atoms-length m u v a e f)
     where
-      lists : (xs ys : Attrs) → is_ok (joined_attrs m xs ys) ≡ true
-      lists xs ys = rw p (lists-bound m p xs ys)
+      go : (r : Result Ty) → ok 1 ≡ form_length_of enc r → true ≡ is_ok r
+      go (ok t) h = refl
+      go (err d) h = absurd (let z : ◌≡◌ {A = ℕ} 0 1 = cc in omega arith)
 
-      go : Dec (kind a ≡ 8) → Dec (kind a ≡ 10) → true ≡ is_ok (direct m (dec l a) (dec l b))
-      go (yes e) d =
-          let xs = attrs_at (l - 1) 2 a in
-          let ys = attrs_at (l - 1) 2 b in
-          let made = join_record (eqb (get_or a 1 0) 1) (eqb (get_or b 1 0) 1) xs ys in
-          sym (ap is_ok (record-join m l a b ha hb e (sym k ∙ e)) ∙ ok-bind (joined_attrs m xs ys) made ∙ lists xs ys)
-      go (no p8) (yes e) = sym (ap is_ok (entity-join m l a b ha hb e (sym k ∙ e)) ∙ rw p refl)
-      go (no p8) (no p10) = let s = atoms-join m l a b ha hb k p7 p8 p10 p11 p12 in sym (ap is_ok s.1.0)
+  module _ {x y : Ty} (e : u ≡ set x) (f : v ≡ set y) where
+    pub loose-sets-bound : is_loose m ≡ true → true ≡ is_ok (direct m u v)
+    loose-sets-bound h = sym (ap is_ok (sets-join m u v e f) ∙ loose-known m h (direct m x y))
+
+    pub sets-bound : is_loose m ≡ false → (z : Bool) → z ≡ is_ok (direct m x y) → z ≡ is_ok (direct m u v)
+    sets-bound h z q = q ∙ sym (ap is_ok (sets-join m u v e f) ∙ joined-known m h (direct m x y))
+
+  pub records-bound : {o o' : Bool} {xs ys : Attrs} → u ≡ rec o xs → v ≡ rec o' ys → true ≡ is_ok (direct m u v)
+  records-bound {o} {o'} {xs} {ys} e f =
+      let lists : is_ok (joined_attrs m xs ys) ≡ true = rw p (lists-bound m p xs ys) in
+      sym (ap is_ok (records-join m u v e f) ∙ ok-bind (joined_attrs m xs ys) (join_record o o' xs ys) ∙ lists)
+
+  pub entities-bound : {ns ks : List ℕ} → u ≡ ent ns → v ≡ ent ks → true ≡ is_ok (direct m u v)
+  entities-bound e f = sym (ap is_ok (entities-join m u v e f) ∙ rw p refl)
 
 -- An attribute that is kept stands before the others, with the bound of its types.
 pub kept-before : (m : Mode) (l n : ℕ) (r x : Row) (cs : Result Attrs) → is_kept (joined_row m l r (Some x)) ≡ true →

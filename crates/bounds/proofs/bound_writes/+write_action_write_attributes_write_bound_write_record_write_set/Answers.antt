@@ -361,8 +361,17 @@ write_record-returns t c =
     let rows = c.write_attributes in
     behind-written cut g.ready put.new.out 4 put.ensures refl rows.new.out rows.result rows.ensures
 
-pub write_set-overflow_sub-levels : goal.write_set-overflow_sub-levels
-write_set-overflow_sub-levels t c = omega (arith, (is_set c.args.levels c.args.a.now c.requires.a_whole.0 c.requires.a_whole.1).deep)
+pub write_set-overflow_sub-left : goal.write_set-overflow_sub-left
+write_set-overflow_sub-left t c = omega (arith, (is_set c.args.levels c.args.a.now c.requires.a_whole.0 c.requires.a_whole.1).deep)
+
+pub write_set-overflow_sub-right : goal.write_set-overflow_sub-right
+write_set-overflow_sub-right t c = write_set-overflow_sub-left t c
+
+pub write_set-invariant_of-left : goal.write_set-invariant_of-left
+write_set-invariant_of-left t c = record { whole = (is_set c.args.levels c.args.a.now c.requires.a_whole.0 c.requires.a_whole.1).good }
+
+pub write_set-invariant_of-right : goal.write_set-invariant_of-right
+write_set-invariant_of-right t c = record { whole = (is_set c.args.levels c.args.b.now c.requires.b_whole.0 c.requires.b_whole.1).good }
 
 pub write_set-is_untyped-requires : goal.write_set-is_untyped-requires
 write_set-is_untyped-requires t c =
@@ -372,14 +381,7 @@ write_set-is_untyped-requires t c =
     let g = given (as_mode args.mode) args.levels args.a.now args.b.now c.requires.a_whole.0 c.requires.b_whole.0
     (λ i. (c.type_inv.a i).fits) (λ i. (c.type_inv.b i).fits)
     c.requires.ready in
-    let first = is_set args.levels args.a.now c.requires.a_whole.0 kind-is in
-    let second = is_set args.levels args.b.now c.requires.b_whole.0 c.requires.b_whole.1 in
-    record {
-      x_whole = first.good;
-      y_whole = second.good;
-      bounded = sets-known g same kind-is;
-      known_length = sets-length g same kind-is args.known c.requires.known_length;
-    }
+    record { bounded = sets-known g same kind-is; known_length = sets-length g same kind-is args.known c.requires.known_length }
 
 pub write_set-put_first-requires : goal.write_set-put_first-requires
 write_set-put_first-requires t c =
@@ -410,8 +412,8 @@ write_set-put_first-requires-2 t c =
     let cut = sets-cut g same c.requires.a_whole.1 c.is_untyped.result c.is_untyped.ensures c.if-is_untyped.false in
     behind-front cut g.ready
 
-pub write_set-overflow_sub-levels-2 : goal.write_set-overflow_sub-levels-2
-write_set-overflow_sub-levels-2 t c = omega (arith, (is_set c.args.levels c.args.a.now c.requires.a_whole.0 c.requires.a_whole.1).deep)
+pub write_set-overflow_sub-levels : goal.write_set-overflow_sub-levels
+write_set-overflow_sub-levels t c = omega (arith, (is_set c.args.levels c.args.a.now c.requires.a_whole.0 c.requires.a_whole.1).deep)
 
 pub write_set-write_bound-requires : goal.write_set-write_bound-requires
 write_set-write_bound-requires t c =
