@@ -4,7 +4,7 @@ use Rattle.std.proofs.Math.Option.{none, some}
 use Rattle.std.specs.Borrow.{Bor}
 use Rattle.cedar.specs.Limits.{Limits}
 use Rattle.cedar.specs.Whole.{whole_type}
-use Rattle.cedar.specs.Types.{Atom, Ty, Attrs, atom, set, rec, act, ent, ext, nil, attr, find}
+use Rattle.cedar.specs.Types.{Atom, Ty, Attrs, atom, set, rec, act, ent, ext, nil, attr, find, as_set}
 use Rattle.cedar.specs.TypeForm.{one, kind_of}
 use Rattle.forms.specs.Kinds.{kind_number}
 use Rattle.forms.specs.Names.{names_in, Ascending}
@@ -43,6 +43,11 @@ Shaped t (shape.Record o xs) = (type_of t ≡ rec o (listed xs)) × (xs.levels +
 Shaped t (shape.Entity ns) = (type_of t ≡ ent (names_in ns.now)) × Ascending ns.now
 Shaped t (shape.Action n xs) = (type_of t ≡ act n (listed xs)) × (xs.levels + 1 ≡ t.levels) × (xs.rows.left < 65536) × (n < 65536)
 Shaped t (shape.Extension n) = (type_of t ≡ ext n) × (n < 65536)
+
+-- The type of a set's elements, a level below it; or the type is no set.
+abbrev pub ElementOf : TypeForm → Option TypeForm → Type 0
+ElementOf t (Some x) = (type_of t ≡ set (type_of x)) × (x.levels + 1 ≡ t.levels)
+ElementOf t None = as_set (type_of t) ≡ none
 
 -- The first attribute was taken of a list.
 pub record TookFirstAttribute (old new : AttributeForms) (x : AttributeForm) : Type 0 where

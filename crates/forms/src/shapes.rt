@@ -5,7 +5,7 @@ ghost use Rattle.cedar.specs.Types.{names, eq_names, same};
 ghost use Rattle.forms.specs.Codes.{code};
 ghost use Rattle.forms.specs.Kinds.{kind_number};
 ghost use Rattle.forms.specs.Limits.{as_limits};
-ghost use Rattle.forms.specs.TypeForms.{TypeWithin, type_of, listed, Shaped, TookAttribute, SoughtAttribute};
+ghost use Rattle.forms.specs.TypeForms.{TypeWithin, type_of, listed, Shaped, ElementOf, TookAttribute, SoughtAttribute};
 
 use crate::kinds::{Kind, Openness};
 use crate::limits::Limits;
@@ -53,6 +53,21 @@ impl<'a> TypeForm<'a> {
         ensures { result ≡ same (type_of self.entry) (type_of other.entry) }
     {
         same_bytes(self.bytes, other.bytes)
+    }
+
+    // The type of a set's elements; other types have none.
+    #[inline]
+    pub fn element(self) -> Option<TypeForm<'a>>
+        ensures { ElementOf self.entry result }
+    {
+        let b = self.bytes;
+        match Kind::of(b) {
+            Kind::Set => Some(TypeForm {
+                bytes: &b[Offset::ELEMENT..],
+                levels: self.levels - 1,
+            }),
+            _ => None,
+        }
     }
 
     // What it is made of.

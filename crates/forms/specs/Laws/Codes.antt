@@ -1,12 +1,22 @@
 -- The first byte of a whole form is that of its type. Assumes nothing.
 use Rattle.std.specs.Prelude.{◌≡◌, refl, List, true, ℕ, zero, suc}
 use Rattle.std.proofs.Common.{ap, sym, ◌∙◌, arith}
-use Rattle.cedar.specs.Types.{Atom, atom}
+use Rattle.std.proofs.Math.Option.{none}
+use Rattle.cedar.specs.Types.{Atom, Ty, atom, set, rec, act, ent, ext, as_set}
 use Rattle.cedar.specs.TypeForm.{Kind, one, set_kind, rec_kind, ent_kind, act_kind, ext_kind, no_kind, kind_of, atom_code}
 use Rattle.forms.specs.Parts.{kind}
 use Rattle.forms.specs.Codes.{code}
 use Rattle.forms.specs.TypeBytes.{whole, dec}
 use Rattle.forms.specs.Laws.Views.{IsAtom, is-atom, Seen, seen-set, seen-record, seen-entity, seen-action, seen-extension, seen-atom, see}
+
+-- A type of another code is no set.
+pub no-set-code : (a : Ty) → (code a ≡ 7 → ⊥) → as_set a ≡ none
+no-set-code (atom k) n = refl
+no-set-code (set t) n = absurd (n refl)
+no-set-code (rec o xs) n = refl
+no-set-code (act i xs) n = refl
+no-set-code (ent ns) n = refl
+no-set-code (ext i) n = refl
 
 -- The code of a kind.
 code_of : Kind → ℕ → ℕ

@@ -16,7 +16,7 @@ use Rattle.forms.specs.ListBytes.{type_fits, whole_ts, dec_ts, list_fits, list_o
 use Rattle.forms.specs.Laws.Parts.{and_l, and_r, and-not-l, and-not-r, and_yes, length_part, length_rest}
 use Rattle.forms.specs.RowBytes.{AreRows}
 use Rattle.forms.specs.declared.rows.Rows.{Rows}
-use Rattle.forms.specs.Laws.Rows.{first}
+use Rattle.forms.specs.Laws.Rows.{first, table-short, table-over, table-open}
 use Rattle.forms.specs.Laws.RowsWithin.{within-none, within-rows}
 use Rattle.forms.specs.Laws.Sure.{Sure, sure-same, sure-present, bind_to, map-to, guard-to, within-to}
 use Rattle.forms.specs.Laws.RowsTwin.{table-twin, rows-length}
@@ -55,8 +55,18 @@ module _ (lim : Limits) (b : List ℕ) where
   pub list-none : ((2 ≤ length b) → length b < 2 + 2 * rd b 0) → false ≡ list_fits lim b
   list-none h = and-not-r (leb (rd b 0) max_listed) _ (sym (within-none member_row (λ _. type_fits lim) tt 0 b h))
 
+  pub list-short : length b < 2 → false ≡ list_fits lim b
+  list-short h = and-not-r (leb (rd b 0) max_listed) _ (sym (table-short member_row (λ _. type_fits lim) tt 0 b h))
+
   pub list-many : (n : ℕ) → n ≡ rd b 0 → max_listed < n → false ≡ list_fits lim b
   list-many n q h = and-not-l (leb (rd b 0) max_listed) _ (lt-leb (rd b 0) max_listed (omega arith))
+
+  module _ (n : ℕ) (q : n ≡ rd b 0) where
+    pub list_over : length b < 2 + 2 * n → false ≡ list_fits lim b
+    list_over h = and-not-r (leb (rd b 0) max_listed) _ (sym (table-over member_row (λ _. type_fits lim) tt 0 b n q h))
+
+    pub list_open : 2 ≤ length b → n ≤ max_listed → 2 + 2 * n ≤ length b → list_fits lim b ≡ whole_ts lim n (part 2 (2 + 2 * n) b) (rest (2 + 2 * n) b)
+    list_open h m g = and_yes (leb (rd b 0) max_listed) _ (le-leb (rd b 0) max_listed (omega arith)) ∙ table-open member_row (λ _. type_fits lim) tt 0 b n q h g
 
   pub list-rows : {rows : Rows 2} → AreRows 2 0 b rows → rows.left ≤ max_listed → list_fits lim b ≡ whole_ts lim rows.left rows.entries.now rows.bodies.now
   list-rows {rows} a m =

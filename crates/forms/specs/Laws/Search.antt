@@ -1,10 +1,10 @@
 -- Entries below a name, and the bytes of their bodies, entry by entry. Assumes nothing.
-use Rattle.std.specs.Prelude.{◌≡◌, List, ℕ, zero, suc, ◌+◌, ◌-◌, ◌≤◌, ◌<◌}
+use Rattle.std.specs.Prelude.{◌≡◌, List, ℕ, zero, suc, ◌+◌, ◌-◌, ◌≤◌, ◌<◌, ◌*◌, length}
 use Rattle.std.proofs.Math.Path.{refl}
-use Rattle.std.proofs.Common.{sub-one, add-one, arith}
+use Rattle.std.proofs.Common.{sub-one, add-one, arith, subst, mul-suc, mul-le-mul_left}
 use borrow.Author.Tests.{lt-ltb, le-ltb}
 use Rattle.forms.specs.Parts.{rest, rd}
-use Rattle.forms.specs.Search.{below, used}
+use Rattle.forms.specs.Search.{below, used, Laid}
 
 pub used_step : (w k : ℕ) (es : List ℕ) → 0 < k → used w k es ≡ rd es (w - 2) + used w (k - 1) (rest w es)
 unfolding used
@@ -29,3 +29,12 @@ pub below_none : (w n name : ℕ) (es : List ℕ) → n ≤ 0 → below w n name
 unfolding below
 below_none w zero name es h = refl
 below_none w (suc n) name es h = absurd (omega arith)
+
+-- The entry after those below a name lies within the entries.
+mul-room : (w k n : ℕ) → k < n → w * k + w ≤ w * n
+mul-room w k zero h = absurd (omega arith)
+mul-room w k (suc n) h = subst (λ (x : ℕ). x ≤ w * suc n) (mul-suc w k) (mul-le-mul_left w (omega arith))
+
+module _ (w n name : ℕ) (es bs : List ℕ) (l : Laid w n es bs) (k : ℕ) (q : k ≡ below w n name es) where
+  pub at_room : k < n → w * k + w ≤ length es
+  at_room h = rw l.sized (mul-room w k n h)

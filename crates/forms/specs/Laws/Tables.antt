@@ -1,13 +1,14 @@
 -- The attributes of a form, cut out of it and walked from the first on. Assumes nothing.
-use Rattle.std.specs.Prelude.{◌≡◌, refl, List, true, ℕ, zero, suc, ◌+◌, ◌-◌, eqb, get_or}
+use Rattle.std.specs.Prelude.{◌≡◌, refl, List, true, ℕ, zero, suc, ◌+◌, ◌-◌, eqb, get_or, ◌≤◌, ◌<◌, length}
 use Rattle.std.proofs.Common.{ap}
-use Rattle.cedar.specs.Types.{Ty, rec, act}
+use Rattle.cedar.specs.Types.{Ty, rec, act, attr}
 use Rattle.cedar.specs.TypeForm.{count}
 use Rattle.forms.specs.Parts.{part, rest, rd, kind}
 use Rattle.forms.specs.Rows.{rows_of, table_end}
 use Rattle.forms.specs.Tables.{Left}
 use Rattle.forms.specs.TypeBytes.{attr_row, dec_a, whole, dec, Sound}
 use Rattle.forms.specs.Laws.Views.{is-record, is-action}
+use Rattle.forms.specs.Laws.Attributes.{entry, entry_more}
 
 -- The attributes of a form whose count stands at c: how many, their entries and their bodies.
 pub record Split (c : ℕ) (b : List ℕ) (n : ℕ) (es bs : List ℕ) : Type 0 where
@@ -36,3 +37,24 @@ attrs-count d (suc n) es bs = ap suc (attrs-count d n (rest 5 es) (rest (rd es 3
 
 pub left-start : {l n low : ℕ} {es bs : List ℕ} → Sound l n low es bs → Left l n es bs
 left-start {low = low} s = record { low = low; sound = s }
+
+-- Its first attribute, whose length was read, and the others.
+module _ {l n : ℕ} {es bs : List ℕ} (s : Left l n es bs) (p : 0 < n) where
+  pub left-room : 5 ≤ length es
+  left-room = (entry s.sound p).room
+
+  pub left-flag : get_or es 2 0 ≤ 1
+  left-flag = (entry s.sound p).flag
+
+  module _ (k : ℕ) (q : k ≡ rd es 3) where
+    pub left-fit : k ≤ length bs
+    left-fit = rw q (entry s.sound p).fit
+
+    pub left_body : whole l (part 0 k bs) ≡ true
+    left_body = rw q (entry s.sound p).body
+
+    pub left-more : Left l (n - 1) (rest 5 es) (rest k bs)
+    left-more = left-start (entry_more s.sound p k q)
+
+    pub left_is : dec_a (dec l) n es bs ≡ attr (rd es 0) (eqb (get_or es 2 0) 1) (dec l (part 0 k bs)) (dec_a (dec l) (n - 1) (rest 5 es) (rest k bs))
+    left_is = rw q (entry s.sound p).is

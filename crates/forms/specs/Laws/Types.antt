@@ -93,6 +93,14 @@ module _ (b : List ℕ) where
         ∙ and_yes (eqb (length b) (3 + 2 * rd b 1)) _ (eq-eqb (length b) (3 + 2 * rd b 1) (omega arith))
         ∙ ap (λ (j : ℕ). names_up j 0 (rest 3 b)) (omega (arith, length_rest 3 b))
 
+    -- The same by the count that was read.
+    pub entity-counted : 3 ≤ length b → 1 ≤ n → length b ≡ 3 + 2 * n → names_fit b ≡ names_up n 0 (rest 3 b)
+    entity-counted h g e =
+        and_yes (leb 3 (length b)) _ (le-leb 3 (length b) h)
+        ∙ and_yes (leb 1 (rd b 1)) _ (le-leb 1 (rd b 1) (omega arith))
+        ∙ and_yes (eqb (length b) (3 + 2 * rd b 1)) _ (eq-eqb (length b) (3 + 2 * rd b 1) (omega arith))
+        ∙ ap (λ (j : ℕ). names_up j 0 (rest 3 b)) (sym q)
+
 -- A form of some levels, by its kind.
 pub whole-none : (l : ℕ) (b : List ℕ) → l ≡ 0 → false ≡ whole l b
 unfolding whole
