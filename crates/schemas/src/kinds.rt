@@ -1,4 +1,4 @@
-// The kinds of section, and where they differ: which entries may follow, and what their bodies are.
+// The kinds of section, and where they differ: how wide entries are, which may follow, and what their bodies are.
 ghost use Rattle.std.specs.Prelude.{◌≡◌, ◌≤◌, length};
 ghost use Rattle.forms.specs.Limits.{as_limits};
 ghost use Rattle.schemas.specs.SchemaBytes.{row_of, body_test, low_in};
@@ -10,6 +10,7 @@ use forms::kinds::EntityKind;
 use forms::limits::Limits;
 use forms::numbers::u16_at;
 use forms::offsets::SchemaOffset;
+use forms::widths::Width;
 
 #[derive(Clone, Copy)]
 pub enum SectionKind {
@@ -19,6 +20,17 @@ pub enum SectionKind {
 }
 
 impl SectionKind {
+    // How many bytes an entry takes.
+    pub fn width(self) -> usize
+        ensures { result ≡ (row_of self).width }
+    {
+        match self {
+            SectionKind::Entities => Width::ENTITY,
+            SectionKind::Actions => Width::ACTION,
+            SectionKind::Functions => Width::FUNCTION,
+        }
+    }
+
     // Whether an entry may follow.
     pub fn follows(self, e: &[u8], low: Low) -> bool
         requires { (row_of self).width ≤ length e.now }

@@ -94,7 +94,19 @@ pub fn section_at(s: &[u8], kind: SectionKind, bodies: usize) -> Section
 }
 
 // Where the bodies of a section end whose entries and bodies are whole.
-pub fn section_within<const WIDTH: usize>(
+pub fn section_within(s: &[u8], kind: SectionKind, x: Section, limits: Limits) -> Option<usize>
+    requires { Inside (row_of kind).width x s.now }
+    ensures { result ≡ passed_by (as_limits limits) kind x s.now }
+{
+    match kind {
+        SectionKind::Entities => rows_within::<{ Width::ENTITY }>(s, kind, x, limits),
+        SectionKind::Actions => rows_within::<{ Width::ACTION }>(s, kind, x, limits),
+        SectionKind::Functions => rows_within::<{ Width::FUNCTION }>(s, kind, x, limits),
+    }
+}
+
+// The same, entry by entry, each of so many bytes.
+pub fn rows_within<const WIDTH: usize>(
     s: &[u8],
     kind: SectionKind,
     x: Section,

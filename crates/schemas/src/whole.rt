@@ -10,7 +10,6 @@ use crate::sections::{Counts, Sections, entries_end, section_at, section_within}
 use forms::limits::Limits;
 use forms::numbers::u16_at;
 use forms::offsets::SchemaOffset;
-use forms::widths::Width;
 
 // Whether the counts are within their limits and the entries within the bytes.
 fn counts_within(s: &[u8]) -> bool
@@ -34,11 +33,11 @@ fn sections_within(s: &[u8], limits: Limits) -> Option<Sections>
         return None;
     }
     let entities = section_at(s, SectionKind::Entities, entries_end(s));
-    let second = section_within::<{ Width::ENTITY }>(s, SectionKind::Entities, entities, limits)?;
+    let second = section_within(s, SectionKind::Entities, entities, limits)?;
     let actions = section_at(s, SectionKind::Actions, second);
-    let third = section_within::<{ Width::ACTION }>(s, SectionKind::Actions, actions, limits)?;
+    let third = section_within(s, SectionKind::Actions, actions, limits)?;
     let functions = section_at(s, SectionKind::Functions, third);
-    let end = section_within::<{ Width::FUNCTION }>(s, SectionKind::Functions, functions, limits)?;
+    let end = section_within(s, SectionKind::Functions, functions, limits)?;
     if end != s.len() {
         return None;
     }

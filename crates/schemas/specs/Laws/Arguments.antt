@@ -29,12 +29,22 @@ plain (suc (suc zero)) h = refl
 plain (suc (suc (suc zero))) h = refl
 plain (suc (suc (suc (suc k)))) h = rw (lt-leb (suc (suc (suc (suc k)))) 3 (omega arith), and-false (leb 1 (suc (suc (suc (suc k)))))) refl
 
+-- One argument, by its kind: an extension, and one of the kinds 1 to 3, which names none.
+pub arg-extension : (a : List ℕ) → get_or a 0 0 ≡ 4 → true ≡ arg_fits a
+arg-extension a e = rw (eq-eqb (get_or a 0 0) 4 e) refl
+
 module _ (a : List ℕ) (n : get_or a 0 0 ≡ 4 → ⊥) (m : ℕ) (q : m ≡ rd a 1) where
-  arg-named : (m ≡ 0 → ⊥) → false ≡ arg_fits a
+  pub arg-named : (m ≡ 0 → ⊥) → false ≡ arg_fits a
   arg-named h = rw (ne_eqb (get_or a 0 0) 4 n, ne_eqb (rd a 1) 0 (λ z. h (q ∙ z))) refl
 
   plain-is : m ≡ 0 → arg_fits a ≡ (leb 1 (get_or a 0 0) && leb (get_or a 0 0) 3)
   plain-is h = rw (ne_eqb (get_or a 0 0) 4 n, eq-eqb (rd a 1) 0 (sym q ∙ h)) (plain (get_or a 0 0) n)
+
+  pub arg-low : m ≡ 0 → get_or a 0 0 < 1 → false ≡ arg_fits a
+  arg-low h l = sym (plain-is h ∙ rw (lt-leb 1 (get_or a 0 0) l) refl)
+
+  pub arg_plain : m ≡ 0 → 1 ≤ get_or a 0 0 → leb (get_or a 0 0) 3 ≡ arg_fits a
+  arg_plain h l = sym (plain-is h ∙ and_yes (leb 1 (get_or a 0 0)) _ (le-leb 1 (get_or a 0 0) l))
 
 -- Steps of an Option, as tests.
 step_fits : (o : Option Arg) (p : Option (List Arg)) → present (o >>= λ x. p >>= λ xs. some (x ∷ xs)) ≡ (present o && present p)
@@ -64,6 +74,9 @@ module _ {b a : List ℕ} (i : ArgsLeft b a) where
       go (x ∷ c) h =
           ne_eqb (length (x ∷ c)) 0 (λ z. omega arith)
           ∙ and-not-l (leb 3 (length (x ∷ c))) _ (lt-leb 3 (length (x ∷ c)) h) ∙ sym (args-step (x ∷ c) (omega arith))
+
+  pub args-short : 0 < length a → length a < 3 → false ≡ args_fit b
+  args-short p h = and-not-l (leb 3 (length a)) _ (lt-leb 3 (length a) h) ∙ sym (i.same ∙ args-step a p)
 
   module _ (h : 3 ≤ length a) (x others : List ℕ) (f : x ≡ take 3 a) (o : others ≡ drop 3 a) (y : Bool) (q : y ≡ arg_fits x) where
     open-args : args_fit b ≡ (y && args_fit others)

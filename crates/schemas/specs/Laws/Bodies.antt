@@ -60,6 +60,9 @@ module _ (lim : Limits) (b : List ℕ) (y : Bool) (q : y ≡ present (whole_type
     pub body-kind : (0 < length b) × (kind b ≤ 12)
     body-kind = whole-kind lim.levels b is_whole
 
+    pub body-some : 0 < length b
+    body-some = body-kind.0
+
     pub body-other : (closed : Bool) → (kind b ≡ 8 → ⊥) → false ≡ body_fits lim closed b
     unfolding body_fits
     body-other closed n = and-not-r (type_fits lim b) _ (sym (and-not-l (present (as_rec (dec lim.levels b))) _ (not-record lim.levels b is_whole n)))

@@ -1,4 +1,4 @@
--- The answers of `sections_within` and `check_schema`. Assumes nothing.
+-- The answers of `counts_within`, `sections_within` and `check_schema`. Assumes nothing.
 use Rattle.std.specs.Prelude.{Option, Some, None, ◌≡◌, refl, List, [], ◌∷◌, Bool, true, false, not, ◌&&◌, cond, ℕ, ◌≤◌, ◌<◌, leb, length}
 use Rattle.std.proofs.Math.Path.{ap, sym}
 use Rattle.std.proofs.Common.{subst, ◌∙◌, arith}
@@ -20,6 +20,28 @@ use Rattle.schemas.specs.declared.kinds.SectionKind.{SectionKind}
 use Rattle.schemas.specs.declared.kinds.SectionKind.TheVariants.{Entities, Actions, Functions}
 use Rattle.schemas.specs.declared.sections.Section.{Section}
 use Rattle.schemas.specs.declared.sections.Sections.{Sections}
+
+-- The counts.
+module _ (b : List ℕ) where
+  pub head-short : length b < 6 → false ≡ head_fits b
+  head-short h = rw (lt-leb 6 (length b) h) refl
+
+  module _ (m : ℕ) (p : m ≡ rd b 0) where
+    pub head-entities : 256 < m → false ≡ head_fits b
+    head-entities h = rw (lt-leb (rd b 0) 256 (omega arith)) (sym (and-false (leb 6 (length b))))
+
+    module _ (n : ℕ) (q : n ≡ rd b 2) where
+      pub head-actions : 256 < n → false ≡ head_fits b
+      head-actions h = rw (lt-leb (rd b 2) 256 (omega arith), and-false (leb (rd b 0) 256)) (sym (and-false (leb 6 (length b))))
+
+      module _ (k : ℕ) (r : k ≡ rd b 4) where
+        pub head-functions : 64 < k → false ≡ head_fits b
+        head-functions h =
+            rw (lt-leb (rd b 4) 64 (omega arith), and-false (leb (rd b 2) 256), and-false (leb (rd b 0) 256)) (sym (and-false (leb 6 (length b))))
+
+        pub head-open : 6 ≤ length b → m ≤ 256 → n ≤ 256 → k ≤ 64 → (end : ℕ) → end ≡ entries_end b → leb end (length b) ≡ head_fits b
+        head-open h e f g end i =
+            rw (le-leb 6 (length b) h, le-leb (rd b 0) 256 (omega arith), le-leb (rd b 2) 256 (omega arith), le-leb (rd b 4) 64 (omega arith), i) refl
 
 -- The counts of bytes that go on.
 pub record Head (b : List ℕ) : Type 0 where
@@ -164,3 +186,8 @@ checked-whole l b x h = outer (allowed (as_limits l)) (sym h)
         (z ≡ true) × (leb (length b) 32768 && whole_s (as_limits l) b ≡ true) × (x ≡ sections_of l b)
     outer true e = let t = inner (leb (length b) 32768 && whole_s (as_limits l) b) e in (refl, t.0, t.1)
     outer false e = absurd (let z : ◌≡◌ {A = ℕ} 0 1 = cc in omega arith)
+
+-- The sections that a check finds hold its limits.
+pub checked-limits : (l : LimitsStruct) (b : List ℕ) (x : Sections) → checked l b ≡ Some x → x.limits ≡ l
+unfolding sections_of
+checked-limits l b x h = ap (λ (z : Sections). z.limits) (checked-whole l b x h).2

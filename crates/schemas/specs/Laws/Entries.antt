@@ -1,7 +1,7 @@
 -- The loop of `find_row`, and what it finds, for any row. Assumes nothing.
-use Rattle.std.specs.Prelude.{◌≡◌, Bool, cond, take, Option as Maybe, Some, None}
+use Rattle.std.specs.Prelude.{◌≡◌, Bool, cond, take, Option as Maybe, Some, None, eqb}
 use Rattle.std.proofs.Math.Path.{refl}
-use Rattle.std.proofs.Common.{ap, sym, ◌∙◌, sub-one, arith}
+use Rattle.std.proofs.Common.{ap, sym, ◌∙◌, sub-one, arith, eq-eqb, ne_eqb}
 use mathlib.Core.List.{List, [], ◌∷◌}
 use Rattle.std.proofs.Math.Bool.{true, false}
 use Rattle.std.proofs.Math.Option.{Option, none, some}
@@ -15,7 +15,7 @@ use Rattle.forms.specs.Rows.{Row, body_length, rows_to, rows_of}
 use Rattle.forms.specs.Search.{Laid}
 use Rattle.forms.specs.RowBytes.{TookFirst}
 use Rattle.forms.specs.declared.rows.Row.{Row as FormRow}
-use Rattle.forms.specs.Laws.Parts.{length_rest, length_part, part-is, part-rest, rd-take}
+use Rattle.forms.specs.Laws.Parts.{length_rest, length_part, part-is, part-rest, rd-take, rest-rest}
 use Rattle.forms.specs.Laws.Rows.{first}
 use Rattle.forms.specs.Laws.RowBytes.{head-length, took-left, laid-more}
 use Rattle.std.proofs.lemmas.List.{take-take}
@@ -25,6 +25,18 @@ use Rattle.schemas.specs.Entries.{key_is, entry_from, entry_at, row_bytes, LaidI
 use Rattle.schemas.specs.declared.sections.Section.{Section}
 use Rattle.schemas.specs.declared.entries.Key.{Key}
 use Rattle.schemas.specs.declared.entries.Key.TheVariants.{Name, Uid}
+
+-- The answers of `has_key`.
+module _ (key : Key) (e : List ℕ) where
+  pub key-name : (n : ℕ) → key ≡ Name n → (m : ℕ) → m ≡ rd e 0 → eqb n m ≡ key_is key e
+  key-name n k m q = rw (k, q) refl
+
+  module _ (t i : ℕ) (k : key ≡ Uid t i) (m : ℕ) (q : m ≡ rd e 0) where
+    pub key-other : (t ≡ m → ⊥) → false ≡ key_is key e
+    key-other h = rw (k, ne_eqb t (rd e 0) (λ z. h (z ∙ sym q))) refl
+
+    pub key-uid : t ≡ m → (j : ℕ) → j ≡ rd e 2 → eqb i j ≡ key_is key e
+    key-uid h j p = rw (k, eq-eqb t (rd e 0) (h ∙ q), p) refl
 
 -- One entry, and the others.
 entry-none : (w : ℕ) (key : Key) (n : ℕ) (es bs : List ℕ) → n ≤ 0 → entry_from w key n es bs ≡ None
@@ -171,3 +183,97 @@ module _ {S H A : Type 0} (r : Row S H) (w : H → List ℕ → Bool) (d : H →
               is = rw (sym (hit es) ∙ e, own es) refl;
             }
         go false e room body ys f i = past_one (r.head es, d (r.head es) (part 0 (body_length r es) bs)) ys f (sym (hit es) ∙ e) i
+
+-- The same in the bytes of a schema: where the entry stands that was found, and where its body. It passes its own test.
+module _ {S H A : Type 0} (r : Row S H) (w : H → List ℕ → Bool) (d : H → List ℕ → A) (key : Key) (q : H → Bool) (b : List ℕ) where
+  -- The entry at i, whose body is from a to e, is the one of the rows.
+  pub record RowAt (xs : List (H × A)) (i a e : ℕ) : Type 0 where
+    pub room : i + r.width ≤ length b
+    pub order : a ≤ e
+    pub inside : e ≤ length b
+    pub low : S
+    pub fits : r.ok low (rest i b) ≡ true
+    pub has : key_is key (rest i b) ≡ true
+    pub body : w (r.head (rest i b)) (part a e b) ≡ true
+    pub is : lookup q xs ≡ some (r.head (rest i b), d (r.head (rest i b)) (part a e b))
+
+  -- The bytes y of an entry and its body stand there.
+  pub record BytesAt (xs : List (H × A)) (y : List ℕ × List ℕ) : Type 0 where
+    pub i : ℕ
+    pub a : ℕ
+    pub e : ℕ
+    pub row : RowAt xs i a e
+    pub entry : y.0 ≡ part i (i + r.width) b
+    pub bytes : y.1 ≡ part a e b
+
+  -- What a search says of the rows.
+  abbrev pub FoundAt : List (H × A) → Maybe (List ℕ × List ℕ) → Type 0
+  FoundAt xs (Some y) = BytesAt xs y
+  FoundAt xs None = lookup q xs ≡ none
+
+  past-row : (x : H × A) (xs : List (H × A)) (f : Maybe (List ℕ × List ℕ)) → q x.0 ≡ false → FoundAt xs f → FoundAt (x ∷ xs) f
+  past-row x xs (Some y) h f =
+      record {
+        i = f.i;
+        a = f.a;
+        e = f.e;
+        row =
+            record {
+              room = f.row.room;
+              order = f.row.order;
+              inside = f.row.inside;
+              low = f.row.low;
+              fits = f.row.fits;
+              has = f.row.has;
+              body = f.row.body;
+              is = ap (λ (z : Bool). cond z (some x) (lookup q xs)) h ∙ f.row.is;
+            };
+        entry = f.entry;
+        bytes = f.bytes;
+      }
+  past-row x xs None h f = ap (λ (z : Bool). cond z (some x) (lookup q xs)) h ∙ f
+
+  module _ (hit : (es : List ℕ) → key_is key es ≡ q (r.head es)) where
+    pub found-at : (n : ℕ) (s : S) (at start : ℕ) → at + r.width * n ≤ length b → start ≤ length b → rows_to r w any n s (rest at b) (rest start b) ≡ true →
+        FoundAt (rows_of r d n (rest at b) (rest start b)) (entry_from r.width key n (rest at b) (rest start b))
+    unfolding entry_from rows_of
+    found-at zero s at start l g h = refl
+    found-at (suc n) s at start l g h =
+        let es = rest at b in
+        let k = body_length r es in
+        let f = first r w any (suc n) s es (rest start b) (omega arith) h in
+        let fit : start + k ≤ length b = omega (arith, f.inside, length_rest start b) in
+        let more = rw (sub-one (suc n), rest-rest at r.width b, rest-rest start k b) at f.more in
+        let sized : at + r.width + r.width * n ≤ length b = omega (arith, l, mul-suc r.width n) in
+        let room : at + r.width ≤ length b = omega (arith, sized) in
+        rw (rest-rest at r.width b, rest-rest start k b, part-rest start k b, part-rest at r.width b)
+        (go (key_is key es) refl room fit f.fits (rw (part-rest start k b) at f.body) (rows_of r d n (rest (at + r.width) b) (rest (start + k) b))
+        (entry_from r.width key n (rest (at + r.width) b) (rest (start + k) b))
+        (found-at n (r.next es) (at + r.width) (start + k) sized fit more))
+      where
+        go : (z : Bool) → key_is key (rest at b) ≡ z → at + r.width ≤ length b → start + body_length r (rest at b) ≤ length b → r.ok s (rest at b) ≡ true
+            → w (r.head (rest at b)) (part start (start + body_length r (rest at b)) b) ≡ true → (ys : List (H × A)) (f : Maybe (List ℕ × List ℕ)) →
+            FoundAt ys f →
+            FoundAt ((r.head (rest at b), d (r.head (rest at b)) (part start (start + body_length r (rest at b)) b)) ∷ ys)
+            (cond z (Some (part at (at + r.width) b, part start (start + body_length r (rest at b)) b)) f)
+        go true e room fit ok body ys f i =
+            record {
+              i = at;
+              a = start;
+              e = start + body_length r (rest at b);
+              row =
+                  record {
+                    room = room;
+                    order = omega arith;
+                    inside = fit;
+                    low = s;
+                    fits = ok;
+                    has = e;
+                    body = body;
+                    is = rw (sym (hit (rest at b)) ∙ e) refl;
+                  };
+              entry = refl;
+              bytes = refl;
+            }
+        go false e room fit ok body ys f i =
+            past-row (r.head (rest at b), d (r.head (rest at b)) (part start (start + body_length r (rest at b)) b)) ys f (sym (hit (rest at b)) ∙ e) i

@@ -27,13 +27,14 @@ use Rattle.schemas.specs.SchemaBytes.{dec_s, checked}
 use Rattle.schemas.specs.Entries.{entry_at, row_bytes, signature_of, function_at, signature_bytes, returns_of, LaidIn, Sectioned, open_at, body_attrs}
 use Rattle.schemas.specs.Laws.Walks.{section-ends}
 use Rattle.schemas.specs.Laws.Bodies.{is_body}
-use Rattle.schemas.specs.Laws.Checks.{Head, head, checked-whole}
-use Rattle.schemas.specs.Laws.Entries.{entry-bytes, lookup, FoundIn, found_in}
+use Rattle.schemas.specs.Laws.Checks.{Head, head, checked-whole, checked-limits}
+use Rattle.schemas.specs.Laws.Entries.{entry-bytes, lookup, FoundIn, found_in, FoundAt, found-at}
 use Rattle.schemas.specs.declared.kinds.SectionKind.TheVariants.{Entities, Actions, Functions}
 use Rattle.schemas.specs.declared.sections.Section.{Section}
 use Rattle.schemas.specs.declared.sections.Sections.{Sections}
 use Rattle.schemas.specs.declared.entries.Key.TheVariants.{Name, Uid}
 use Rattle.schemas.specs.declared.entries.Signature.{Signature}
+use Rattle.schemas.specs.declared.checked.Checked.{Checked}
 
 -- What an entry says stands in its own bytes.
 entity-own : (es : List ℕ) → entity_row.head (part 0 5 es) ≡ entity_row.head es
@@ -63,6 +64,10 @@ kept l b x h =
       },
       own,
     )
+
+-- The sections of a schema that was checked hold its limits.
+pub sections-limits : (c : Checked) (x : Sections) → c.sections ≡ Some x → x.limits ≡ c.limits
+sections-limits c x h = checked-limits c.limits c.bytes.now x (sym c.own_check ∙ h)
 
 -- The three sections of a whole schema.
 record Parts (lim : Limits) (b : List ℕ) : Type 0 where
@@ -112,6 +117,14 @@ pub record ActionAt (lim : Limits) (b : List ℕ) (k i : ℕ) (c : List ℕ) : T
 pub record FunctionAt (lim : Limits) (b : List ℕ) (name : ℕ) (f : Signature) : Type 0 where
   pub args : args_fit f.arguments.now ≡ true
   pub is : function_of (dec_s lim b) name ≡ some (record { name = name; returns = returns_of f.returns; args = args_of f.arguments.now })
+
+-- Bytes that stand in others, from one place to another.
+pub record StandsIn (b c : List ℕ) : Type 0 where
+  pub from : ℕ
+  pub to : ℕ
+  pub order : from ≤ to
+  pub inside : to ≤ length b
+  pub bytes : c ≡ part from to b
 
 body_at : (lim : Limits) (c : List ℕ) (closed : Bool) → body_fits lim closed c ≡ true → BodyAt lim c
 body_at lim c closed h =
@@ -210,6 +223,20 @@ module _ {b : List ℕ} {x : Sections} (k : Sectioned b x) where
               (sym (eqb-true name (rd r.head.now 0) f.has)) (body-says v);
         }
 
+    abbrev EntityPlaced : Maybe (List ℕ × List ℕ) → Type 0
+    EntityPlaced = FoundAt entity_row (body_test lim Entities) (λ h. body_of lim) (Name name) (λ h. eqb name h.0) b (entity_rows lim b)
+
+    -- Its entry and its body stand in the schema.
+    pub entity-stands : (r : Row) → o ≡ Some r → StandsIn b r.head.now × StandsIn b r.body.now
+    entity-stands r h =
+        let f : EntityPlaced (Some (row_bytes r)) =
+        subst EntityPlaced (sym (ap (option_map row_bytes) (sym h) ∙ q ∙ ap (λ (z : Section). entry_at 5 (Name name) z b) entities-is))
+        (found-at entity_row (body_test lim Entities) (λ h. body_of lim) (Name name) (λ h. eqb name h.0) b (λ es. refl) (rd b 0) 0 6
+        (entity_section b).bodies (omega (arith, kept-parts.counts.fit)) kept-parts.counts.fit kept-parts.first) in (
+          record { from = f.i; to = f.i + 5; order = omega arith; inside = f.row.room; bytes = f.entry },
+          record { from = f.a; to = f.e; order = f.row.order; inside = f.row.inside; bytes = f.bytes },
+        )
+
     pub entity-not : o ≡ None → entity_of (dec_s lim b) name ≡ none
     unfolding dec_s
     entity-not h =
@@ -250,6 +277,20 @@ module _ {b : List ℕ} {x : Sections} (k : Sectioned b x) where
               ∙ ap₂ (λ (l m : ℕ). some (record { type = l; id = m; attrs = body_attrs lim r.body.now })) (sym n) (sym j);
         }
 
+    abbrev ActionPlaced : Maybe (List ℕ × List ℕ) → Type 0
+    ActionPlaced = FoundAt action_row (body_test lim Actions) (λ h. body_of lim) (Uid t d) (λ h. eqb t h.0 && eqb d h.1) b (action_rows lim b)
+
+    -- Its entry and its body stand in the schema.
+    pub action-stands : (r : Row) → o ≡ Some r → StandsIn b r.head.now × StandsIn b r.body.now
+    action-stands r h =
+        let f : ActionPlaced (Some (row_bytes r)) =
+        subst ActionPlaced (sym (ap (option_map row_bytes) (sym h) ∙ q ∙ ap (λ (z : Section). entry_at 6 (Uid t d) z b) actions-is))
+        (found-at action_row (body_test lim Actions) (λ h. body_of lim) (Uid t d) (λ h. eqb t h.0 && eqb d h.1) b (λ es. refl) (rd b 2) (0, 0)
+        (6 + 5 * rd b 0) (action_section b).bodies (omega (arith, kept-parts.counts.fit)) kept-parts.end₀ kept-parts.second) in (
+          record { from = f.i; to = f.i + 6; order = omega arith; inside = f.row.room; bytes = f.entry },
+          record { from = f.a; to = f.e; order = f.row.order; inside = f.row.inside; bytes = f.bytes },
+        )
+
     pub action-not : o ≡ None → action_of (dec_s lim b) t d ≡ none
     unfolding dec_s
     action-not h =
@@ -271,6 +312,15 @@ module _ {b : List ℕ} {x : Sections} (k : Sectioned b x) where
     -- The entry is there.
     pub function-room : (o : Maybe Row) → option_map row_bytes o ≡ entry_at 7 (Name name) x.functions b → (r : Row) → o ≡ Some r → length r.head.now ≡ 7
     function-room o q r h = (subst EntryFound (sym q ∙ ap (option_map row_bytes) h) entry_found).sized
+
+    abbrev EntryPlaced : Maybe (List ℕ × List ℕ) → Type 0
+    EntryPlaced = FoundAt function_row (body_test lim Functions) (λ h. args_of) (Name name) (λ h. eqb name h.0) b (function_rows b)
+
+    entry_placed : EntryPlaced (entry_at 7 (Name name) x.functions b)
+    entry_placed =
+        subst EntryPlaced (sym (ap (λ (z : Section). entry_at 7 (Name name) z b) functions-is))
+        (found-at function_row (body_test lim Functions) (λ h. args_of) (Name name) (λ h. eqb name h.0) b (λ es. refl) (rd b 4)
+        0 (6 + 5 * rd b 0 + 6 * rd b 2) (function_section b).bodies (omega (arith, kept-parts.counts.fit)) kept-parts.end₁ kept-parts.third)
 
     none-says : EntryFound None → function_of (dec_s lim b) name ≡ none
     unfolding dec_s
@@ -296,6 +346,17 @@ module _ {b : List ℕ} {x : Sections} (k : Sectioned b x) where
                     ∙ rw (sym (eqb-true name (rd y.0 0) v.has), returns, args)
                     (ap (λ (e : Option ℕ). some (record { name = name; returns = e; args = args_of y.1 })) (returns-says (eqb (get_or y.0 2 0) 1) (rd y.0 3)));
               }
+          go None p v = absurd (let z : ◌≡◌ {A = ℕ} 0 1 = cc in omega arith)
+
+      -- Its arguments stand in the schema.
+      pub function-stands : (f : Signature) → o ≡ Some f → StandsIn b f.arguments.now
+      function-stands f h = go (entry_at 7 (Name name) x.functions b) (ap (option_map signature_bytes) (sym h) ∙ q) entry_placed
+        where
+          go : (g : Maybe (List ℕ × List ℕ)) → Some (signature_bytes f) ≡ option_map signature_of g → EntryPlaced g → StandsIn b f.arguments.now
+          go (Some y) p v =
+              let same : signature_bytes f ≡ signature_of y = cc in
+              let args : f.arguments.now ≡ y.1 = ap (λ (z : Maybe ℕ × List ℕ). z.1) same in
+              record { from = v.a; to = v.e; order = v.row.order; inside = v.row.inside; bytes = args ∙ v.bytes }
           go None p v = absurd (let z : ◌≡◌ {A = ℕ} 0 1 = cc in omega arith)
 
       pub function-not : o ≡ None → function_of (dec_s lim b) name ≡ none

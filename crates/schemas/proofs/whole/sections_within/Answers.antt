@@ -1,4 +1,4 @@
-use mathlib.Core.Path.{refl, sym, ◌∙◌}
+use mathlib.Core.Path.{sym, ◌∙◌}
 use Rattle.schemas.specs.Laws.Checks.{check-over, check-head, head, ahead, ahead-inside, ahead-broken, past, ahead-over, ahead-whole}
 use Rattle.schemas.proofs.whole.sections_within.Goals as goal
 
@@ -25,7 +25,7 @@ pub section_within-requires : goal.section_within-requires
 section_within-requires c =
     let counted = sym c.counts_within.ensures ∙ c.if-not-counts_within.false in
     let all = ahead c.args.limits c.args.s.now counted c.entries_end.result c.entries_end.ensures in
-    record { wide = refl; inside = ahead-inside all c.section_at-entities.result c.section_at-entities.ensures }
+    ahead-inside all c.section_at-entities.result c.section_at-entities.ensures
 
 pub returns-in_err-second : goal.returns-in_err-second
 returns-in_err-second c =
@@ -46,7 +46,7 @@ section_within-requires-2 c =
     let counted = sym c.counts_within.ensures ∙ c.if-not-counts_within.false in
     let all = ahead c.args.limits c.args.s.now counted c.entries_end.result c.entries_end.ensures in
     let one = past all c.section_at-entities.result c.section_at-entities.ensures c.section_within.result c.section_within.ensures c.in_ok-second.second c.in_ok-second.was in
-    record { wide = refl; inside = ahead-inside one.ahead c.section_at-actions.result c.section_at-actions.ensures }
+    ahead-inside one.ahead c.section_at-actions.result c.section_at-actions.ensures
 
 pub returns-in_err-third : goal.returns-in_err-third
 returns-in_err-third c =
@@ -70,7 +70,7 @@ section_within-requires-3 c =
     let all = ahead c.args.limits c.args.s.now counted c.entries_end.result c.entries_end.ensures in
     let one = past all c.section_at-entities.result c.section_at-entities.ensures c.section_within.result c.section_within.ensures c.in_ok-second.second c.in_ok-second.was in
     let two = past one.ahead c.section_at-actions.result c.section_at-actions.ensures c.section_within-2.result c.section_within-2.ensures c.in_ok-third.third c.in_ok-third.was in
-    record { wide = refl; inside = ahead-inside two.ahead c.section_at-functions.result c.section_at-functions.ensures }
+    ahead-inside two.ahead c.section_at-functions.result c.section_at-functions.ensures
 
 pub returns-in_err-end : goal.returns-in_err-end
 returns-in_err-end c =
