@@ -14,7 +14,7 @@ use Rattle.forms.specs.Parts.{part, rest, rd, kind}
 use Rattle.forms.specs.Rows.{body_row, rows_to, rows_of, none_left, table_fits}
 use Rattle.forms.specs.TypeBytes.{attr_row, whole, dec}
 use Rattle.forms.specs.ValueBytes.{member_row, pair_row, whole_v, dec_v, dec_v_as}
-use Rattle.forms.specs.Laws.Parts.{and_l, and_r, pos, length_part, length_rest}
+use Rattle.forms.specs.Laws.Parts.{and_l, and_r, pos, length_part, length_rest, rest_0}
 use Rattle.forms.specs.Laws.Bytes.{Bytes-part, dec-reads, dec_v-reads}
 use Rattle.forms.specs.Laws.Bodies.{table-bodies}
 use Rattle.forms.specs.Laws.Ahead.{Ahead, ahead-inside, ahead-body, ahead-again, decoded, decoded-none, table-ahead, table-decoded}
@@ -188,6 +188,9 @@ pub record SetsAbove (l : ℕ) (t : List ℕ) (left : ℕ) (b : List ℕ) : Type
   pub few : left ≤ l
   pub good : whole left b ≡ true
   pub same : depth (dec l t) ≡ l - left + depth (dec left b)
+
+pub sets-start : (l : ℕ) (t : List ℕ) → whole l t ≡ true → SetsAbove l t l (rest 0 t)
+sets-start l t h = rw (rest_0 t) record { few = omega arith; good = h; same = omega arith }
 
 pub sets-again : {l left : ℕ} {t b : List ℕ} → SetsAbove l t left b → kind b ≡ 7 → SetsAbove l t (left - 1) (rest 1 b)
 unfolding depth

@@ -1,5 +1,5 @@
 -- What each step of the code says of the text from an index on. Assumes nothing.
-use Rattle.std.specs.Prelude.{ℕ, zero, suc, ◌+◌, ◌*◌, ◌/◌, ◌%◌, ◌-◌, ◌<◌, ◌≤◌, Bool, true, false, ◌&&◌, ◌≡◌, Option, leb, length, get_or, drop}
+use Rattle.std.specs.Prelude.{ℕ, zero, suc, ◌+◌, ◌*◌, ◌/◌, ◌%◌, ◌-◌, ◌<◌, ◌≤◌, Bool, true, false, ◌&&◌, ◌≡◌, Option, leb, length, get_or, drop, Some}
 use Rattle.std.proofs.Common.{add-zero, add-one, arith, ap, ◌∙◌, subst, inl, inr, length-drop, drop_of_length-le, drop-cons, le-leb, ne_eqb}
 use mathlib.Core.List.{List, [], ◌∷◌}
 use Rattle.std.proofs.Math.Path.{refl, sym}
@@ -11,7 +11,7 @@ use Rattle.std.proofs.lemmas.Bool.{lt-leb}
 use Rattle.cedar.specs.Types.{maybe}
 use Rattle.cedar.specs.Text.{Range, tail, text_rows, followed, goes_on, is_text}
 use Rattle.cedar.proofs.Laws.Text.{split, rows-rise, followed-row, followed-none}
-use Rattle.strings.specs.Steps.{text_from, is_in, second_range, Character, Width, Passes, Plain}
+use Rattle.strings.specs.Steps.{text_from, is_in, second_range, Character, Width, Passes, Plain, PassesWide}
 
 -- ---- Bytes in ranges
 
@@ -352,6 +352,9 @@ passes-block {b} {at} {i} (suc n) p h f =
 pub wide-stop : {b : List ℕ} {at i : ℕ} → Passes b at i → 128 ≤ get_or b at 0 → get_or b i 0 < 128 → at < i
 wide-stop {b} {at} {i} p l h = split at i (λ k. k)
     (λ k. let e : at ≡ i = omega (arith, p.from) in let q = subst (λ (j : ℕ). 128 ≤ get_or b j 0) e l in absurd (omega arith))
+
+pub wide-passes : {b : List ℕ} {at i : ℕ} → Passes b at i → 128 ≤ get_or b at 0 → get_or b i 0 < 128 → PassesWide b at (Some i)
+wide-passes p l h = (wide-stop p l h, p)
 
 -- The ways out of the whole test.
 text-start : (b : List ℕ) → text_from b 0 ≡ is_text b

@@ -1,5 +1,5 @@
 -- The write pass: a result behind what stands before it, and a table of attributes, entry by entry. Assumes nothing.
-use Rattle.std.specs.Prelude.{◌≡◌, List, [], ◌∷◌, ◌++◌, Bool, ℕ, ◌+◌, ◌*◌, ◌≤◌, length}
+use Rattle.std.specs.Prelude.{◌≡◌, List, [], ◌∷◌, ◌++◌, Bool, ℕ, ◌+◌, ◌*◌, ◌≤◌, length, zero, suc, eqb}
 use Rattle.std.proofs.Math.Path.{refl}
 use Rattle.std.proofs.Common.{ap, sym, ◌∙◌, arith, length-append}
 use Rattle.cedar.specs.Types.{Ty, Attrs, nil, attr}
@@ -13,8 +13,14 @@ use Rattle.forms.specs.Laws.Parts.{length_rest}
 use Rattle.writing.specs.Written.{Written}
 use Rattle.writing.specs.FormLengths.{table, form_of, Ready}
 use Rattle.writing.specs.Laws.FormLengths.{length-entries, bind_ok, Cut, before}
-use Rattle.writing.specs.Laws.Writing.{back, written_at, room_at, Filling, filling-start, filling-at, filling-pos, filling-body}
+use Rattle.writing.specs.Laws.Writing.{back, written_at, room_at, Filling, filling-start, filling-at, filling-pos, filling-body, filling-length}
 use Rattle.writing.specs.Laws.Writing.{filling-entry, filling-end}
+
+-- A flag's byte is the flag.
+pub flag_is : (v : ℕ) → v ≤ 1 → flag (eqb v 1) ≡ v
+flag_is zero h = refl
+flag_is (suc zero) h = refl
+flag_is (suc (suc v)) h = absurd (omega arith)
 
 -- A result that is known.
 module _ {A : Type 0} {w : A → List ℕ} {r : Result A} {o : List ℕ} (g : Ready w r o) (a : A) (e : r ≡ ok a) where
@@ -42,6 +48,9 @@ module _ {A B : Type 0} {w : A → List ℕ} {v : B → List ℕ} {p : List ℕ}
   behind-front = omega (arith, sums, g.room)
 
   module _ (xs : List ℕ) (at : ℕ) (q : xs ≡ over p o) (m : at ≡ length p) where
+    pub behind-at : at ≤ length xs
+    behind-at = (room_at o p xs at q m behind-front).0
+
     pub behind-ready : Ready w r (rest at xs)
     behind-ready =
         record {
@@ -50,6 +59,9 @@ module _ {A B : Type 0} {w : A → List ℕ} {v : B → List ℕ} {p : List ℕ}
           small = omega (arith, sums, g.small);
           room = omega (arith, sums, g.room, (room_at o p xs at q m behind-front).1);
         }
+
+    pub behind-small : (ys : List ℕ) (x : ℕ) → Written (form_of w r) (rest at xs) ys x → x + at ≤ most_bytes
+    behind-small ys x t = omega (arith, t.many, ap (λ (z : Result A). length (form_of w z)) inner.1.0, sums, g.small)
 
     pub behind-written : (ys : List ℕ) (x : ℕ) → Written (form_of w r) (rest at xs) ys x → Written (form_of v s) o (back at xs ys) (x + at)
     behind-written ys x t =
@@ -95,6 +107,9 @@ unfolding enc
 body-cut n r t xs = refl
 
 module _ {all ahead : Result Attrs} {o : List ℕ} {at pos : ℕ} {out : List ℕ} (i : Laying all ahead o at pos out) where
+  pub laying-length : length out ≡ length o
+  laying-length = filling-length i.filling
+
   pub laying-same : (ahead' : Result Attrs) → ahead ≡ ahead' → Laying all ahead' o at pos out
   laying-same ahead' e = rw e at i
 
@@ -138,6 +153,9 @@ module _ {all ahead : Result Attrs} {o : List ℕ} {at pos : ℕ} {out : List �
         )
 
     -- The body is lent the part from pos on.
+    pub laying-pos : pos ≤ length out
+    laying-pos = omega (arith, filling-pos i.filling)
+
     pub laying-ready : Ready enc c (rest pos out)
     laying-ready =
         record {
@@ -160,6 +178,9 @@ module _ {all ahead : Result Attrs} {o : List ℕ} {at pos : ℕ} {out : List �
 
       pub laying-entry : 5 ≤ length (rest at (back pos out ys))
       laying-entry = omega (arith, laying-at, length_rest at (back pos out ys))
+
+      pub laying-back : length (back pos out ys) ≡ length out
+      laying-back = omega (arith, filling-length half, laying-length)
 
       pub laying-small : (x ≤ most_bytes) × ((pos + x ≤ most_bytes) × (at + 5 ≤ most_bytes))
       laying-small = (

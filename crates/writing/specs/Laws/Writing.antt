@@ -1,8 +1,8 @@
 -- Writing at the front of a buffer, and in parts of it that are lent one after the other. Assumes nothing.
-use Rattle.std.specs.Prelude.{◌≡◌, refl, List, [], ◌∷◌, ◌++◌, ℕ, ◌+◌, ◌-◌, ◌≤◌, length, take, drop}
-use Rattle.std.proofs.Common.{ap, sym, ◌∙◌, append_assoc, append-nil, arith, length-append, length-drop, drop_of_length-le, take-append-drop, drop-drop, length-take-le}
-use Rattle.std.proofs.Math.Seq.{take-append_seam, drop-append_seam}
-use Rattle.std.proofs.lemmas.List.{drop-append-le}
+use Rattle.std.specs.Prelude.{◌≡◌, refl, List, [], ◌∷◌, ◌++◌, ℕ, suc, ◌+◌, ◌-◌, ◌≤◌, ◌<◌, length, take, drop, get_or, set}
+use Rattle.std.proofs.Common.{ap, sym, ◌∙◌, append_assoc, append-nil, arith, add-one, length-append, length-drop, drop_of_length-le, take-append-drop, take_all, drop-drop, length-take-le, drop-cons, take-suc}
+use Rattle.std.proofs.Math.Seq.{take-append_seam, drop-append_seam, append_snoc}
+use Rattle.std.proofs.lemmas.List.{drop-append-le, set_at}
 use Rattle.cedar.specs.Outcome.{over}
 use Rattle.forms.specs.Parts.{part, rest}
 use Rattle.forms.specs.Laws.Parts.{length_rest, part-is, rest-is}
@@ -21,6 +21,23 @@ over-front w o xs n e l = part-is n xs ∙ rw (e, l) (take-append_seam w (drop (
 
 pub written-length : {w o xs : List ℕ} {r : ℕ} → Written w o xs r → length w ≤ length o → length xs ≡ length o
 written-length {w} {o} t h = ap length t.bytes ∙ length_over w o h
+
+-- The copy of i bytes of a slice, and of one more.
+pub copy_more : (src o xs : List ℕ) (i : ℕ) → xs ≡ over (take i src) o → i < length src → length src ≤ length o →
+    set xs i (get_or src i 0) ≡ over (take (i + 1) src) o
+copy_more src o xs i e h g =
+    let l : length (take i src) ≡ i = length-take-le i src (omega arith) in
+    let m : length (take (suc i) src) ≡ suc i = length-take-le (suc i) src (omega arith) in
+    let f : xs ≡ take i src ++ (get_or o i 0 ∷ drop (suc i) o) = e ∙ rw (l, drop-cons o i 0 (omega arith)) refl in
+    ap (λ (z : List ℕ). set z i (get_or src i 0)) f
+    ∙ set_at (take i src) (get_or o i 0) (drop (suc i) o) (get_or src i 0) i l
+    ∙ rw (add-one i, m, take-suc src i 0 h) (sym (append_snoc (take i src) (get_or src i 0) (drop (suc i) o)))
+
+pub copy-length : (src o xs : List ℕ) (i : ℕ) → xs ≡ over (take i src) o → i ≤ length src → length src ≤ length o → length xs ≡ length o
+copy-length src o xs i e h g = ap length e ∙ length_over (take i src) o (omega (arith, length-take-le i src h))
+
+pub copy-end : (src o xs : List ℕ) (i : ℕ) → xs ≡ over (take i src) o → i ≤ length src → length src ≤ i → xs ≡ over src o
+copy-end src o xs i e h g = e ∙ ap (λ (z : List ℕ). over z o) (take_all i src g)
 
 -- p stands at the front, and w is written over what is between p and q.
 pub over-within : (o p m q w xs ys : List ℕ) (at : ℕ) → xs ≡ over (p ++ (m ++ q)) o → at ≡ length p → ys ≡ over w (rest at xs) → length w ≤ length m →
@@ -73,6 +90,10 @@ module _ {p o xs : List ℕ} {at : ℕ} (t : Written p o xs at) where
         bytes = over-at o p w xs ys at t.bytes t.many u.bytes h;
         many = omega (arith, t.many, u.many, length-append p w);
       }
+
+  -- What is written lies inside.
+  pub written-inside : at ≤ length xs
+  written-inside = omega (arith, t.many, ap length t.bytes, length-append p (drop (length p) o))
 
   -- There is room for k more bytes behind the front.
   pub written-left : (k : ℕ) → length p + k ≤ length o → (at + k ≤ length xs) × (k ≤ length (rest at xs)) × (at + k ≤ length o)
