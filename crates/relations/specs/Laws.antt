@@ -6,6 +6,7 @@ pub mod Shapes
 pub mod SameForm
 pub mod Walks
 pub mod Subtype
+pub mod Sets
 pub mod Meets
 pub mod Plain
 pub mod Covered

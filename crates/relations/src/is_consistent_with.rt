@@ -1,7 +1,7 @@
 // Whether a type and a core type, a plain one, may have a value in common.
 ghost use Rattle.std.specs.Prelude.{◌≡◌, ◌≤◌, length};
 ghost use Rattle.cedar.specs.Consistency.{covered_names, consistent_entity, consistent, consistent_attrs};
-ghost use Rattle.cedar.specs.Types.{set, rec};
+ghost use Rattle.cedar.specs.Types.{rec};
 ghost use Rattle.forms.specs.Kinds.{kind_number};
 ghost use Rattle.forms.specs.Names.{names_in, Ascending};
 ghost use Rattle.forms.specs.TypeForms.{type_of, listed};
@@ -9,6 +9,7 @@ ghost use Rattle.relations.specs.Meets.{kind_meets};
 
 use crate::is_plain::kind_is_plain;
 use crate::names::names_share;
+use crate::sets::past_sets;
 use forms::kinds::Kind;
 use forms::numbers::u16_at;
 use forms::type_forms::{AttributeForms, Shape, TypeForm};
@@ -98,35 +99,25 @@ fn record_consistent(t: TypeForm, core_open: bool, core: AttributeForms) -> bool
     }
 }
 
-// Whether a type is consistent with a core set.
-#[cycle(attributes_consistent_is_consistent_with)]
-fn set_consistent(t: TypeForm, core: TypeForm) -> bool
-    ensures { result ≡ consistent (type_of t.entry) (set (type_of core.entry)) }
-{
-    match t.shape() {
-        Shape::Set(element) => is_consistent_with(element, core),
-        _ => false,
-    }
-}
-
 // Whether t0 is consistent with t1, a core type.
 #[cycle(attributes_consistent_is_consistent_with)]
 #[inline]
 pub fn is_consistent_with(t0: TypeForm, t1: TypeForm) -> bool
     ensures { result ≡ consistent (type_of t0.entry) (type_of t1.entry) }
 {
-    match t1.shape() {
+    let (t, core) = past_sets(t0, t1);
+    match core.shape() {
         Shape::Plain(k) => {
-            let j = t0.kind();
+            let j = t.kind();
             if j == k {
                 return kind_is_plain(k);
             }
             kind_consistent(j, k)
         }
-        Shape::Set(core) => set_consistent(t0, core),
-        Shape::Record(is_open, core) => record_consistent(t0, is_open, core),
-        Shape::Entity(names) => entity_consistent(t0, names),
+        Shape::Set(_) => false,
+        Shape::Record(is_open, attributes) => record_consistent(t, is_open, attributes),
+        Shape::Entity(names) => entity_consistent(t, names),
         Shape::Action(_, _) => false,
-        Shape::Extension(_) => t0.same(t1),
+        Shape::Extension(_) => t.same(core),
     }
 }

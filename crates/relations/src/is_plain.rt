@@ -5,6 +5,7 @@ ghost use Rattle.forms.specs.Kinds.{kind_number};
 ghost use Rattle.forms.specs.TypeForms.{type_of, listed};
 ghost use Rattle.relations.specs.Meets.{plain_kind};
 
+use crate::sets::past_own_sets;
 use forms::kinds::Kind;
 use forms::type_forms::{AttributeForms, Shape, TypeForm};
 use forms::widths::Width;
@@ -37,9 +38,10 @@ fn attributes_plain(mut attributes: AttributeForms) -> bool
 pub fn is_plain(t: TypeForm) -> bool
     ensures { result ≡ plain (type_of t.entry) }
 {
-    match t.shape() {
+    let left = past_own_sets(t);
+    match left.shape() {
         Shape::Plain(kind) => kind_is_plain(kind),
-        Shape::Set(element) => is_plain(element),
+        Shape::Set(_) => false,
         Shape::Record(_, attributes) => attributes_plain(attributes),
         Shape::Entity(names) => names.len() == Width::NAME,
         Shape::Action(_, _) => false,

@@ -1,7 +1,7 @@
 // Whether a type is a subtype of another.
 ghost use Rattle.std.specs.Prelude.{◌≡◌};
 ghost use Rattle.cedar.specs.Subtype.{sub_flag, sub_names, sub, sub_attrs};
-ghost use Rattle.cedar.specs.Types.{set, rec, ent, names};
+ghost use Rattle.cedar.specs.Types.{rec, ent, names};
 ghost use Rattle.forms.specs.Kinds.{kind_number};
 ghost use Rattle.forms.specs.Modes.{as_mode};
 ghost use Rattle.forms.specs.Names.{names_in, Ascending};
@@ -9,6 +9,7 @@ ghost use Rattle.forms.specs.TypeForms.{type_of, listed};
 ghost use Rattle.relations.specs.Under.{kind_under, record_under};
 
 use crate::names::names_subset;
+use crate::sets::past_sets;
 use forms::kinds::Kind;
 use forms::modes::Mode;
 use forms::type_forms::{AttributeForms, Shape, TypeForm};
@@ -115,29 +116,33 @@ fn record_subtype(mode: Mode, t: TypeForm, upper_open: bool, upper: AttributeFor
     }
 }
 
-// Whether a type stands under a set.
-#[cycle(attributes_subtype_is_subtype)]
-fn set_under(mode: Mode, t: TypeForm, upper: TypeForm) -> bool
-    ensures { result ≡ sub (as_mode mode) (type_of t.entry) (set (type_of upper.entry)) }
-{
-    match t.shape() {
-        Shape::Set(lower) => is_subtype(mode, lower, upper),
-        _ => t.kind() == Kind::Never,
-    }
-}
-
-// Whether t0 is a subtype of t1.
+// Whether t0 is a subtype of t1. For a type without parts, as most attributes have, the loop over them calls nothing.
 #[cycle(attributes_subtype_is_subtype)]
 #[inline]
 pub fn is_subtype(mode: Mode, t0: TypeForm, t1: TypeForm) -> bool
     ensures { result ≡ sub (as_mode mode) (type_of t0.entry) (type_of t1.entry) }
 {
-    let j = t0.kind();
     match t1.shape() {
+        Shape::Plain(k) => {
+            let j = t0.kind();
+            j == k || kind_under(mode, j, k)
+        }
+        _ => parts_subtype(mode, t0, t1),
+    }
+}
+
+// The same, by the parts of the types.
+#[cycle(attributes_subtype_is_subtype)]
+fn parts_subtype(mode: Mode, t0: TypeForm, t1: TypeForm) -> bool
+    ensures { result ≡ sub (as_mode mode) (type_of t0.entry) (type_of t1.entry) }
+{
+    let (lower, upper) = past_sets(t0, t1);
+    let j = lower.kind();
+    match upper.shape() {
         Shape::Plain(k) => j == k || kind_under(mode, j, k),
-        Shape::Set(upper) => set_under(mode, t0, upper),
-        Shape::Record(is_open, upper) => record_subtype(mode, t0, is_open, upper),
-        Shape::Entity(names) => entity_under(mode, t0, names),
-        Shape::Action(_, _) | Shape::Extension(_) => j == Kind::Never || t0.same(t1),
+        Shape::Set(_) => j == Kind::Never,
+        Shape::Record(is_open, attributes) => record_subtype(mode, lower, is_open, attributes),
+        Shape::Entity(names) => entity_under(mode, lower, names),
+        Shape::Action(_, _) | Shape::Extension(_) => j == Kind::Never || lower.same(upper),
     }
 }

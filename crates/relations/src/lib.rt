@@ -6,3 +6,4 @@ pub mod is_consistent_with;
 pub mod is_plain;
 pub mod is_subtype;
 pub mod names;
+pub mod sets;

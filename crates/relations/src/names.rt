@@ -3,26 +3,9 @@ ghost use Rattle.std.specs.Prelude.{◌≡◌};
 ghost use Rattle.cedar.specs.Disjoint.{shares};
 ghost use Rattle.cedar.specs.Subtype.{subset};
 ghost use Rattle.forms.specs.Names.{names_in, Ascending};
-ghost use Rattle.relations.specs.Names.{from_name};
 
 use forms::numbers::u16_at;
 use forms::widths::Width;
-
-// The names of a list from the first on that is not below a name.
-fn from_name(names: &[u8], name: usize) -> &[u8]
-    requires { Ascending names.now }
-    ensures is { names_in result.now ≡ from_name name (names_in names.now) }
-    ensures up { Ascending result.now }
-{
-    let mut b = names;
-    while !b.is_empty() {
-        if name <= u16_at(b, 0) {
-            return b;
-        }
-        b = &b[Width::NAME..];
-    }
-    b
-}
 
 // Whether two lists have a name in common: the search stops at the first. What is below a name of the first list is passed for good, so each
 // list is gone through once.
@@ -31,20 +14,25 @@ pub fn names_share(first: &[u8], second: &[u8]) -> bool
     requires second_up { Ascending second.now }
     ensures { result ≡ shares (names_in first.now) (names_in second.now) }
 {
+    let mut shared = false;
     let mut a = first;
     let mut b = second;
-    while !a.is_empty() {
+    'search: while !a.is_empty() {
         let x = u16_at(a, 0);
-        b = from_name(b, x);
-        if b.is_empty() {
-            return false;
-        }
-        if x == u16_at(b, 0) {
-            return true;
+        while !b.is_empty() {
+            let y = u16_at(b, 0);
+            if x == y {
+                shared = true;
+                break 'search;
+            }
+            if x < y {
+                break;
+            }
+            b = &b[Width::NAME..];
         }
         a = &a[Width::NAME..];
     }
-    false
+    shared
 }
 
 // Whether each name of the first list stands in the second.

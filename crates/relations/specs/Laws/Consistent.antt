@@ -13,7 +13,10 @@ use Rattle.forms.specs.declared.kinds.Kind.{Kind}
 use Rattle.forms.specs.Laws.TypeForms.{plain-code}
 use Rattle.relations.specs.Meets.{plain_kind, kind_meets}
 use Rattle.relations.specs.Laws.Under.{atom-of}
-use Rattle.relations.specs.Laws.Meets.{atom-meets, meets-atom}
+use Rattle.relations.specs.Laws.Meets.{atom-meets, meets-atom, consistent-kinds, kinds-meet}
+use Rattle.forms.specs.Parts.{kind}
+use Rattle.forms.specs.TypeBytes.{whole, dec}
+use Rattle.forms.specs.Laws.Codes.{code-dec}
 
 module _ (a b : Ty) where
   pub with-set : {x y : Ty} → a ≡ set x → b ≡ set y → consistent x y ≡ consistent a b
@@ -66,3 +69,18 @@ module _ (a b : Ty) where
     pub with-unlike : (n ≡ kind_number k → ⊥) → kind_meets n (kind_number k) ≡ consistent a b
     with-unlike h =
         sym (with-atom ∙ meets-atom a p.which (λ e. h (c ∙ e ∙ plain-code p)) ∙ ap₂ kind_meets (sym c) (plain-code p))
+
+-- The same of whole forms, by their first bytes.
+module _ (l : ℕ) (a b : List ℕ) (h : whole l a ≡ true) (g : whole l b ≡ true) where
+  pub unlike-kinds : (kind b ≡ 10 → ⊥) → (kind a ≡ kind b → ⊥) → kind_meets (kind a) (kind b) ≡ consistent (dec l a) (dec l b)
+  unlike-kinds k n =
+      sym (consistent-kinds (dec l a) (dec l b) (λ e. n (sym (code-dec l a h) ∙ e ∙ code-dec l b g)) (λ e. k (sym (code-dec l b g) ∙ e)) ∙
+      ap₂ kind_meets (code-dec l a h) (code-dec l b g))
+
+  -- Kinds that are alike.
+  module _ (e : kind a ≡ kind b) where
+    pub with-kind : (kind b ≡ 10 → ⊥) → (kind b ≡ 7 → ⊥) → (kind b ≡ 8 → ⊥) → (kind b ≡ 12 → ⊥) → plain_kind (kind b) ≡ consistent (dec l a) (dec l b)
+    with-kind r p q s =
+        let c = code-dec l b g in
+        ap plain_kind (sym c)
+        ∙ kinds-meet (dec l a) (dec l b) (code-dec l a h ∙ e ∙ sym c) (λ z. p (sym c ∙ z)) (λ z. q (sym c ∙ z)) (λ z. r (sym c ∙ z)) (λ z. s (sym c ∙ z))

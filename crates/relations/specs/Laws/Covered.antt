@@ -1,15 +1,24 @@
 -- The names of one attribute list, looked for in another. Assumes nothing.
-use Rattle.std.specs.Prelude.{◌≡◌, Bool, true, false, not, ◌||◌, ◌&&◌, ℕ, suc, ◌≤◌}
+use Rattle.std.specs.Prelude.{◌≡◌, Bool, true, false, not, ◌||◌, ◌&&◌, ℕ, suc, ◌≤◌, cond, eqb}
 use Rattle.std.proofs.Math.Path.{refl, ap}
 use Rattle.std.proofs.Common.{ap₂, ◌∙◌, arith}
-use Rattle.std.proofs.Math.Option.{Option}
-use Rattle.cedar.specs.Types.{Ty, Attrs, nil, attr, names, find, present}
+use Rattle.std.proofs.Math.Option.{Option, some}
+use Rattle.cedar.specs.Types.{Ty, Attrs, nil, attr, names, find, present, mem}
 use Rattle.cedar.specs.Laws.Shape.{Ascend}
 use Rattle.cedar.specs.Consistency.{covered_names}
 use Rattle.forms.specs.TypeForms.{listed, TookFirstAttribute, PassedAttributes, IsAttribute}
 use Rattle.forms.specs.declared.type_forms.AttributeForm.{AttributeForm}
 use Rattle.forms.specs.declared.type_forms.AttributeForms.{AttributeForms}
 use Rattle.relations.specs.Laws.Walks.{above}
+
+-- An attribute is found where its name is one of the list.
+pub find-mem : (k : ℕ) (ys : Attrs) → present (find k ys) ≡ mem k (names ys)
+find-mem k nil = refl
+find-mem k (attr n r t ys) = go (eqb k n) (find-mem k ys)
+  where
+    go : (b : Bool) → present (find k ys) ≡ mem k (names ys) → present (cond b (some (r, t)) (find k ys)) ≡ (b || mem k (names ys))
+    go true h = refl
+    go false h = h
 
 or-true : (x : Bool) → x || true ≡ true
 or-true true = refl

@@ -1,11 +1,11 @@
 -- The names of types, and whether two types share one. Assumes nothing.
-use Rattle.std.specs.Prelude.{◌≡◌, ℕ, ◌≤◌, length}
+use Rattle.std.specs.Prelude.{◌≡◌, ℕ, ◌≤◌, length, refl, List, Bool, false, not}
 use Rattle.std.proofs.Math.Path.{ap, sym}
 use Rattle.std.proofs.Common.{◌∙◌}
-use Rattle.std.proofs.Math.Option.{some}
+use Rattle.std.proofs.Math.Option.{some, none}
 use native.Mathlib.Omega.{arith}
-use Rattle.cedar.specs.Types.{Attrs, act}
-use Rattle.cedar.specs.Disjoint.{type_names}
+use Rattle.cedar.specs.Types.{Attrs, act, Ty, atom, set, rec, ent, ext}
+use Rattle.cedar.specs.Disjoint.{type_names, shares, disjoint}
 use Rattle.forms.specs.Codes.{code}
 use Rattle.forms.specs.Parts.{part, kind}
 use Rattle.forms.specs.TypeForms.{type_of}
@@ -28,3 +28,21 @@ module _ (t : TypeForm) {n : ℕ} {xs : Attrs} (e : type_of t ≡ act n xs) wher
         is = ap type_names (as_action t action-kind).is ∙ ap some (sym (one-name-is 1 t.bytes.now name-room));
         up = one-name 1 t.bytes.now name-room;
       }
+
+-- Which types have names, and what disjoint ones are by their names.
+pub no_names : (t : Ty) → (code t ≡ 10 → ⊥) → (code t ≡ 11 → ⊥) → type_names t ≡ none
+no_names (atom k) p q = refl
+no_names (set t) p q = refl
+no_names (rec o xs) p q = refl
+no_names (act n xs) p q = absurd (q refl)
+no_names (ent ns) p q = absurd (p refl)
+no_names (ext n) p q = refl
+
+pub disjoint-first : (t u : Ty) → type_names t ≡ none → false ≡ disjoint t u
+disjoint-first t u e = rw e refl
+
+pub disjoint-second : (t u : Ty) (ns : List ℕ) → type_names t ≡ some ns → type_names u ≡ none → false ≡ disjoint t u
+disjoint-second t u ns e f = rw (e, f) refl
+
+pub disjoint-both : (t u : Ty) (ns ks : List ℕ) (r : Bool) → type_names t ≡ some ns → type_names u ≡ some ks → r ≡ shares ns ks → not r ≡ disjoint t u
+disjoint-both t u ns ks r e f q = rw (e, f, q) refl

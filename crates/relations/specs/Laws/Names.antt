@@ -21,12 +21,12 @@ use Rattle.forms.specs.Laws.NamesIn.{names-over}
 use Rattle.relations.specs.Names.{from_name}
 
 -- A name below all names of a list is not in it.
-mem_below : (x low : ℕ) (ks : List ℕ) → Ascend low ks → x < low → mem x ks ≡ false
+pub mem_below : (x low : ℕ) (ks : List ℕ) → Ascend low ks → x < low → mem x ks ≡ false
 mem_below x low [] a h = refl
 mem_below x low (k ∷ ks) a h = rw (ne_eqb x k (λ e. let p = a.0 in omega arith)) (mem_below x (suc k) ks a.1 (let p = a.0 in omega arith))
 
 -- A name of the second list that is below all of the first does not count.
-shares-skip : (y low : ℕ) (ns ks : List ℕ) → Ascend low ns → y < low → shares ns (y ∷ ks) ≡ shares ns ks
+pub shares-skip : (y low : ℕ) (ns ks : List ℕ) → Ascend low ns → y < low → shares ns (y ∷ ks) ≡ shares ns ks
 shares-skip y low [] ks a h = refl
 shares-skip y low (n ∷ ns) ks a h =
     rw (ne_eqb n y (λ e. let p = a.0 in omega arith)) (ap (λ (z : Bool). mem n ks || z) (shares-skip y (suc n) ns ks a.1 (let p = a.0 in omega arith)))
@@ -191,6 +191,18 @@ module _ {ns ks a b : List ℕ} (i : Walk shares ns ks a b) where
               i.same ∙ ap (λ (z : List ℕ). shares z (names_in b)) u.is
               ∙ sym (shares-from (rd a 0) (rd a 0 ∷ names_in (rest 2 a)) (names_in b) (omega arith, u.above))
               ∙ ap₂ shares (sym u.is) (sym e);
+        }
+
+    -- Where the second list has no names left, no name of the first is in it.
+    pub share-none : length b ≡ 0 → Walk shares ns ks (rest 2 a) b
+    share-none h =
+        let e = names-over b (omega (arith, h)) in
+        record {
+          first = (first-name i.first p).more;
+          second = i.second;
+          same =
+              i.same ∙ ap (shares (names_in a)) e ∙ shares-nothing (names_in a) ∙ sym (shares-nothing (names_in (rest 2 a)))
+              ∙ ap (shares (names_in (rest 2 a))) (sym e);
         }
 
     module _ (q : length b ≡ 0 → ⊥) where

@@ -14,7 +14,10 @@ use Rattle.forms.specs.Laws.Names.{names-length}
 use Rattle.forms.specs.Laws.Sure.{eqb_same}
 use Rattle.forms.specs.Laws.TypeForms.{plain-code}
 use Rattle.relations.specs.Meets.{plain_kind}
-use Rattle.relations.specs.Laws.Meets.{plain-atom}
+use Rattle.relations.specs.Laws.Meets.{plain-atom, plain_code}
+use Rattle.forms.specs.Parts.{kind}
+use Rattle.forms.specs.TypeBytes.{whole, dec}
+use Rattle.forms.specs.Laws.Codes.{code-dec}
 
 -- A walk that has come so far: what is left answers for the whole.
 pub plain-end : {all : Bool} {xs : Attrs} → all ≡ plain_attrs xs → xs ≡ nil → true ≡ all
@@ -58,3 +61,10 @@ module _ (t : Ty) where
 
   pub plain-plain : {k : Kind} → IsPlain t k → plain_kind (kind_number k) ≡ plain t
   plain-plain p = ap plain_kind (sym (plain-code p)) ∙ plain-atom p.which ∙ sym (ap plain p.is)
+
+-- A form of a kind without parts, or of an action, by its first byte.
+pub plain_other : (l : ℕ) (b : List ℕ) → whole l b ≡ true → (kind b ≡ 7 → ⊥) → (kind b ≡ 8 → ⊥) → (kind b ≡ 10 → ⊥) → (kind b ≡ 12 → ⊥) →
+    plain_kind (kind b) ≡ plain (dec l b)
+plain_other l b h p q r s =
+    let c = code-dec l b h in
+    ap plain_kind (sym c) ∙ plain_code (dec l b) (λ z. p (sym c ∙ z)) (λ z. q (sym c ∙ z)) (λ z. r (sym c ∙ z)) (λ z. s (sym c ∙ z))

@@ -4,7 +4,7 @@ use Rattle.std.proofs.Common.{ap, ◌∙◌, ◌⊎◌, inl, inr}
 use Rattle.std.proofs.Math.Path.{ap₂, sym}
 use Rattle.std.proofs.Math.Option.{none}
 use mathlib.Core.List.{List}
-use Rattle.cedar.specs.Types.{Mode, Atom, Ty, Attrs, atom, set, rec, act, ent, ext, never, is, same, names, is_never, as_set, as_rec, as_ent}
+use Rattle.cedar.specs.Types.{Mode, Atom, Ty, Attrs, atom, set, rec, act, ent, ext, never, is, same, names, is_never, as_set, as_rec, as_ent, eq_names}
 use Rattle.cedar.specs.Subtype.{sub_names, sub, sub_attrs}
 use Rattle.cedar.proofs.Laws.Tests.{T→true, or_inl, or_inr}
 use Rattle.cedar.proofs.Laws.Equality.{is-refl}
@@ -18,7 +18,14 @@ use Rattle.forms.specs.declared.type_forms.Shape.TheVariants as shape
 use Rattle.forms.specs.declared.kinds.Kind.{Kind}
 use Rattle.forms.specs.Laws.TypeForms.{plain-code}
 use Rattle.relations.specs.Under.{kind_under, record_under}
-use Rattle.relations.specs.Laws.Under.{never-code, atom-of, under-atom}
+use Rattle.relations.specs.Laws.Under.{never-code, atom-of, under-atom, one-injective, sub-kinds}
+use Rattle.cedar.specs.Bytes.{Bytes}
+use Rattle.cedar.specs.TypeForm.{kind_of}
+use Rattle.forms.specs.Parts.{kind}
+use Rattle.forms.specs.TypeBytes.{whole, dec}
+use Rattle.forms.specs.Laws.Views.{is-action, is-extension, is-atom}
+use Rattle.forms.specs.Laws.Codes.{code-dec}
+use Rattle.relations.specs.Laws.SameForm.{same-types}
 
 itself-under : (m : Mode) (k : Atom) → sub m (atom k) (atom k) ≡ true
 unfolding sub
@@ -99,3 +106,33 @@ module _ (m : Mode) (a : Ty) where
       sub m a (type_of t) ≡ (is_never a || same a (type_of t))
   same-only t s p (inl (n, xs, e)) = under-action (type_of t) (rw e at p).0
   same-only t s p (inr (n, e)) = under-extension (type_of t) (rw e at p).0
+
+-- The same of whole forms, by their first bytes.
+module _ (m : Mode) (l : ℕ) (a b : List ℕ) (h : whole l a ≡ true) (g : whole l b ≡ true) where
+  -- Unlike kinds.
+  pub unlike-kinds : (kind a ≡ kind b → ⊥) → (r : Bool) → r ≡ kind_under m (kind a) (kind b) → r ≡ sub m (dec l a) (dec l b)
+  unlike-kinds n r q =
+      q ∙ sym (sub-kinds m (dec l a) (dec l b) (λ e. n (sym (code-dec l a h) ∙ e ∙ code-dec l b g)) ∙ ap₂ (kind_under m) (code-dec l a h) (code-dec l b g))
+
+  -- Kinds that are alike.
+  module _ (e : kind a ≡ kind b) where
+    pub action-under : Bytes a → Bytes b → kind b ≡ 11 → eq_names a b ≡ sub m (dec l a) (dec l b)
+    unfolding sub
+    action-under x y k =
+        let s = (is-action l a h (e ∙ k)).is in
+        let t = (is-action l b g k).is in
+        same-types l a b x y h g ∙ ap₂ same s t ∙ sym (ap₂ (sub m) s t)
+
+    pub extension-under : Bytes a → Bytes b → kind b ≡ 12 → eq_names a b ≡ sub m (dec l a) (dec l b)
+    unfolding sub
+    extension-under x y k =
+        let s = (is-extension l a h (e ∙ k)).is in
+        let t = (is-extension l b g k).is in
+        same-types l a b x y h g ∙ ap₂ same s t ∙ sym (ap₂ (sub m) s t)
+
+    pub atoms-under : (kind b ≡ 7 → ⊥) → (kind b ≡ 8 → ⊥) → (kind b ≡ 10 → ⊥) → (kind b ≡ 11 → ⊥) → (kind b ≡ 12 → ⊥) → true ≡ sub m (dec l a) (dec l b)
+    atoms-under p q r s t =
+        let x = is-atom l a h (λ z. p (sym e ∙ z)) (λ z. q (sym e ∙ z)) (λ z. r (sym e ∙ z)) (λ z. s (sym e ∙ z)) (λ z. t (sym e ∙ z)) in
+        let y = is-atom l b g p q r s t in
+        let j : x.kind-of ≡ y.kind-of = one-injective (sym x.kind-is ∙ ap kind_of e ∙ y.kind-is) in
+        sym (ap₂ (sub m) (x.is ∙ ap atom j) y.is ∙ itself-under m y.kind-of)

@@ -1,19 +1,25 @@
 -- Subtypes by what a form shows before its parts. Assumes nothing.
-use Rattle.std.specs.Prelude.{◌≡◌, List, Bool, true, false, not, ◌||◌, cond, ◌&&◌, ℕ, T, eqb}
+use Rattle.std.specs.Prelude.{◌≡◌, List, Bool, true, false, not, ◌||◌, cond, ◌&&◌, ℕ, T, eqb, zero, suc, ◌≤◌, ◌<◌, leb}
 use Rattle.std.proofs.Math.Path.{refl}
-use Rattle.std.proofs.Common.{ap, sym, ◌∙◌, eqb→eq}
-use borrow.Author.Tests.{ne_eqb, eqb-false}
-use Rattle.cedar.specs.Types.{is_never, Mode, is_permissive, Atom, never, true', false', bool, long}
+use Rattle.std.proofs.Common.{ap, sym, ◌∙◌, eqb→eq, arith}
+use borrow.Author.Tests.{ne_eqb, eqb-false, eq-eqb}
+use Rattle.cedar.specs.Types.{is_never, Mode, is_permissive, Atom, never, true', false', bool, long, as_set, as_rec, as_ent, same, eq_flag}
 use Rattle.cedar.specs.Types.{string, anyset, anyent, Ty, atom, set, rec, act, ent, ext, is, eq_names}
-use Rattle.cedar.specs.Subtype.{sub_atom}
+use Rattle.cedar.specs.Subtype.{sub_atom, sub_flag, sub}
 use Rattle.cedar.specs.TypeForm.{one, kind_of, atom_code}
-use Rattle.cedar.proofs.Laws.Tests.{T-ext, eqb-equal}
-use Rattle.cedar.proofs.Laws.Equality.{is→eq, is-refl}
+use Rattle.cedar.proofs.Laws.Tests.{T-ext, eqb-equal, not-T→false}
+use Rattle.cedar.proofs.Laws.Equality.{is→eq, is-refl, same→eq}
 use Rattle.relations.specs.Under.{kind_under, record_under}
+use Rattle.forms.specs.Laws.Codes.{no-set-code}
 use Rattle.forms.specs.Codes.{code}
+use Rattle.std.proofs.Math.Option.{none}
 
 -- Kinds, as `kind_under` tests them.
 module _ (m : Mode) (j k : ℕ) where
+  pub under-never : j ≡ 0 → true ≡ kind_under m j k
+  unfolding kind_under
+  under-never e = rw (eq-eqb j 0 e) refl
+
   pub under-bool : k ≡ 3 → kind_under m j k ≡ (eqb j 0 || (eqb j 1 || eqb j 2))
   unfolding kind_under
   under-bool e = rw e refl
@@ -78,10 +84,10 @@ by-atom P a b c d e f g h anyset = g
 by-atom P a b c d e f g h anyent = h
 
 -- Atoms are equal where their bytes are.
-atom-kind : (a : Atom) → kind_of (atom_code a) ≡ one a
+pub atom-kind : (a : Atom) → kind_of (atom_code a) ≡ one a
 atom-kind a = by-atom (λ a. kind_of (atom_code a) ≡ one a) refl refl refl refl refl refl refl refl a
 
-one-injective : {a b : Atom} → one a ≡ one b → a ≡ b
+pub one-injective : {a b : Atom} → one a ≡ one b → a ≡ b
 one-injective e = cc
 
 pub is_code : (j k : Atom) → is j k ≡ eqb (atom_code j) (atom_code k)
@@ -117,7 +123,7 @@ not-parts a =
     )
     (refl, refl, refl, refl, refl) (refl, refl, refl, refl, refl) (refl, refl, refl, refl, refl) (refl, refl, refl, refl, refl) a
 
-not_code : (a : Atom) (c : ℕ) → eqb (atom_code a) c ≡ false → c ≡ atom_code a → ⊥
+pub not_code : (a : Atom) (c : ℕ) → eqb (atom_code a) c ≡ false → c ≡ atom_code a → ⊥
 not_code a c h e = eqb-false (atom_code a) c h (sym e)
 
 -- A type of an atom's kind is that atom.
@@ -150,3 +156,91 @@ under-atom m (rec o xs) k n = by-atom (λ k. false ≡ kind_under m 8 (atom_code
 under-atom m (act i xs) k n = by-atom (λ k. is k anyent && is_permissive m ≡ kind_under m 11 (atom_code k)) refl refl refl refl refl refl refl refl k
 under-atom m (ent ns) k n = by-atom (λ k. is k anyent && is_permissive m ≡ kind_under m 10 (atom_code k)) refl refl refl refl refl refl refl refl k
 under-atom m (ext i) k n = by-atom (λ k. false ≡ kind_under m 12 (atom_code k)) refl refl refl refl refl refl refl refl k
+
+-- Types of unlike kinds show unlike parts.
+pub no-set-of : (a : Ty) → (code a ≡ 7 → ⊥) → as_set a ≡ none
+no-set-of = no-set-code
+
+pub no_record : (a : Ty) → (code a ≡ 8 → ⊥) → as_rec a ≡ none
+no_record (atom k) n = refl
+no_record (set t) n = refl
+no_record (rec o xs) n = absurd (n refl)
+no_record (act i xs) n = refl
+no_record (ent ns) n = refl
+no_record (ext i) n = refl
+
+pub no-entity-of : (a : Ty) → (code a ≡ 10 → ⊥) → as_ent a ≡ none
+no-entity-of (atom k) n = refl
+no-entity-of (set t) n = refl
+no-entity-of (rec o xs) n = refl
+no-entity-of (act i xs) n = refl
+no-entity-of (ent ns) n = absurd (n refl)
+no-entity-of (ext i) n = refl
+
+pub unlike : (a b : Ty) → (code a ≡ code b → ⊥) → same a b ≡ false
+unlike a b n = not-T→false (same a b) (λ t. n (ap code (same→eq a b t)))
+
+-- Types of unlike kinds, by their first bytes.
+pub sub-kinds : (m : Mode) (a b : Ty) → (code a ≡ code b → ⊥) → sub m a b ≡ kind_under m (code a) (code b)
+unfolding sub kind_under
+sub-kinds m a (atom k) n = under-atom m a k n
+sub-kinds m a (set u) n = rw (no-set-of a n, never-code a) refl
+sub-kinds m a (rec p ys) n = rw (no_record a n, never-code a) refl
+sub-kinds m a (act i ys) n = rw (unlike a (act i ys) n, never-code a) refl
+sub-kinds m a (ent ks) n = rw (no-entity-of a n, never-code a) refl
+sub-kinds m a (ext i) n = rw (unlike a (ext i) n, never-code a) refl
+
+-- Flags, by their bytes.
+module _ (m : Mode) where
+  pub flag-permissive : (r s : ℕ) → r ≤ 1 → s ≤ 1 → is_permissive m ≡ true → leb s r ≡ sub_flag m (eqb r 1) (eqb s 1)
+  flag-permissive r s p q e = rw e (go r s p q)
+    where
+      go : (r s : ℕ) → r ≤ 1 → s ≤ 1 → leb s r ≡ (eqb r 1 || not (eqb s 1))
+      go zero zero p q = refl
+      go zero (suc zero) p q = refl
+      go zero (suc (suc s)) p q = absurd (omega arith)
+      go (suc zero) zero p q = refl
+      go (suc zero) (suc zero) p q = refl
+      go (suc zero) (suc (suc s)) p q = absurd (omega arith)
+      go (suc (suc r)) s p q = absurd (omega arith)
+
+  pub flag-strict : (r s : ℕ) → r ≤ 1 → s ≤ 1 → is_permissive m ≡ false → eqb r s ≡ sub_flag m (eqb r 1) (eqb s 1)
+  flag-strict r s p q e = rw e (go r s p q)
+    where
+      go : (r s : ℕ) → r ≤ 1 → s ≤ 1 → eqb r s ≡ eq_flag (eqb r 1) (eqb s 1)
+      go zero zero p q = refl
+      go zero (suc zero) p q = refl
+      go zero (suc (suc s)) p q = absurd (omega arith)
+      go (suc zero) zero p q = refl
+      go (suc zero) (suc zero) p q = refl
+      go (suc zero) (suc (suc s)) p q = absurd (omega arith)
+      go (suc (suc r)) s p q = absurd (omega arith)
+
+  -- Records, by the bytes of their flags.
+  module _ (o p : ℕ) (ns ks : List ℕ) where
+    pub open_no : o ≤ 1 → p < o → false ≡ record_under m (eqb o 1) ns (eqb p 1) ks
+    unfolding record_under
+    open_no h g = rw (eq-eqb o 1 (omega arith), ne_eqb p 1 (λ e. omega arith)) refl
+
+    module _ (h : p ≤ 1) (g : o ≤ p) where
+      opens : not (eqb o 1) || eqb p 1 ≡ true
+      opens = go o p h g
+        where
+          go : (o p : ℕ) → p ≤ 1 → o ≤ p → not (eqb o 1) || eqb p 1 ≡ true
+          go zero p h g = refl
+          go (suc zero) zero h g = absurd (omega arith)
+          go (suc zero) (suc zero) h g = refl
+          go (suc zero) (suc (suc p)) h g = absurd (omega arith)
+          go (suc (suc o)) p h g = absurd (omega arith)
+
+      pub open-same : eq_names ns ks ≡ true → true ≡ record_under m (eqb o 1) ns (eqb p 1) ks
+      unfolding record_under
+      open-same e = rw (opens, e) refl
+
+      pub open_more : eq_names ns ks ≡ false → is_permissive m ≡ true → eqb p 1 ≡ record_under m (eqb o 1) ns (eqb p 1) ks
+      unfolding record_under
+      open_more e f = rw (opens, e, f) refl
+
+      pub open-unlike : eq_names ns ks ≡ false → is_permissive m ≡ false → false ≡ record_under m (eqb o 1) ns (eqb p 1) ks
+      unfolding record_under
+      open-unlike e f = rw (opens, e, f) refl

@@ -14,7 +14,7 @@ use Rattle.forms.specs.declared.type_forms.AttributeForms.{AttributeForms}
 use Rattle.forms.specs.Laws.Attributes.{entry, attrs-none}
 
 -- The names of attributes in order ascend.
-sound-ascends : {l n low : ℕ} {es bs : List ℕ} → Sound l n low es bs → Ascend low (names (dec_a (dec l) n es bs))
+pub sound-ascends : {l n low : ℕ} {es bs : List ℕ} → Sound l n low es bs → Ascend low (names (dec_a (dec l) n es bs))
 sound-ascends {l} {n} {low} {es} {bs} s = go n low es bs s
   where
     go : (n low : ℕ) (es bs : List ℕ) → Sound l n low es bs → Ascend low (names (dec_a (dec l) n es bs))
@@ -29,7 +29,7 @@ pub above : {xs ys : AttributeForms} {a : AttributeForm} → TookFirstAttribute 
 above {xs} t = let h : Ascend 0 (names (listed xs)) = sound-ascends xs.sound in (rw t.all at h).1
 
 -- Two lists that have the same from a name on are the same to a list of names from there on.
-sub-later : (m : Mode) (xs zs ys : Attrs) (low : ℕ) → Ascend low (names ys) → ((k : ℕ) → low ≤ k → find k xs ≡ find k zs) →
+pub sub-later : (m : Mode) (xs zs ys : Attrs) (low : ℕ) → Ascend low (names ys) → ((k : ℕ) → low ≤ k → find k xs ≡ find k zs) →
     sub_attrs m xs ys ≡ sub_attrs m zs ys
 unfolding sub
 sub-later m xs zs nil low a h = refl

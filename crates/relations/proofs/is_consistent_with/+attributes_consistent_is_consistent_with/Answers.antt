@@ -2,11 +2,11 @@ use Rattle.std.proofs.Common.{refl, sym, ap, ◌∙◌}
 use Rattle.cedar.specs.Consistency.{consistent}
 use Rattle.forms.specs.TypeForms.{type_of}
 use Rattle.forms.specs.Laws.Kinds.{kinds-agree, kinds-differ}
-use Rattle.relations.specs.Laws.Consistent.{with-set, set-not, with-entity, with-action, with-extension, record-not, attributes-not, with-record}
+use Rattle.relations.specs.Laws.Consistent.{set-not, with-entity, with-action, with-extension, record-not, attributes-not, with-record}
 use Rattle.relations.specs.Laws.Consistent.{with-alike, with-unlike}
 use Rattle.relations.specs.Laws.Meeting.{meeting-end, meeting-not, meeting-again, alone-not, alone-optional, alone-open}
 use Rattle.relations.specs.Laws.Names.{entity-named}
-use Rattle.relations.specs.Laws.Shapes.{no-set, no-record}
+use Rattle.relations.specs.Laws.Shapes.{no-record}
 use Rattle.relations.proofs.is_consistent_with.+attributes_consistent_is_consistent_with.Goals as goal
 use Rattle.relations.proofs.is_consistent_with.+attributes_consistent_is_consistent_with.Goals.{attributes_consistent-else-attribute-via-then-attribute+else-not-is_open, attributes_consistent-else-attribute-via-else-attribute}
 
@@ -45,21 +45,15 @@ attributes_consistent-returns t c = meeting-end c.loop-attribute.invariant.1 c.i
 pub is_consistent_with-returns-then-eq : goal.is_consistent_with-returns-then-eq
 is_consistent_with-returns-then-eq t c =
     c.kind_is_plain.ensures
-    ∙ with-alike _ _ _ c.kind-j.ensures c.in-Plain.ensures (kinds-agree c.kind-j.result c.in-Plain.k c.eq.result c.eq.ensures c.if-eq.true)
+    ∙ with-alike _ _ _ c.kind-j.ensures c.in-Plain.ensures (kinds-agree c.kind-j.result c.in-Plain.k c.eq.result c.eq.ensures c.if-eq.true) ∙ c.past_sets.ensures.meets
 
 pub is_consistent_with-entity_consistent-requires : goal.is_consistent_with-entity_consistent-requires
-is_consistent_with-entity_consistent-requires t c = entity-named c.args.t1 c.in-Entity.names.now c.in-Entity.ensures.0
+is_consistent_with-entity_consistent-requires t c = entity-named c.past_sets.result.1 c.in-Entity.names.now c.in-Entity.ensures.0
 
 pub is_consistent_with-returns-else-eq : goal.is_consistent_with-returns-else-eq
 is_consistent_with-returns-else-eq t c =
     c.kind_consistent.ensures
-    ∙ with-unlike _ _ _ c.kind-j.ensures c.in-Plain.ensures (kinds-differ c.kind-j.result c.in-Plain.k c.eq.result c.eq.ensures c.if-eq.false)
-
-pub set_consistent-returns-in-Set : goal.set_consistent-returns-in-Set
-set_consistent-returns-in-Set t c = c.is_consistent_with.ensures ∙ with-set _ _ c.in-Set.ensures.0 refl
-
-pub set_consistent-returns-in_default : goal.set_consistent-returns-in_default
-set_consistent-returns-in_default t c = set-not _ _ (no-set c.args.t c.shape.result c.shape.ensures c.in_default.not-Set) refl
+    ∙ with-unlike _ _ _ c.kind-j.ensures c.in-Plain.ensures (kinds-differ c.kind-j.result c.in-Plain.k c.eq.result c.eq.ensures c.if-eq.false) ∙ c.past_sets.ensures.meets
 
 pub record_consistent-returns-then-attributes_consistent : goal.record_consistent-returns-then-attributes_consistent
 record_consistent-returns-then-attributes_consistent t c =
@@ -74,16 +68,17 @@ pub record_consistent-returns-in_default : goal.record_consistent-returns-in_def
 record_consistent-returns-in_default t c = record-not _ _ (no-record c.args.t c.shape.result c.shape.ensures c.in_default.not-Record) refl
 
 pub is_consistent_with-returns-in-Set : goal.is_consistent_with-returns-in-Set
-is_consistent_with-returns-in-Set t c = c.set_consistent.ensures ∙ ap (consistent (type_of c.args.t0)) (sym c.in-Set.ensures.0)
+is_consistent_with-returns-in-Set t c = set-not _ _ (c.past_sets.ensures.apart c.in-Set.ensures.0) c.in-Set.ensures.0 ∙ c.past_sets.ensures.meets
 
 pub is_consistent_with-returns-in-Record : goal.is_consistent_with-returns-in-Record
-is_consistent_with-returns-in-Record t c = c.record_consistent.ensures ∙ ap (consistent (type_of c.args.t0)) (sym c.in-Record.ensures.0)
+is_consistent_with-returns-in-Record t c =
+    c.record_consistent.ensures ∙ ap (consistent (type_of c.past_sets.result.0)) (sym c.in-Record.ensures.0) ∙ c.past_sets.ensures.meets
 
 pub is_consistent_with-returns-in-Entity : goal.is_consistent_with-returns-in-Entity
-is_consistent_with-returns-in-Entity t c = c.entity_consistent.ensures ∙ with-entity _ _ c.in-Entity.ensures.0
+is_consistent_with-returns-in-Entity t c = c.entity_consistent.ensures ∙ with-entity _ _ c.in-Entity.ensures.0 ∙ c.past_sets.ensures.meets
 
 pub is_consistent_with-returns-in-Action : goal.is_consistent_with-returns-in-Action
-is_consistent_with-returns-in-Action t c = with-action _ _ c.in-Action.ensures.0
+is_consistent_with-returns-in-Action t c = with-action _ _ c.in-Action.ensures.0 ∙ c.past_sets.ensures.meets
 
 pub is_consistent_with-returns-in-Extension : goal.is_consistent_with-returns-in-Extension
-is_consistent_with-returns-in-Extension t c = c.same.ensures ∙ with-extension _ _ c.in-Extension.ensures.0
+is_consistent_with-returns-in-Extension t c = c.same.ensures ∙ with-extension _ _ c.in-Extension.ensures.0 ∙ c.past_sets.ensures.meets

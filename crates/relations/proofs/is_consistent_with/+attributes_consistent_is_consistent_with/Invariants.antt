@@ -11,9 +11,6 @@ decreases-attributes_consistent l = l.core.levels + l.core.levels + l.core.level
 abbrev pub decreases-record_consistent : goal.decreases-record_consistent
 decreases-record_consistent l = l.core.levels + l.core.levels + l.core.levels + 2
 
-abbrev pub decreases-set_consistent : goal.decreases-set_consistent
-decreases-set_consistent l = l.core.levels + l.core.levels + l.core.levels + 1
-
 abbrev pub decreases-is_consistent_with : goal.decreases-is_consistent_with
 decreases-is_consistent_with l = l.t1.levels + l.t1.levels + l.t1.levels
 

@@ -4,8 +4,8 @@ use Rattle.forms.specs.Modes.{as_mode}
 use Rattle.forms.specs.TypeForms.{type_of}
 use Rattle.forms.specs.declared.kinds.Kind.TheVariants as is_kind
 use Rattle.forms.specs.Laws.Kinds.{kinds-agree, kinds-differ, same-number}
-use Rattle.relations.specs.Laws.Shapes.{no-set, no-record}
-use Rattle.relations.specs.Laws.Subtype.{set-under, record-under, record-not, not-set, not-record, never-under, same-under}
+use Rattle.relations.specs.Laws.Shapes.{no-record}
+use Rattle.relations.specs.Laws.Subtype.{record-under, record-not, not-set, not-record, never-under, same-under}
 use Rattle.relations.specs.Laws.Subtype.{alike-under, unlike-under, same-only}
 use Rattle.relations.specs.Laws.Walks.{under-end, under-missing, under-flag, under-type, under-again}
 use Rattle.relations.proofs.is_subtype.+attributes_subtype_is_subtype.Goals as goal
@@ -33,24 +33,6 @@ attributes_subtype-loop-attribute-preserved t c = (
 pub attributes_subtype-returns : goal.attributes_subtype-returns
 attributes_subtype-returns t c = under-end c.loop-attribute.invariant.1 c.in_default.ensures
 
-pub is_subtype-returns-then-eq : goal.is_subtype-returns-then-eq
-is_subtype-returns-then-eq t c =
-    c.if-eq.true
-    ∙ alike-under _ _ _ _ c.kind-j.ensures c.in-Plain.ensures (kinds-agree c.kind-j.result c.in-Plain.k c.eq.result c.eq.ensures c.if-eq.true)
-
-pub is_subtype-returns-else-eq : goal.is_subtype-returns-else-eq
-is_subtype-returns-else-eq t c =
-    c.kind_under.ensures
-    ∙ unlike-under _ _ _ _ c.kind-j.ensures c.in-Plain.ensures (kinds-differ c.kind-j.result c.in-Plain.k c.eq.result c.eq.ensures c.if-eq.false)
-
-pub set_under-returns-in-Set : goal.set_under-returns-in-Set
-set_under-returns-in-Set t c = c.is_subtype.ensures ∙ set-under _ _ _ c.in-Set.ensures.0 refl
-
-pub set_under-returns-in_default : goal.set_under-returns-in_default
-set_under-returns-in_default t c =
-    c.eq.ensures ∙ same-number c.kind.result is_kind.Never
-    ∙ not-set _ _ _ _ c.kind.ensures (no-set c.args.t c.shape.result c.shape.ensures c.in_default.not-Set) refl
-
 pub record_subtype-returns-then-record_under : goal.record_subtype-returns-then-record_under
 record_subtype-returns-then-record_under t c =
     record-under _ _ _ c.in-Record.ensures.0 refl c.record_under.result c.record_under.ensures c.if-record_under.true _ c.attributes_subtype.ensures
@@ -64,23 +46,54 @@ record_subtype-returns-in_default t c =
     c.eq.ensures ∙ same-number c.kind.result is_kind.Never
     ∙ not-record _ _ _ _ c.kind.ensures (no-record c.args.t c.shape.result c.shape.ensures c.in_default.not-Record) refl
 
-pub is_subtype-returns-in-Set : goal.is_subtype-returns-in-Set
-is_subtype-returns-in-Set t c = c.set_under.ensures ∙ ap (sub (as_mode c.args.mode) (type_of c.args.t0)) (sym c.in-Set.ensures.0)
+pub is_subtype-returns-then-eq : goal.is_subtype-returns-then-eq
+is_subtype-returns-then-eq t c =
+    c.if-eq.true
+    ∙ alike-under _ _ _ _ c.kind-j.ensures c.in-Plain.ensures (kinds-agree c.kind-j.result c.in-Plain.k c.eq.result c.eq.ensures c.if-eq.true)
 
-pub is_subtype-returns-in-Record : goal.is_subtype-returns-in-Record
-is_subtype-returns-in-Record t c = c.record_subtype.ensures ∙ ap (sub (as_mode c.args.mode) (type_of c.args.t0)) (sym c.in-Record.ensures.0)
+pub is_subtype-returns-else-eq : goal.is_subtype-returns-else-eq
+is_subtype-returns-else-eq t c =
+    c.kind_under.ensures
+    ∙ unlike-under _ _ _ _ c.kind-j.ensures c.in-Plain.ensures (kinds-differ c.kind-j.result c.in-Plain.k c.eq.result c.eq.ensures c.if-eq.false)
 
-pub is_subtype-returns-in-Entity : goal.is_subtype-returns-in-Entity
-is_subtype-returns-in-Entity t c = c.entity_under.ensures ∙ ap (sub (as_mode c.args.mode) (type_of c.args.t0)) (sym c.in-Entity.ensures.0)
+pub parts_subtype-returns-then-eq : goal.parts_subtype-returns-then-eq
+parts_subtype-returns-then-eq t c =
+    c.if-eq.true
+    ∙ alike-under _ _ _ _ c.kind-j.ensures c.in-Plain.ensures (kinds-agree c.kind-j.result c.in-Plain.k c.eq.result c.eq.ensures c.if-eq.true)
+    ∙ c.past_sets.ensures.same (as_mode c.args.mode)
 
-pub is_subtype-returns-then-eq-2 : goal.is_subtype-returns-then-eq-2
-is_subtype-returns-then-eq-2 t c =
+pub parts_subtype-returns-else-eq : goal.parts_subtype-returns-else-eq
+parts_subtype-returns-else-eq t c =
+    c.kind_under.ensures
+    ∙ unlike-under _ _ _ _ c.kind-j.ensures c.in-Plain.ensures (kinds-differ c.kind-j.result c.in-Plain.k c.eq.result c.eq.ensures c.if-eq.false)
+    ∙ c.past_sets.ensures.same (as_mode c.args.mode)
+
+pub parts_subtype-returns-in-Set : goal.parts_subtype-returns-in-Set
+parts_subtype-returns-in-Set t c =
+    let past = c.past_sets.ensures in
+    c.eq-in-Set.ensures ∙ same-number c.kind-j.result is_kind.Never
+    ∙ not-set _ _ _ _ c.kind-j.ensures (past.apart c.in-Set.ensures.0) c.in-Set.ensures.0 ∙ past.same (as_mode c.args.mode)
+
+pub parts_subtype-returns-in-Record : goal.parts_subtype-returns-in-Record
+parts_subtype-returns-in-Record t c =
+    c.record_subtype.ensures ∙ ap (sub (as_mode c.args.mode) (type_of c.past_sets.result.0)) (sym c.in-Record.ensures.0)
+    ∙ c.past_sets.ensures.same (as_mode c.args.mode)
+
+pub parts_subtype-returns-in-Entity : goal.parts_subtype-returns-in-Entity
+parts_subtype-returns-in-Entity t c =
+    c.entity_under.ensures ∙ ap (sub (as_mode c.args.mode) (type_of c.past_sets.result.0)) (sym c.in-Entity.ensures.0)
+    ∙ c.past_sets.ensures.same (as_mode c.args.mode)
+
+pub parts_subtype-returns-then-eq-2 : goal.parts_subtype-returns-then-eq-2
+parts_subtype-returns-then-eq-2 t c =
     c.if-eq-2.true
-    ∙ never-under _ _ _ _ c.kind-j.ensures (same-only _ _ c.args.t1 c.shape.result c.shape.ensures c.in-Action.is)
+    ∙ never-under _ _ _ _ c.kind-j.ensures (same-only _ _ c.past_sets.result.1 c.shape.result c.shape.ensures c.in-Action.is)
     (sym (same-number c.kind-j.result is_kind.Never) ∙ sym c.eq-in-Action.ensures ∙ c.if-eq-2.true)
+    ∙ c.past_sets.ensures.same (as_mode c.args.mode)
 
-pub is_subtype-returns-else-eq-2 : goal.is_subtype-returns-else-eq-2
-is_subtype-returns-else-eq-2 t c =
+pub parts_subtype-returns-else-eq-2 : goal.parts_subtype-returns-else-eq-2
+parts_subtype-returns-else-eq-2 t c =
     c.same.ensures
-    ∙ same-under _ _ _ _ c.kind-j.ensures (same-only _ _ c.args.t1 c.shape.result c.shape.ensures c.in-Action.is)
+    ∙ same-under _ _ _ _ c.kind-j.ensures (same-only _ _ c.past_sets.result.1 c.shape.result c.shape.ensures c.in-Action.is)
     (sym (same-number c.kind-j.result is_kind.Never) ∙ sym c.eq-in-Action.ensures ∙ c.if-eq-2.false)
+    ∙ c.past_sets.ensures.same (as_mode c.args.mode)

@@ -7,16 +7,16 @@ use Rattle.relations.specs.Laws.Walks.{Under}
 use Rattle.relations.proofs.is_subtype.+attributes_subtype_is_subtype.Given as goal
 
 abbrev pub decreases-attributes_subtype : goal.decreases-attributes_subtype
-decreases-attributes_subtype l = l.upper.levels + l.upper.levels + l.upper.levels + 1
+decreases-attributes_subtype l = l.upper.levels + l.upper.levels + l.upper.levels + l.upper.levels + 2
 
 abbrev pub decreases-record_subtype : goal.decreases-record_subtype
-decreases-record_subtype l = l.upper.levels + l.upper.levels + l.upper.levels + 2
-
-abbrev pub decreases-set_under : goal.decreases-set_under
-decreases-set_under l = l.upper.levels + l.upper.levels + l.upper.levels + 1
+decreases-record_subtype l = l.upper.levels + l.upper.levels + l.upper.levels + l.upper.levels + 3
 
 abbrev pub decreases-is_subtype : goal.decreases-is_subtype
-decreases-is_subtype l = l.t1.levels + l.t1.levels + l.t1.levels
+decreases-is_subtype l = l.t1.levels + l.t1.levels + l.t1.levels + l.t1.levels + 1
+
+abbrev pub decreases-parts_subtype : goal.decreases-parts_subtype
+decreases-parts_subtype l = l.t1.levels + l.t1.levels + l.t1.levels + l.t1.levels
 
 abbrev pub invariant-attributes_subtype-loop-attribute : goal.invariant-attributes_subtype-loop-attribute
 invariant-attributes_subtype-loop-attribute l =

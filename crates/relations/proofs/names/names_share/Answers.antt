@@ -1,41 +1,44 @@
-use Rattle.std.proofs.Common.{sym, ◌∙◌, arith, eqb-true}
+use Rattle.std.proofs.Common.{refl, sym, ◌∙◌, arith, eqb-true}
 use Rattle.std.proofs.lemmas.Bool.{eqb-false}
-use Rattle.relations.specs.Laws.Names.{walk_start, share-end, share-over, share-from, share-hit, share-past, from-first, first-name}
+use Rattle.relations.specs.Laws.Names.{walk_start, walk-second, shares-skip, share-end, share-hit, share-none, share-past, first-name}
 use Rattle.relations.proofs.names.names_share.Goals as goal
+use Rattle.relations.proofs.names.names_share.Goals.{else-loop-y-test, then-loop-y-test+else-x-y+then-x-y-2}
 
-pub loop-a-init : goal.loop-a-init
-loop-a-init c = walk_start c.requires.first_up c.requires.second_up
+pub search-init : goal.search-init
+search-init c = (walk_start c.requires.first_up c.requires.second_up, refl)
 
 pub u16_at-x-requires : goal.u16_at-x-requires
-u16_at-x-requires c = omega (arith, (first-name c.loop-a.invariant.first (eqb-false _ 0 (sym c.loop-a-test.ensures))).some)
+u16_at-x-requires c = omega (arith, (first-name c.search.invariant.0.first (eqb-false _ 0 (sym c.search-test.ensures))).some)
 
-pub from_name-b-requires : goal.from_name-b-requires
-from_name-b-requires c = c.loop-a.invariant.second
+pub loop-y-init : goal.loop-y-init
+loop-y-init c = c.search.invariant
 
-pub returns-then-is_empty : goal.returns-then-is_empty
-returns-then-is_empty c =
-    let f = c.from_name-b.ensures in
-    share-over (share-from c.loop-a.invariant (eqb-false _ 0 (sym c.loop-a-test.ensures)) c.from_name-b.result.now f.up (rw c.u16_at-x.ensures.0 at f.is))
-    (eqb-true _ 0 (sym c.if-is_empty.ensures))
+pub u16_at-y-requires : goal.u16_at-y-requires
+u16_at-y-requires c = omega (arith, (first-name c.loop-y.invariant.0.second (eqb-false _ 0 (sym c.loop-y-test.ensures))).some)
 
-pub u16_at-requires : goal.u16_at-requires
-u16_at-requires c = omega (arith, (first-name c.from_name-b.ensures.up (eqb-false _ 0 (sym c.if-is_empty.ensures))).some)
+pub loop-y-preserved : goal.loop-y-preserved
+loop-y-preserved c = (
+  walk-second c.loop-y.invariant.0 (eqb-false _ 0 (sym c.search-test.ensures)) (eqb-false _ 0 (sym c.loop-y-test.ensures)) shares-skip
+      (omega (arith, c.if-x-y.false, c.if-x-y-2.false, c.u16_at-x.ensures.0, c.u16_at-y.ensures.0)),
+  c.loop-y.invariant.1,
+)
 
-pub returns-then-x-u16_at : goal.returns-then-x-u16_at
-returns-then-x-u16_at c =
-    let p = eqb-false _ 0 (sym c.loop-a-test.ensures) in
-    let f = c.from_name-b.ensures in
-    share-hit (share-from c.loop-a.invariant p c.from_name-b.result.now f.up (rw c.u16_at-x.ensures.0 at f.is)) p (eqb-false _ 0 (sym c.if-is_empty.ensures))
-    (sym c.u16_at-x.ensures.0 ∙ c.if-x-u16_at.true ∙ c.u16_at.ensures.0)
+pub search-preserved : goal.search-preserved
+search-preserved c =
+    let i = c.loop-y.invariant in
+    let p = eqb-false _ 0 (sym c.search-test.ensures) in (
+      elim c.loop-y-test.branch [
+        | else-loop-y-test w ↦ share-none i.0 p (eqb-true _ 0 (sym w.loop-y-test.ensures))
+        | then-loop-y-test+else-x-y+then-x-y-2 w ↦
+            share-past i.0 p (eqb-false _ 0 (sym w.loop-y-test.ensures)) (omega (arith, w.if-x-y-2.true, c.u16_at-x.ensures.0, w.u16_at-y.ensures.0))
+      ],
+      i.1,
+    )
 
-pub loop-a-preserved : goal.loop-a-preserved
-loop-a-preserved c =
-    let p = eqb-false _ 0 (sym c.loop-a-test.ensures) in
-    let q = eqb-false _ 0 (sym c.if-is_empty.ensures) in
-    let f = c.from_name-b.ensures in
-    let least = from-first c.u16_at-x.result c.loop-a.b.now c.from_name-b.result.now f.is f.up q in
-    share-past (share-from c.loop-a.invariant p c.from_name-b.result.now f.up (rw c.u16_at-x.ensures.0 at f.is)) p q
-    (omega (arith, least, c.if-x-u16_at.false, c.u16_at-x.ensures.0, c.u16_at.ensures.0))
+pub returns-after-search : goal.returns-after-search
+returns-after-search c = c.search.invariant.1 ∙ share-end c.search.invariant.0 (eqb-true _ 0 (sym c.search-test.ensures))
 
-pub returns : goal.returns
-returns c = share-end c.loop-a.invariant (eqb-true _ 0 (sym c.loop-a-test.ensures))
+pub returns-then-x-y : goal.returns-then-x-y
+returns-then-x-y c =
+    share-hit c.loop-y.invariant.0 (eqb-false _ 0 (sym c.search-test.ensures)) (eqb-false _ 0 (sym c.loop-y-test.ensures))
+    (sym c.u16_at-x.ensures.0 ∙ c.if-x-y.true ∙ c.u16_at-y.ensures.0)
