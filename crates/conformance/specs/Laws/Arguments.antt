@@ -153,6 +153,10 @@ module _ {l : ℕ} {rule : Counts} {s : Schema} {all : Said} {left : ℕ} {e b k
   pub arguments-few : (x : Verdict) → x ≡ verdict_of (left_over rule) → left ≡ 0 → (length k ≡ 0 → ⊥) → x ≡ verdict_of all
   arguments-few x y h z = y ∙ ap verdict_of (sym (at-end h (args-first k i.asked (pos (length k) z)).is ∙ no-values rule s _ _))
 
+  -- The first argument that is asked for.
+  pub arguments-first : (length k ≡ 0 → ⊥) → ArgFirst k
+  arguments-first h = args-first k i.asked (pos (length k) h)
+
   -- No argument is asked for that is shorter than one.
   nothing-asked : length k < 3 → length k ≡ 0
   nothing-asked h = go (dec_lt 0 (length k))

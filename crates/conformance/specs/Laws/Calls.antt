@@ -1,6 +1,6 @@
 -- A value as an argument, and a call as a value of an extension. Assumes nothing.
 use Rattle.std.specs.Prelude.{◌≡◌, refl, List, true, false, ℕ, ◌-◌, eqb, leb, Option as Maybe, Some, None}
-use Rattle.std.proofs.Common.{ap, ap₂, sym, ◌∙◌, eq-eqb, ne_eqb}
+use Rattle.std.proofs.Common.{ap, ap₂, sym, ◌∙◌, eq-eqb, ne_eqb, arith}
 use Rattle.std.proofs.Math.Option.{none, some}
 use Rattle.cedar.specs.Types.{Arg, arg_bool, arg_long, arg_string, arg_ext, Value, Values, Schema, maybe}
 use Rattle.cedar.specs.ValueForm.{value_kind}
@@ -8,7 +8,7 @@ use Rattle.cedar.specs.Conformance.{verdict, and_then, unknown, fails, Counts, o
 use Rattle.forms.specs.Parts.{rd, kind}
 use Rattle.schemas.specs.Entries.{returns_of}
 use Rattle.schemas.specs.SchemaBytes.{arg_fits, arg_at}
-use Rattle.schemas.specs.Laws.Arguments.{arg-is-bool, arg-is-long, arg-is-string, arg-is-extension}
+use Rattle.schemas.specs.Laws.Arguments.{arg-is-bool, arg-is-long, arg-is-string, arg-is-extension, arg-kind}
 use Rattle.conformance.specs.declared.verdicts.Verdict.{Verdict}
 use Rattle.conformance.specs.declared.verdicts.Verdict.TheVariants.{Fails, Unknown}
 use Rattle.conformance.specs.Verdicts.{verdict_of, inside_of}
@@ -43,6 +43,18 @@ module _ (rule : Counts) (s : Schema) (k : List ℕ) (l : ℕ) (v : List ℕ) (a
     fit-call q e z x y =
         ap inside_of y ∙ call-inside rule s e (rd v 1) (arguments_of (l - 1) v)
         ∙ ap verdict_of (ap₂ (λ (u : Value) (g : Arg). of_argument rule s u g) (sym (dec-value l v (value-level l v h) 7 q)) (ap arg_ext z ∙ sym extension))
+
+  -- An argument of none of the kinds 1 to 3 asks for an extension.
+  module _ (p1 : kind k ≡ 1 → ⊥) (p2 : kind k ≡ 2 → ⊥) (p3 : kind k ≡ 3 → ⊥) where
+    is-extension-kind : kind k ≡ 4
+    is-extension-kind = let u = arg-kind k a in omega (arith, u.0, u.1)
+
+    pub fit-other-not : (kind v ≡ 7 → ⊥) → Fails ≡ verdict_of (of_argument rule s (dec_v l v) (arg_at k))
+    fit-other-not p = fit-not is-extension-kind p
+
+    pub fit-other-call : kind v ≡ 7 → (e : ℕ) → e ≡ rd k 1 → (x : Verdict) → x ≡ verdict_of (is_extension rule s e (rd v 1, arguments_of (l - 1) v)) →
+        inside_of x ≡ verdict_of (of_argument rule s (dec_v l v) (arg_at k))
+    fit-other-call q e z x y = fit-call is-extension-kind q e z x y
 
 -- A call, by what was found of its function.
 module _ (rule : Counts) (s : Schema) (name n e : ℕ) (q : name ≡ n) (vs : Values) where

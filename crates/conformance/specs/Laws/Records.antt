@@ -41,6 +41,16 @@ at-found rule s o (attr k r t xs) n x = go (eqb n k) (at-found rule s o xs n x)
     go true e = refl
     go false e = e
 
+-- What any list of attributes says of a name, by the search for it: found, or not.
+module _ (rule : Counts) (s : Schema) (o : Bool) {l n name : ℕ} {f c : List ℕ} (x : Value) (h : Sound l n 0 f c) {j : ℕ} {gs ds : List ℕ}
+    (p : Skipped 5 n name f c j gs ds) where
+  pub name-found : {r : Row} → IsFirst 5 j gs ds r → rd gs 0 ≡ name →
+      verdict_of (conforms rule s (dec l r.body.now) x) ≡ verdict_of (conforms_at rule s o (dec_a (dec l) n f c) name x)
+  name-found g q = ap verdict_of (sym (at-found rule s o (dec_a (dec l) n f c) name x ∙ ap (asks rule s o x) (found-attribute h p g q).2))
+
+  pub name-absent : (0 < j → rd gs 0 ≡ name → ⊥) → verdict_of (verdict o) ≡ verdict_of (conforms_at rule s o (dec_a (dec l) n f c) name x)
+  name-absent g = ap verdict_of (sym (at-found rule s o (dec_a (dec l) n f c) name x ∙ ap (asks rule s o x) (found-none h p g)))
+
 -- Names from a name on, asked of attributes that say the same from there on.
 each_same : (xs : List (ℕ × Value)) (name : ℕ) (g k : ℕ → Value → Said) → From (λ h. h) name xs → ((m : ℕ) (x : Value) → name ≤ m → g m x ≡ k m x) →
     each_pair g (pairs_from xs) ≡ each_pair k (pairs_from xs)

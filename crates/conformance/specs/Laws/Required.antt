@@ -19,7 +19,7 @@ use Rattle.forms.specs.Laws.Skips.{From, Named, rows-from}
 use Rattle.forms.specs.Laws.RowBytes.{head-rd, head-byte}
 use Rattle.forms.specs.ValueBytes.{pair_row, whole_v, dec_v}
 use Rattle.conformance.specs.Walks.{Records, attributes_of, pairs_of}
-use Rattle.forms.specs.Laws.Ahead.{Ahead, ahead-from, decoded-none, table-ahead, table-decoded}
+use Rattle.forms.specs.Laws.Ahead.{Ahead, ahead-from, decoded-none, table-ahead, table-decoded, table-count, table-entries}
 use Rattle.conformance.specs.Laws.Taken.{ahead-laid, taken-again, taken-decoded}
 use Rattle.conformance.specs.Laws.Pairs.{PairsLeft, pairs-left, has_first}
 
@@ -59,6 +59,19 @@ records-table l t h = and_r (leb (get_or t 1 0) 1) _ (and_r (leb 2 (length t)) _
 module _ (t v : List ℕ) (h : Records t v) where
   table : table_fits attr_row (λ _. whole h.level) 0 2 t ≡ true
   table = records-table h.level t h.type
+
+  pub records-type : 4 ≤ length t
+  records-type = table-count attr_row (λ _. whole h.level) 0 2 t table
+
+  pub records-value : 3 ≤ length v
+  records-value = table-count pair_row (λ _. whole_v h.level) 0 1 v h.value
+
+  module _ (m n : ℕ) (p : m ≡ rd t 2) (q : n ≡ rd v 1) where
+    pub records-attrs : 4 + 5 * m ≤ length t
+    records-attrs = table-entries attr_row (λ _. whole h.level) 0 2 t table m p
+
+    pub records-pairs : 3 + 4 * n ≤ length v
+    records-pairs = table-entries pair_row (λ _. whole_v h.level) 0 1 v h.value n q
 
   pub required-start : {m : ℕ} {f c : List ℕ} → m ≡ rd t 2 → f ≡ part 4 (4 + 5 * rd t 2) t → c ≡ rest (4 + 5 * rd t 2) t →
       {n : ℕ} {e b : List ℕ} → n ≡ rd v 1 → e ≡ part 3 (3 + 4 * rd v 1) v → b ≡ rest (3 + 4 * rd v 1) v → RequiredAhead t v m f c n e b

@@ -1,13 +1,14 @@
 -- The core type of a type, by what it is made of. Assumes nothing.
-use Rattle.std.specs.Prelude.{◌≡◌, Bool, ℕ, suc, ◌+◌, ◌*◌, ◌/◌, ◌≤◌, length}
+use Rattle.std.specs.Prelude.{◌≡◌, Bool, ℕ, zero, suc, replicate, ◌+◌, ◌*◌, ◌/◌, ◌≤◌, length, true, ◌-◌, ◌<◌, eqb, get_or}
 use Rattle.std.proofs.Math.Path.{refl, ap}
 use Rattle.std.proofs.Common.{sym, ◌∙◌}
+use Rattle.std.proofs.lemmas.List.{length-replicate, replicate_more}
 use mathlib.Core.List.{List, [], ◌∷◌, ◌++◌}
 use Rattle.std.proofs.Math.Option.{Option, none, some}
 use native.Mathlib.Omega.{arith}
 use Rattle.std.proofs.Math.Decide.{ℕ_discrete}
 use borrow.Author.Tests.{ne_eqb}
-use Rattle.cedar.specs.Types.{Atom, never, true', false', bool, long, string, anyset, anyent, Ty, atom, set, rec, act, ent, ext, Attrs, nil, attr}
+use Rattle.cedar.specs.Types.{Atom, never, true', false', bool, long, string, anyset, anyent, Ty, atom, set, rec, act, ent, ext, Attrs, nil, attr, as_set}
 use Rattle.cedar.specs.Bytes.{u16, flag, ◌>>=◌}
 use Rattle.cedar.specs.TypeForm.{atom_code, count, enc, one}
 use Rattle.cedar.specs.Conversion.{convert, convert_attrs}
@@ -16,23 +17,29 @@ use Rattle.cedar.specs.Outcome.{over}
 use Rattle.cedar.specs.Limits.{most_bytes}
 use Rattle.forms.specs.Kinds.{kind_number}
 use Rattle.forms.specs.Names.{names_in, Ascending}
-use Rattle.forms.specs.Parts.{rest, rd}
+use Rattle.forms.specs.Parts.{rest, rd, part, kind}
 use Rattle.forms.specs.TypeForms.{type_of, listed, IsPlain, TookFirstAttribute}
 use Rattle.forms.specs.declared.kinds.Kind.{Kind}
+use Rattle.forms.specs.declared.type_forms.TypeForm.{TypeForm}
 use Rattle.forms.specs.declared.kinds.Kind.TheVariants as kinds
 use Rattle.forms.specs.declared.type_forms.AttributeForm.{AttributeForm}
 use Rattle.forms.specs.declared.type_forms.AttributeForms.{AttributeForms}
-use Rattle.forms.specs.TypeBytes.{names_by}
+use Rattle.forms.specs.TypeBytes.{names_by, dec_a, whole, dec}
 use Rattle.forms.specs.Laws.Kinds.{kind-same}
 use Rattle.forms.specs.Laws.Names.{names-length}
 use Rattle.forms.specs.Laws.TypeForms.{plain-code}
 use Rattle.writing.specs.Written.{Written}
-use Rattle.writing.specs.FormLengths.{cap, table, form_length_of, form_of, Ready, or_refuse}
-use Rattle.writing.specs.Laws.Writing.{back}
-use Rattle.writing.specs.Laws.FormLengths.{Cut, before, Summing, summing-not, summing-more}
-use Rattle.writing.specs.Laws.Laying.{ready-room, written_known, Laying, laying-start, laying-end, laying-ready}
+use Rattle.writing.specs.FormLengths.{cap, plus, table, form_length_of, form_of, Ready, or_refuse}
+use Rattle.writing.specs.Laws.Writing.{back, over-at, length_over}
+use Rattle.writing.specs.Laws.FormLengths.{Cut, cut-length, before, Summing, summing-not, summing-more, summing-err}
+use Rattle.writing.specs.Laws.Laying.{ready-room, written_known, Laying, laying-start, laying-end, laying-ready, behind-front, behind-at, behind-ready, behind-small, behind-written}
 use Rattle.writing.specs.Laws.Laying.{laying-entry, laying-small, laying-more}
-use Rattle.conversions.specs.CoreTypes.{core, core_attrs, bool_or}
+use Rattle.conversions.specs.CoreTypes.{core, core_attrs, bool_or, in_sets, PastSets}
+use Rattle.forms.specs.Tables.{Left}
+use Rattle.forms.specs.Laws.Views.{is-record}
+use Rattle.forms.specs.Laws.Codes.{atom-at}
+use Rattle.forms.specs.Laws.Parts.{length_rest}
+use Rattle.forms.specs.Laws.Tables.{left_is}
 
 -- A step after another, with the refusal.
 refuse-map : {A B : Type 0} (n : ℕ) (o : Option A) (f : A → B) → or_refuse n (o >>= λ a. some (f a)) ≡ bind (or_refuse n o) (λ a. ok (f a))
@@ -55,6 +62,38 @@ core-nil = refl
 pub attrs-end : {xs : Attrs} → xs ≡ nil → core_attrs xs ≡ ok nil
 attrs-end e = ap core_attrs e ∙ core-nil
 
+-- A list of bytes from its first attribute on.
+pub attrs-step : {l n : ℕ} {es bs : List ℕ} (s : Left l n es bs) (p : 0 < n) (k : ℕ) (q : k ≡ rd es 3) →
+    core_attrs (dec_a (dec l) n es bs) ≡ before (rd es 0) (eqb (get_or es 2 0) 1) (core (dec l (part 0 k bs)))
+    (core_attrs (dec_a (dec l) (n - 1) (rest 5 es) (rest k bs)))
+attrs-step {l} {n} {es} {bs} s p k q =
+    ap core_attrs (left_is s p k q) ∙ core-before (rd es 0) (eqb (get_or es 2 0) 1) (dec l (part 0 k bs)) (dec_a (dec l) (n - 1) (rest 5 es) (rest k bs))
+
+-- The only refusal: its number is 8.
+pub core-refused : (t : Ty) (d : ℕ) → core t ≡ err d → d ≡ 8
+unfolding core
+core-refused t d e = go (convert t) e
+  where
+    go : (o : Option Ty) → or_refuse 8 o ≡ err d → d ≡ 8
+    go none e = let z : 8 ≡ d = cc in sym z
+    go (some u) e = absurd (let z : ◌≡◌ {A = ℕ} 0 1 = cc in omega arith)
+
+pub core_attrs-refused : (xs : Attrs) (d : ℕ) → core_attrs xs ≡ err d → d ≡ 8
+unfolding core_attrs
+core_attrs-refused xs d e = go (convert_attrs xs) e
+  where
+    go : (o : Option Attrs) → or_refuse 8 o ≡ err d → d ≡ 8
+    go none e = let z : 8 ≡ d = cc in sym z
+    go (some u) e = absurd (let z : ◌≡◌ {A = ℕ} 0 1 = cc in omega arith)
+
+pub core-err : (t : Ty) (x : Result ℕ) (d : ℕ) → x ≡ form_length_of enc (core t) → x ≡ err d → core t ≡ err 8
+unfolding core
+core-err t x d p q = go (convert t) p
+  where
+    go : (o : Option Ty) → x ≡ form_length_of enc (or_refuse 8 o) → or_refuse 8 o ≡ err 8
+    go none p = refl
+    go (some u) p = absurd (let z : ◌≡◌ {A = ℕ} 0 1 = cc in omega arith)
+
 -- An attribute that was taken from a list, and the others.
 module _ {xs ys : AttributeForms} {a : AttributeForm} (t : TookFirstAttribute xs ys a) where
   abbrev Type' : Result Ty
@@ -70,6 +109,9 @@ module _ {xs ys : AttributeForms} {a : AttributeForm} (t : TookFirstAttribute xs
   module _ {all : Result Attrs} {sum : ℕ} (i : Summing all (core_attrs (listed xs)) sum) (x : Result ℕ) (told : x ≡ form_length_of enc Type') where
     pub attrs-not : (d : ℕ) → x ≡ err d → err d ≡ form_length_of table all
     attrs-not d q = summing-not i a.name a.required Type' Rest core-step x told d q
+
+    pub attrs-refused : (d : ℕ) → x ≡ err d → err 8 ≡ form_length_of table all
+    attrs-refused d z = summing-err i 8 (core-step ∙ rw (core-err (type_of a.form) x d told z) refl)
 
     pub attrs-more : (k z : ℕ) → x ≡ ok k → z ≡ cap (sum + k + 5) → Summing all Rest z
     attrs-more k z q g = summing-more i a.name a.required Type' Rest core-step x told k z q g
@@ -126,6 +168,101 @@ extension-long n = refl
 -- What is written is not refused.
 refused-not : {r : Result Ty} {d : ℕ} {o : List ℕ} → Ready enc r o → r ≡ err d → ⊥
 refused-not g e = let k = g.is in let z : ◌≡◌ {A = ℕ} 0 1 = cc in omega arith
+
+-- In so many sets.
+core-set : (x : Ty) → core (set x) ≡ bind (core x) (λ a. ok (set a))
+unfolding core convert
+core-set x = refuse-map 8 (convert x) set
+
+sets-core : (n : ℕ) (x : Ty) → core (in_sets n x) ≡ bind (core x) (λ a. ok (in_sets n a))
+sets-core zero x = go (core x)
+  where
+    go : (r : Result Ty) → r ≡ bind r (λ a. ok a)
+    go (ok a) = refl
+    go (err d) = refl
+sets-core (suc n) x = core-set (in_sets n x) ∙ rw (sets-core n x) (go (core x))
+  where
+    go : (r : Result Ty) → bind (bind r (λ a. ok (in_sets n a))) (λ a. ok (set a)) ≡ bind r (λ a. ok (set (in_sets n a)))
+    go (ok a) = refl
+    go (err d) = refl
+
+sets-bytes : (n : ℕ) (a : Ty) → enc (in_sets n a) ≡ replicate n 7 ++ enc a
+unfolding enc
+sets-bytes zero a = refl
+sets-bytes (suc n) a = ap (λ z. 7 ∷ z) (sets-bytes n a)
+
+pub sets-cut : {t : Ty} (x : Ty) (n : ℕ) → t ≡ in_sets n x → Cut enc enc (replicate n 7) (core x) (core t)
+sets-cut x n e = record { make = in_sets n; is = ap core e ∙ sets-core n x; cut = λ a q. sets-bytes n a }
+
+sets-more : (n : ℕ) (t : Ty) → in_sets n (set t) ≡ in_sets (suc n) t
+sets-more zero t = refl
+sets-more (suc n) t = ap set (sets-more n t)
+
+-- The bytes of so many sets.
+sevens : (n : ℕ) → length (replicate {A = ℕ} n 7) ≡ n
+sevens n = length-replicate n 7
+
+-- So far as the sets that a type begins with were gone down.
+pub record Down (a x : TypeForm) (n : ℕ) : Type 0 where
+  pub made : type_of a ≡ in_sets n (type_of x)
+  pub levels : x.levels + n ≡ a.levels
+
+pub down-start : (a : TypeForm) → Down a a 0
+down-start a = record { made = refl; levels = omega arith }
+
+module _ {a x : TypeForm} {n : ℕ} (d : Down a x n) where
+  module _ (y : TypeForm) (p : (type_of x ≡ set (type_of y)) × (y.levels + 1 ≡ x.levels)) where
+    pub down-again : Down a y (n + 1)
+    down-again =
+        let s : suc n ≡ n + 1 = omega arith in
+        let counted : in_sets (suc n) (type_of y) ≡ in_sets (n + 1) (type_of y) = ap (λ (j : ℕ). in_sets j (type_of y)) s in
+        record { made = d.made ∙ ap (in_sets n) p.0 ∙ sets-more n (type_of y) ∙ counted; levels = omega (arith, p.1, d.levels) }
+
+    -- One more set is counted, and there is room for its kind.
+    pub down-small : n + 1 ≤ a.levels
+    down-small = omega (arith, p.1, d.levels)
+
+    module _ {o : List ℕ} (g : Ready enc (core (type_of a)) o) where
+      down-room : n + 1 ≤ length o
+      down-room = omega (arith, behind-front (sets-cut (type_of y) (n + 1) down-again.made) g, sevens (n + 1))
+
+      module _ {out : List ℕ} (q : out ≡ over (replicate n 7) o) where
+        pub down-front : 1 ≤ length (rest n out)
+        down-front = omega (arith, down-room, length_rest n out, ap length q, length_over (replicate n 7) o (omega (arith, down-room, sevens n)))
+
+        pub down-put : (ys : List ℕ) → ys ≡ over (7 ∷ []) (rest n out) → back n out ys ≡ over (replicate (n + 1) 7) o
+        down-put ys f =
+            over-at o (replicate n 7) (7 ∷ []) out ys n q (sym (sevens n)) f (omega (arith, down-room, sevens n)) ∙
+            ap (λ (z : List ℕ). over z o) (replicate_more n 7)
+
+  pub down-end : as_set (type_of x) ≡ none → PastSets a x n
+  down-end h = record { made = d.made; levels = d.levels; apart = h }
+
+-- Where the bytes of the sets are known.
+module _ {a x : TypeForm} {n : ℕ} (d : PastSets a x n) where
+  pub past-length : (x₀ y : Result ℕ) → x₀ ≡ form_length_of enc (core (type_of x)) → y ≡ plus n x₀ → y ≡ form_length_of enc (core (type_of a))
+  past-length x₀ y g h = cut-length (sets-cut (type_of x) n d.made) x₀ y g (h ∙ ap (λ (z : ℕ). plus z x₀) (sym (sevens n)))
+
+  module _ {o : List ℕ} (g : Ready enc (core (type_of a)) o) {out : List ℕ} (q : out ≡ over (replicate n 7) o) where
+    pub past-at : n ≤ length out
+    past-at = behind-at (sets-cut (type_of x) n d.made) g out n q (sym (sevens n))
+
+    pub past-ready : Ready enc (core (type_of x)) (rest n out)
+    past-ready = behind-ready (sets-cut (type_of x) n d.made) g out n q (sym (sevens n))
+
+    pub past-written : (ys : List ℕ) (k : ℕ) → Written (form_of enc (core (type_of x))) (rest n out) ys k →
+        Written (form_of enc (core (type_of a))) o (back n out ys) (k + n)
+    past-written ys k t = behind-written (sets-cut (type_of x) n d.made) g out n q (sym (sevens n)) ys k t
+
+    pub past-small : (ys : List ℕ) (k : ℕ) → Written (form_of enc (core (type_of x))) (rest n out) ys k → k + n ≤ most_bytes
+    past-small ys k t = behind-small (sets-cut (type_of x) n d.made) g out n q (sym (sevens n)) ys k t
+
+-- A type that is no set is not a set.
+pub set-not : {A : Type 0} {t x : Ty} → as_set t ≡ none → t ≡ set x → A
+set-not h e = absurd (some-none (sym (ap as_set e) ∙ h))
+  where
+    some-none : {t : Ty} → some t ≡ none → ⊥
+    some-none p = cc
 
 -- The core type by what a type is made of.
 module _ (t : Ty) where
@@ -221,6 +358,25 @@ module _ (t : Ty) where
         go : Dec (length ns ≡ 2) → (length ns ≡ 2) × (core t ≡ ok (ent (rd ns 0 ∷ [])))
         go (yes p) = (p, entity-core ns e p)
         go (no p) = absurd (refused-not g (entities-core ns e a p))
+
+-- The same of a form that is written: it is no Never and no any entity, and a record has its front.
+never-refused : (l : ℕ) (b : List ℕ) → whole l b ≡ true → kind b ≡ 0 → core (dec l b) ≡ err 8
+unfolding core convert
+never-refused l b h e = rw (atom-at l b h 0 e never refl) refl
+
+any-refused : (l : ℕ) (b : List ℕ) → whole l b ≡ true → kind b ≡ 9 → core (dec l b) ≡ err 8
+unfolding core convert
+any-refused l b h e = rw (atom-at l b h 9 e anyent refl) refl
+
+module _ (l : ℕ) (b : List ℕ) (h : whole l b ≡ true) {o : List ℕ} (g : Ready enc (core (dec l b)) o) where
+  pub never-not : kind b ≡ 0 → ⊥
+  never-not e = refused-not g (never-refused l b h e)
+
+  pub any-not : kind b ≡ 9 → ⊥
+  any-not e = refused-not g (any-refused l b h e)
+
+  pub record-front : kind b ≡ 8 → 4 ≤ length o
+  record-front e = behind-front (record-cut (dec l b) (is-record l b h e).is refl) g
 
 -- The write pass over an attribute list.
 pub core-laying : (xs : Attrs) (n : ℕ) {o : List ℕ} → n ≡ count xs → Ready table (core_attrs xs) o → Laying (core_attrs xs) (core_attrs xs) o 0 (5 * n) o

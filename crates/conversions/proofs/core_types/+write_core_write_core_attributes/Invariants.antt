@@ -6,10 +6,13 @@ use Rattle.conversions.specs.CoreTypes.{core_attrs}
 use Rattle.conversions.proofs.core_types.+write_core_write_core_attributes.Given as goal
 
 abbrev pub decreases-write_core : goal.decreases-write_core
-decreases-write_core l = l.t.levels + l.t.levels
+decreases-write_core l = l.t.levels + l.t.levels + l.t.levels + 1
+
+abbrev pub decreases-write_below : goal.decreases-write_below
+decreases-write_below l = l.t.levels + l.t.levels + l.t.levels
 
 abbrev pub decreases-write_core_attributes : goal.decreases-write_core_attributes
-decreases-write_core_attributes l = l.attributes.levels + l.attributes.levels + 1
+decreases-write_core_attributes l = l.attributes.levels + l.attributes.levels + l.attributes.levels + 2
 
 abbrev pub invariant-write_core_attributes-loop-attribute : goal.invariant-write_core_attributes-loop-attribute
 invariant-write_core_attributes-loop-attribute l =

@@ -1,0 +1,10 @@
+use Rattle.std.specs.Prelude.{◌≡◌, replicate}
+use Rattle.cedar.specs.Outcome.{over}
+use Rattle.conversions.specs.Laws.CoreTypes.{Down}
+use Rattle.conversions.proofs.core_types.put_sets.Given as goal
+
+abbrev pub invariant-loop-element : goal.invariant-loop-element
+invariant-loop-element l = Down l.fn.t l.below l.sets × (l.out ≡ over (replicate l.sets 7) l.initial.out)
+
+abbrev pub decreases-loop-element : goal.decreases-loop-element
+decreases-loop-element l = l.below.levels
