@@ -1,4 +1,5 @@
 pub mod Place
 pub mod EntityAttribute
+pub mod MayHave
 pub mod Literal
 pub mod Laws

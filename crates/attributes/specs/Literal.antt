@@ -1,5 +1,5 @@
 -- The type of a uid, as it is found in a schema. Assumes nothing: these are definitions.
-use Rattle.std.specs.Prelude.{ℕ, ◌+◌, ◌≤◌, List, [], ◌∷◌, ◌++◌, ◌≡◌, length, Option as Maybe, Some, None}
+use Rattle.std.specs.Prelude.{ℕ, ◌+◌, ◌≤◌, List, [], ◌∷◌, ◌++◌, ◌≡◌, length, Option as Maybe, Some, None, option_map}
 use Rattle.std.proofs.Math.Option.{none, some}
 use Rattle.cedar.specs.Types.{Ty, rec, act, ent}
 use Rattle.cedar.specs.Levels.{depth}
@@ -8,9 +8,10 @@ use Rattle.cedar.specs.TypeForm.{action_code, enc}
 use Rattle.cedar.specs.Limits.{Limits, most_bytes}
 use Rattle.cedar.specs.Literal.{literal}
 use Rattle.forms.specs.Parts.{rest}
-use Rattle.schemas.specs.Entries.{open_at, body_attrs}
+use Rattle.schemas.specs.Entries.{entry_at, open_at, body_attrs}
 use Rattle.schemas.specs.Schema.{limits_in, said_by}
 use Rattle.schemas.specs.Laws.Finders.{BodyAt}
+use Rattle.schemas.specs.declared.entries.Key.TheVariants.{Uid}
 use Rattle.schemas.specs.declared.schema.Schema.{Schema}
 use Rattle.attributes.specs.declared.euid_literal.Literal.{Literal}
 use Rattle.attributes.specs.declared.euid_literal.Literal.TheVariants.{Action, Entity}
@@ -50,8 +51,14 @@ abbrev pub BytesIn : Literal → Type 0
 BytesIn (Action c) = Bytes c.now
 BytesIn Entity = Unit {0}
 
+-- An action's body is that of the schema's first entry of the uid.
+abbrev pub BodyThere : Schema → ℕ → ℕ → Literal → Type 0
+BodyThere s k i (Action c) = option_map (λ y. y.1) (entry_at 6 (Uid k i) s.sections.actions s.bytes.now) ≡ Some c.now
+BodyThere s k i Entity = Unit {0}
+
 -- The type of the uid k, i.
 pub record LiteralAt (s : Schema) (k i : ℕ) (x : Literal) : Type 0 where
+  pub there : BodyThere s k i x
   pub is : literal (said_by s) k i ≡ some (literal_type (limits_in s) k x)
   pub stands : Standing (limits_in s) x
   pub laid : Laid x

@@ -84,6 +84,9 @@ module _ {l c : ℕ} {b : List ℕ} (h : Tabled l c b) {n : ℕ} {es bs : List �
   pub listed-sound : Sound l n 0 es bs
   listed-sound = rw (en, ees, ebs) h.sound
 
+  pub listed-fit : bodies_at c b ≤ length b
+  listed-fit = h.fit
+
   pub listed-laid : Laid 5 n es bs
   listed-laid = laid listed-sound
 

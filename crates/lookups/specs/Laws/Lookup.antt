@@ -1,5 +1,5 @@
 -- The fold of an attribute over entity types, and the lookup of any type. Assumes nothing.
-use Rattle.std.specs.Prelude.{ℕ, ◌-◌, ◌≤◌, ◌<◌, List, ◌∷◌, ◌++◌, Bool, true, ◌&&◌, ◌≡◌, refl, length, take, drop, Option as Maybe, Some, None, Result as RustResult, Ok, Err}
+use Rattle.std.specs.Prelude.{ℕ, ◌-◌, ◌≤◌, ◌<◌, List, ◌∷◌, ◌++◌, Bool, true, ◌&&◌, ◌≡◌, refl, length, take, drop, Option as Maybe, Some, None, Result as RustResult, Ok, Err, ◌+◌}
 use Rattle.std.specs.declared.slice.ChunksExact.{ChunksExact}
 use Rattle.std.proofs.Common.{arith, ap, sym, subst, ◌∙◌}
 use Rattle.std.proofs.Math.Option.{Option, none, some}
@@ -31,6 +31,25 @@ use Rattle.folds.specs.Steps.{Held, Stepped}
 use Rattle.lookups.specs.declared.lookup_attribute_type.Looked.{Looked}
 use Rattle.lookups.specs.Lookup.{below, Shown, LookedUp}
 use Rattle.writing.specs.Laws.Writing.{over-front}
+use Rattle.cedar.specs.TypeForm.{enc}
+use Rattle.forms.specs.Laws.Parts.{length_part}
+
+-- A part of a schema that was copied to the front of `last`.
+pub held-copy : (lim : Limits) → lim.bytes ≤ most_bytes → (b last xs : List ℕ) (s e : ℕ) → s ≤ e → e ≤ length b → e ≤ s + lim.bytes →
+    lim.bytes ≤ length last → length xs ≡ length last →
+    whole (lim.levels - 1) (part s e b) ≡ true → enc (dec (lim.levels - 1) (part s e b)) ≡ part s e b → xs ≡ over (part s e b) last →
+    (part 0 (e - s) xs ≡ part s e b) × Held (below lim) (e - s) xs
+held-copy lim most b last xs s e h g k r l w x f =
+    let p = over-front (part s e b) last xs (e - s) f (sym (length_part s e b g)) in (
+      p,
+      record {
+        most = most;
+        room = omega (arith, l, r);
+        fits = omega arith;
+        good = ap (whole (lim.levels - 1)) p ∙ w;
+        exact = ap (λ (z : List ℕ). enc (dec (lim.levels - 1) z)) p ∙ x ∙ sym p;
+      },
+    )
 
 -- A form that was copied to the front of `last`.
 module _ (lim : Limits) (x : Attribute) (v : Shown lim x) (last xs : List ℕ) (f : xs ≡ over x.form.now last) where
@@ -128,6 +147,11 @@ module _ (fits : Ty → Bool) (s : Said) (a l : ℕ) (b : List ℕ) (w : whole l
   module _ (n : kind b ≡ 10 → ⊥) where
     pub own-none : own_attr a (dec l b) ≡ none → lookup fits s a (dec l b) ≡ ok none
     own-none f = sym (other-lookup n) ∙ ap ok f
+
+    pub own-found : (lim : Limits) (x : Looked) (t : List ℕ) → own_attr a (dec l b) ≡ some (x.required, dec (lim.levels - 1) t) → (last : List ℕ) →
+        (part 0 x.bytes last ≡ t) × Held (below lim) x.bytes last → LookedUp lim (lookup fits s a (dec l b)) last (Ok (Some x))
+    own-found lim x t f last h =
+        (sym (other-lookup n) ∙ ap ok (f ∙ ap (λ (z : List ℕ). some (x.required, dec (lim.levels - 1) z)) (sym h.0)), h.1)
 
 -- A lookup by its cases.
 module _ (lim : Limits) (o : Result (Option (Bool × Ty))) (last : List ℕ) (z : Maybe Looked) (h : LookedUp lim o last (Ok z)) where

@@ -20,7 +20,7 @@ use Rattle.forms.specs.Laws.RowBytes.{head-rd, laid-more, took-left}
 use Rattle.forms.specs.Laws.Names.{names-first, names-none, names-length, names-of-entries}
 use Rattle.forms.specs.Laws.Views.{false-not, is-record, is-action, see, seen-set, seen-record, seen-entity, seen-action, seen-extension, seen-atom}
 use Rattle.forms.specs.Names.{names_in}
-use Rattle.schemas.specs.Schema.{said_by}
+use Rattle.schemas.specs.Schema.{said_by, limits_in}
 use Rattle.forms.specs.Laws.NamesIn.{names-of-entity, names-over, names-front}
 use Rattle.schemas.specs.declared.schema.Schema.{Schema}
 use Rattle.attributes.specs.EntityAttribute.{HasRows}
@@ -155,6 +155,10 @@ module _ (s : Schema) (fits : Ty → Bool) (ns o : List ℕ) where
     no-entry h = ([], (ap (entity_names fits (said_by s)) types_are ∙ rw h refl, record { bytes = refl; many = refl }))
 
     module _ (x : Rows 5) (v : HasRows s k x) where
+      -- There is room for their names.
+      pub entry-entered : (limits_in s).bytes ≤ length o → length o ≤ most_bytes → Entered x o
+      entry-entered r l = record { laid = v.laid; room = omega (arith, r, v.few); size = l }
+
       pub rows-keep : keep_found (λ a. lookup_names fits (said_by s) a (names_in ns)) (names_of x) ≡ entity_names fits (said_by s) (names_in ns)
       rows-keep =
           ap (λ (l : List ℕ). keep_found (λ a. lookup_names fits (said_by s) a (names_in ns)) l) (sym v.is) ∙ sym (go (names_in ns) types_are)

@@ -13,7 +13,8 @@ pub returns-then-is_action : goal.returns-then-is_action
 returns-then-is_action c =
     let s = c.args.schema.now in
     let has = action-at s.sectioned c.args.entity c.args.id c.find_action.result c.find_action.ensures c.in_ok-action.action c.in_ok-action.was in
-    literal-action s c.args.entity c.args.id c.is_action.result c.is_action.ensures c.in_ok-action.action.body c.if-is_action.true has
+    literal-action s c.args.entity c.args.id c.is_action.result c.is_action.ensures c.find_action.result c.find_action.ensures
+    c.in_ok-action.action c.in_ok-action.was c.if-is_action.true has
 
 pub returns-in_err-find_entity : goal.returns-in_err-find_entity
 returns-in_err-find_entity c =
