@@ -6,3 +6,4 @@ pub mod Sets
 pub mod Lengths
 pub mod Shapes
 pub mod Bounds
+pub mod PastSets

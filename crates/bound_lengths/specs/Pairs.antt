@@ -1,16 +1,17 @@
 -- Attribute lists and their bound, attribute by attribute. Assumes nothing: these are definitions.
-use Rattle.std.specs.Prelude.{ℕ, ◌≤◌, ◌≡◌, Option as Maybe, Some, None, Bool, true, ◌&&◌, ◌||◌, cond, eqb, length, get_or}
+use Rattle.std.specs.Prelude.{ℕ, ◌≤◌, ◌≡◌, Option as Maybe, Some, None, Bool, true, ◌&&◌, ◌||◌, cond, eqb, length, get_or, ◌<◌, List}
 use Rattle.std.proofs.Math.Option.{Option, none, some}
 use Rattle.cedar.specs.Types.{Mode, is_permissive, eq_flag, Ty, Attrs}
 use Rattle.cedar.specs.TypeForm.{enc}
 use Rattle.cedar.specs.Result.{Result, ok, err, attribute_qualifier, record_width}
 use Rattle.cedar.specs.Bound.{same_names}
 use Rattle.cedar.specs.Laws.DirectBound.{direct, direct_attrs}
-use Rattle.forms.specs.TypeBytes.{whole, dec}
+use Rattle.forms.specs.TypeBytes.{whole, dec, Sound}
 use Rattle.forms.specs.TypeForms.{type_of}
 use Rattle.forms.specs.declared.rows.Row.{Row}
 use Rattle.forms.specs.declared.type_forms.AttributeForm.{AttributeForm}
 use Rattle.writing.specs.FormLengths.{cap}
+use Rattle.forms.specs.Parts.{rd}
 
 -- The bound of two attribute lists, with the names that the mode allows.
 abbrev pub joined_attrs : Mode → Attrs → Attrs → Result Attrs
@@ -54,3 +55,9 @@ joined_row m l r o = joined m (row_flag r) (dec l r.body.now) (attribute_in l o)
 abbrev pub joined_form : Mode → AttributeForm → Maybe AttributeForm → Result (Option (Bool × Ty))
 joined_form m x (Some y) = joined m x.required (type_of x.form) (some (y.required, type_of y.form))
 joined_form m x None = joined m x.required (type_of x.form) none
+
+-- What is left of a list, with no name below a name.
+pub record Front (l m name : ℕ) (fs cs : List ℕ) : Type 0 where
+  pub low : ℕ
+  pub sound : Sound l m low fs cs
+  pub above : 0 < m → name ≤ rd fs 0

@@ -1,6 +1,5 @@
 // How long the least upper bound of two types is, or why there is none: one walk.
 ghost use Rattle.std.specs.Prelude.{◌≡◌};
-ghost use Rattle.cedar.specs.Bound.{join_set};
 ghost use Rattle.cedar.specs.TypeForm.{enc};
 ghost use Rattle.cedar.specs.Laws.DirectBound.{direct, direct_names};
 ghost use Rattle.forms.specs.Modes.{as_mode};
@@ -9,11 +8,12 @@ ghost use Rattle.forms.specs.TypeForms.{type_of, listed};
 ghost use Rattle.writing.specs.FormLengths.{seen, plus, form_length_of, table};
 ghost use Rattle.bound_lengths.specs.Kinds.{partless};
 ghost use Rattle.bound_lengths.specs.Pairs.{joined_form, joined_attrs, pair_length_of};
+ghost use Rattle.bound_lengths.specs.Sets.{NotBothSets};
 
 use crate::kinds::unlike_kinds;
 use crate::names::Union;
 use crate::pairs::{dropped, kept, names_allowed};
-use crate::sets::set_length;
+use crate::sets::{past_sets, sets_length};
 use forms::kinds::Kind;
 use forms::modes::Mode;
 use forms::offsets::Offset;
@@ -53,9 +53,20 @@ fn entities_length(mode: Mode, a: &[u8], b: &[u8]) -> Result<usize, Refusal>
     Err(Refusal::EntityType)
 }
 
-// Of two types.
-#[cycle(actions_length_attributes_length_bound_length_pair_length_records_length_sets_length)]
+// Of two types: the sets that both begin with are gone down by a loop, and what is left is asked once.
+#[cycle(actions_length_attributes_length_bare_length_bound_length_pair_length_records_length)]
 pub fn bound_length(mode: Mode, a: TypeForm, b: TypeForm) -> Result<usize, Refusal>
+    ensures { seen result ≡ form_length_of enc (direct (as_mode mode) (type_of a.entry) (type_of b.entry)) }
+{
+    let (x, y, sets) = past_sets(a, b);
+    sets_length(mode, sets, bare_length(mode, x, y))
+}
+
+// Of two types that are not both sets.
+#[cycle(actions_length_attributes_length_bare_length_bound_length_pair_length_records_length)]
+#[inline]
+fn bare_length(mode: Mode, a: TypeForm, b: TypeForm) -> Result<usize, Refusal>
+    requires { NotBothSets a b }
     ensures { seen result ≡ form_length_of enc (direct (as_mode mode) (type_of a.entry) (type_of b.entry)) }
 {
     match a.shape() {
@@ -64,11 +75,7 @@ pub fn bound_length(mode: Mode, a: TypeForm, b: TypeForm) -> Result<usize, Refus
                 return Ok(Offset::ELEMENT);
             }
         }
-        Shape::Set(x) => {
-            if let Shape::Set(y) = b.shape() {
-                return sets_length(mode, x, y);
-            }
-        }
+        Shape::Set(_) => {}
         Shape::Record(_, x) => {
             if let Shape::Record(_, y) = b.shape() {
                 return records_length(mode, x, y);
@@ -97,16 +104,8 @@ pub fn bound_length(mode: Mode, a: TypeForm, b: TypeForm) -> Result<usize, Refus
     partless_length(mode, a, b)
 }
 
-// Of two sets, by their elements.
-#[cycle(actions_length_attributes_length_bound_length_pair_length_records_length_sets_length)]
-fn sets_length(mode: Mode, a: TypeForm, b: TypeForm) -> Result<usize, Refusal>
-    ensures { seen result ≡ form_length_of enc (join_set (as_mode mode) (direct (as_mode mode) (type_of a.entry) (type_of b.entry))) }
-{
-    set_length(mode, bound_length(mode, a, b))
-}
-
 // Of two records, by their attributes.
-#[cycle(actions_length_attributes_length_bound_length_pair_length_records_length_sets_length)]
+#[cycle(actions_length_attributes_length_bare_length_bound_length_pair_length_records_length)]
 fn records_length(mode: Mode, a: AttributeForms, b: AttributeForms) -> Result<usize, Refusal>
     ensures { seen result ≡ plus 4 (form_length_of table (joined_attrs (as_mode mode) (listed a.entry) (listed b.entry))) }
 {
@@ -114,7 +113,7 @@ fn records_length(mode: Mode, a: AttributeForms, b: AttributeForms) -> Result<us
 }
 
 // Of two actions of one name, by their attributes.
-#[cycle(actions_length_attributes_length_bound_length_pair_length_records_length_sets_length)]
+#[cycle(actions_length_attributes_length_bare_length_bound_length_pair_length_records_length)]
 fn actions_length(mode: Mode, a: AttributeForms, b: AttributeForms) -> Result<usize, Refusal>
     ensures { seen result ≡ plus 5 (form_length_of table (joined_attrs (as_mode mode) (listed a.entry) (listed b.entry))) }
 {
@@ -122,7 +121,7 @@ fn actions_length(mode: Mode, a: AttributeForms, b: AttributeForms) -> Result<us
 }
 
 // Of two lists of attributes, with so many bytes before them.
-#[cycle(actions_length_attributes_length_bound_length_pair_length_records_length_sets_length)]
+#[cycle(actions_length_attributes_length_bare_length_bound_length_pair_length_records_length)]
 fn attributes_length(
     mode: Mode,
     mut attributes: AttributeForms,
@@ -145,7 +144,7 @@ fn attributes_length(
 }
 
 // Of an attribute, with the attribute of its name; none where it is dropped.
-#[cycle(actions_length_attributes_length_bound_length_pair_length_records_length_sets_length)]
+#[cycle(actions_length_attributes_length_bare_length_bound_length_pair_length_records_length)]
 fn pair_length(
     mode: Mode,
     attribute: AttributeForm,

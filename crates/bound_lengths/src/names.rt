@@ -1,7 +1,7 @@
 // Lists of ascending names, two bytes each, and the union of two, name by name.
-ghost use Rattle.std.specs.Prelude.{◌≡◌, ◌+◌, ◌*◌, ◌<◌, ◌≤◌, length, slice_get, IfSome};
+ghost use Rattle.std.specs.Prelude.{◌≡◌, ◌+◌, ◌*◌, ◌<◌, ◌≤◌, cond, leb, length, slice_get, IfSome};
 ghost use Rattle.cedar.specs.Bound.{union};
-ghost use Rattle.bound_lengths.specs.Names.{least, without, Merged};
+ghost use Rattle.bound_lengths.specs.Names.{Merged};
 ghost use Rattle.forms.specs.Names.{names_in, Ascending};
 
 use forms::numbers::u16_at;
@@ -26,26 +26,15 @@ fn first(names: &[u8]) -> Option<usize>
     Some(u16_at(names, 0))
 }
 
-// The lesser of two names, or the one that is there.
-fn least(p: Option<usize>, q: Option<usize>) -> Option<usize>
-    ensures { result ≡ least p q }
+// How many names are taken of a list that begins with p, beside one that begins with q: 1 or 0, a number, so that the merge of two lists
+// has no branch to guess.
+fn taken(p: usize, q: usize) -> usize
+    ensures { result ≡ cond (leb p q) 1 0 }
 {
-    match (p, q) {
-        (Some(p), Some(q)) => Some(p.min(q)),
-        (p, q) => p.or(q),
+    if p <= q {
+        return 1;
     }
-}
-
-// A list without a name, if it begins with it.
-fn past(names: &[u8], name: usize) -> &[u8]
-    requires { Ascending names.now }
-    ensures same { names_in result.now ≡ without name (names_in names.now) }
-    ensures ascending { Ascending result.now }
-{
-    if first(names) == Some(name) {
-        return &names[Width::NAME..];
-    }
-    names
+    0
 }
 
 impl Union<'_> {
@@ -54,10 +43,22 @@ impl Union<'_> {
         requires { Ascending self.old.left.now × Ascending self.old.right.now }
         ensures { Merged self.old.left.now self.old.right.now self.new.left.now self.new.right.now result }
     {
-        let name = least(first(self.left), first(self.right))?;
-        self.left = past(self.left, name);
-        self.right = past(self.right, name);
-        Some(name)
+        match (first(self.left), first(self.right)) {
+            (Some(p), Some(q)) => {
+                self.left = &self.left[Width::NAME * taken(p, q)..];
+                self.right = &self.right[Width::NAME * taken(q, p)..];
+                Some(p.min(q))
+            }
+            (Some(p), None) => {
+                self.left = &self.left[Width::NAME..];
+                Some(p)
+            }
+            (None, Some(q)) => {
+                self.right = &self.right[Width::NAME..];
+                Some(q)
+            }
+            (None, None) => None,
+        }
     }
 
     // How many names the union has.

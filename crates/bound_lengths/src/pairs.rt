@@ -1,21 +1,31 @@
 // What two attributes of one name come to, and what the mode allows.
-ghost use Rattle.std.specs.Prelude.{◌≡◌, ◌||◌, cond, Some, None};
+ghost use Rattle.std.specs.Prelude.{◌≡◌, ◌||◌, ◌*◌, ◌≤◌, cond, length, Some, None};
 ghost use Rattle.cedar.specs.Result.{ok, err};
 ghost use Rattle.cedar.specs.Types.{is_permissive, names, eq_names, eq_flag};
 ghost use Rattle.forms.specs.Modes.{as_mode};
 ghost use Rattle.forms.specs.Refusals.{number_of};
+ghost use Rattle.forms.specs.TypeBytes.{names_by};
 ghost use Rattle.forms.specs.TypeForms.{listed};
 ghost use Rattle.writing.specs.FormLengths.{seen};
 
 use forms::modes::Mode;
 use forms::refusals::Refusal;
+use forms::rows::Attributes;
 use forms::type_forms::AttributeForms;
 
-// Strict, two attribute lists need the same names.
+// Strict, two tables of attributes need the same names, whatever else their entries say.
+pub fn rows_allowed(mode: Mode, attributes: Attributes, others: Attributes) -> bool
+    requires { (5 * attributes.left ≤ length attributes.entries.now) × (5 * others.left ≤ length others.entries.now) }
+    ensures { result ≡ (is_permissive (as_mode mode) || eq_names (names_by 5 attributes.entry.left attributes.entry.entries.now) (names_by 5 others.entry.left others.entry.entries.now)) }
+{
+    mode.is_permissive() || attributes.same_names(others)
+}
+
+// Of two attribute lists.
 pub fn names_allowed(mode: Mode, attributes: AttributeForms, others: AttributeForms) -> bool
     ensures { result ≡ (is_permissive (as_mode mode) || eq_names (names (listed attributes.entry)) (names (listed others.entry))) }
 {
-    mode.is_permissive() || attributes.same_names(others)
+    rows_allowed(mode, attributes.rows, others.rows)
 }
 
 // No attribute: permissive it is dropped, strict that is a refusal.

@@ -1,2 +1,3 @@
 pub mod Joins
+pub mod TypedSets
 pub mod Laws

@@ -19,7 +19,7 @@ ghost use Rattle.bounds.specs.Joins.{count_of, KnownLength};
 use crate::flags::is_open;
 use crate::kept_attributes::{kept_count, kept_with};
 use crate::unions::write_union;
-use crate::untyped_sets::{element_length, is_untyped};
+use crate::untyped_sets::{past_typed, put_sets};
 use bound_lengths::kinds::unlike_kinds;
 use bound_lengths::names::Union;
 use forms::kinds::{Kind, Openness};
@@ -104,7 +104,7 @@ pub fn write_bound(
     }
 }
 
-// Writes the bound of two sets, and says how long it is: the untyped set, or the bound of their elements behind the kind.
+// Writes the bound of two sets, and says how long it is: the untyped set, or behind the kinds of the typed ones what is left.
 #[cycle(write_action_write_attributes_write_bound_write_record_write_set)]
 fn write_set(
     mode: Mode,
@@ -120,23 +120,15 @@ fn write_set(
     requires known_length { KnownLength known (form_of enc (direct (as_mode mode) (dec levels a.now) (dec levels b.now))) }
     ensures { Written (form_of enc (direct (as_mode mode) (dec levels a.now) (dec levels b.now))) out.old out.new result }
 {
-    let x = &a[Offset::ELEMENT..];
-    let y = &b[Offset::ELEMENT..];
-    let left = TypeForm {
-        levels: levels - 1,
-        bytes: x,
-    };
-    let right = TypeForm {
-        levels: levels - 1,
-        bytes: y,
-    };
-    if is_untyped(mode, left, right, known) {
+    let left = TypeForm { levels, bytes: a };
+    let right = TypeForm { levels, bytes: b };
+    let (x, y, length, sets) = past_typed(mode, left, right, known);
+    if sets == 0 {
         put_first(out, Kind::AnySet);
         return Offset::ELEMENT;
     }
-    put_first(out, Kind::Set);
-    let element = element_length(known);
-    write_bound(mode, x, y, levels - 1, element, &mut out[Offset::ELEMENT..]) + Offset::ELEMENT
+    put_sets(out, sets);
+    write_bound(mode, x.bytes, y.bytes, x.levels, length, &mut out[sets..]) + sets
 }
 
 // Writes the bound of two records, and says how long it is.

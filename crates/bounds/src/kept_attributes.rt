@@ -8,18 +8,33 @@ ghost use Rattle.forms.specs.Modes.{as_mode};
 ghost use Rattle.forms.specs.Tables.{Tabled, attrs_at};
 ghost use Rattle.forms.specs.TypeForms.{type_of};
 ghost use Rattle.bound_lengths.specs.Pairs.{WholeRow, joined_row, joined_attrs};
-ghost use Rattle.bounds.specs.Joins.{count_of, is_ok, KeptWith};
+ghost use Rattle.bounds.specs.Joins.{count_of, is_ok, Bare, KeptWith};
 
 use bound_lengths::bound_length::bound_length;
+use bound_lengths::sets::past_sets;
 use forms::kinds::Kind;
 use forms::modes::Mode;
 use forms::rows::{Row, Rows};
 use forms::type_forms::{Shape, TypeForm};
 use forms::widths::Width;
 
-// Whether two types have a bound, permissive. Of one kind, only sets, actions and extensions may have none, and loose no sets.
+// Whether two types have a bound, permissive: unless loose, of those below the sets that both begin with.
 pub fn has_bound(mode: Mode, a: TypeForm, b: TypeForm) -> bool
     requires { is_permissive (as_mode mode) ≡ true }
+    ensures { result ≡ is_ok (direct (as_mode mode) (type_of a.entry) (type_of b.entry)) }
+{
+    if mode.is_loose() {
+        return has_bare_bound(mode, a, b);
+    }
+    let (x, y, _) = past_sets(a, b);
+    has_bare_bound(mode, x, y)
+}
+
+// Of one kind, only actions and extensions may have none: loose, two sets always have one, and else these are not both sets.
+#[inline]
+fn has_bare_bound(mode: Mode, a: TypeForm, b: TypeForm) -> bool
+    requires permissive { is_permissive (as_mode mode) ≡ true }
+    requires bare { Bare (as_mode mode) a b }
     ensures { result ≡ is_ok (direct (as_mode mode) (type_of a.entry) (type_of b.entry)) }
 {
     match a.shape() {
@@ -28,9 +43,9 @@ pub fn has_bound(mode: Mode, a: TypeForm, b: TypeForm) -> bool
                 return true;
             }
         }
-        Shape::Set(x) => {
-            if let Shape::Set(y) = b.shape() {
-                return mode.is_loose() || has_bound(mode, x, y);
+        Shape::Set(_) => {
+            if let Shape::Set(_) = b.shape() {
+                return true;
             }
         }
         Shape::Record(_, _) => {

@@ -34,6 +34,8 @@ use Rattle.forms.specs.Tables.{attrs_at, Tabled}
 use Rattle.forms.specs.Laws.Codes.{atom-code, code-dec, atom-at}
 use Rattle.bound_lengths.specs.Laws.Kinds.{unlike-is}
 use Rattle.bound_lengths.specs.Laws.Lengths.{record-long, action-long, type-length}
+use Rattle.bound_lengths.specs.Sets.{set_length}
+use Rattle.bound_lengths.specs.Laws.Sets.{joined_length}
 
 -- A table whose count stands at c, from its count on.
 module _ (c : ℕ) (b : List ℕ) where
@@ -260,6 +262,11 @@ module _ (m : Mode) (l : ℕ) (a b : List ℕ) (ha : whole l a ≡ true) (hb : w
 
   pub set-join : kind a ≡ 7 → kind b ≡ 7 → joins ≡ join_set m (direct m (dec (l - 1) (rest 1 a)) (dec (l - 1) (rest 1 b)))
   set-join e f = sets-join m (dec l a) (dec l b) (is_set l a ha e).is (is_set l b hb f).is
+
+  pub sets-length : kind a ≡ 7 → kind b ≡ 7 → (x y : Result ℕ) → x ≡ form_length_of enc (direct m (dec (l - 1) (rest 1 a)) (dec (l - 1) (rest 1 b))) →
+      y ≡ set_length m x → y ≡ form_length_of enc joins
+  sets-length e f x y p q =
+      q ∙ ap (set_length m) p ∙ joined_length m (direct m (dec (l - 1) (rest 1 a)) (dec (l - 1) (rest 1 b))) ∙ sym (ap (form_length_of enc) (set-join e f))
 
   pub record-join : kind a ≡ 8 → kind b ≡ 8 →
       joins ≡ bind (joined_attrs m (attrs_at (l - 1) 2 a) (attrs_at (l - 1) 2 b))

@@ -1,5 +1,5 @@
 -- Bounds by kinds alone. Assumes nothing.
-use Rattle.std.specs.Prelude.{◌≡◌, refl, Bool, true, false, not, cond, ℕ, length}
+use Rattle.std.specs.Prelude.{◌≡◌, refl, Bool, true, false, not, cond, ℕ, length, zero, suc, ◌≤◌, eqb}
 use Rattle.std.proofs.Common.{ap, sym, ◌∙◌, arith, rules}
 use denote.Enum.Bare.{sameb, same_true}
 use Rattle.forms.specs.Kinds.{kind_number}
@@ -8,7 +8,7 @@ use Rattle.forms.specs.declared.kinds.Kind.{Kind}
 use Rattle.forms.specs.declared.kinds.Kind.TheVariants as kinds
 use Rattle.forms.specs.Laws.Kinds.{kind-same}
 use Rattle.forms.specs.Laws.Views.{false-not}
-use Rattle.cedar.specs.Types.{Mode, is_permissive, never, true', false', bool, long, string, anyset, anyent, Ty, atom, set, rec, act, ent, ext, same}
+use Rattle.cedar.specs.Types.{Mode, is_permissive, never, true', false', bool, long, string, anyset, anyent, Ty, atom, set, rec, act, ent, ext, same, eq_flag}
 use Rattle.cedar.specs.TypeForm.{enc}
 use Rattle.cedar.specs.Result.{Result, ok, err}
 use Rattle.cedar.specs.Subtype.{sub}
@@ -271,3 +271,20 @@ unlike-is m (ext n) (rec o' xs') h p q = refl
 unlike-is m (ext n) (act n' xs') h p q = refl
 unlike-is m (ext n) (ent ns') h p q = refl
 unlike-is m (ext n) (ext n') h p q = absurd (h refl)
+
+-- Flags.
+pub flags-same : (a b : ℕ) → a ≡ b → eq_flag (eqb a 1) (eqb b 1) ≡ true
+flags-same a b e = rw e (go (eqb b 1))
+  where
+    go : (x : Bool) → eq_flag x x ≡ true
+    go true = refl
+    go false = refl
+
+pub flags-other : (a b : ℕ) → a ≤ 1 → b ≤ 1 → (a ≡ b → ⊥) → eq_flag (eqb a 1) (eqb b 1) ≡ false
+flags-other zero zero p q h = absurd (h refl)
+flags-other zero (suc zero) p q h = refl
+flags-other (suc zero) zero p q h = refl
+flags-other (suc zero) (suc zero) p q h = absurd (h refl)
+flags-other zero (suc (suc b)) p q h = absurd (omega arith)
+flags-other (suc zero) (suc (suc b)) p q h = absurd (omega arith)
+flags-other (suc (suc a)) b p q h = absurd (omega arith)

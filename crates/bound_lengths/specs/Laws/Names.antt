@@ -1,7 +1,8 @@
 -- Lists of ascending names: their union by one merge, and names that rows begin with. Assumes nothing.
-use Rattle.std.specs.Prelude.{◌≡◌, refl, List, [], ◌∷◌, Bool, true, false, ℕ, zero, suc, ◌+◌, ◌*◌, ◌/◌, ◌-◌, ◌≤◌, ◌<◌, Option, Some, None, IfSome, cond, min, eqb, length, slice_get}
+use Rattle.std.specs.Prelude.{◌≡◌, refl, List, [], ◌∷◌, Bool, true, false, ℕ, zero, suc, ◌+◌, ◌*◌, ◌/◌, ◌-◌, ◌≤◌, ◌<◌, Option, Some, None, IfSome, cond, min, eqb, leb, length, slice_get}
 use Rattle.std.specs.Option.{option_eq}
-use Rattle.std.proofs.Common.{ap, sym, ◌∙◌, arith, lt-ltb, le-ltb, eq-eqb, ne_eqb}
+use Rattle.std.proofs.Common.{ap, sym, ◌∙◌, arith, lt-ltb, le-ltb, le-leb, eq-eqb, ne_eqb}
+use Rattle.std.proofs.lemmas.Bool.{lt-leb}
 use Rattle.std.proofs.Math.Decide.{dec_lt}
 use Rattle.cedar.specs.Types.{Mode, is_permissive, ent, eq_names}
 use Rattle.cedar.specs.TypeForm.{enc}
@@ -13,7 +14,7 @@ use Rattle.cedar.specs.Bound.{insert, union}
 use Rattle.cedar.proofs.Laws.Names.{union-ascend}
 use Rattle.forms.specs.Parts.{rest, rd}
 use Rattle.forms.specs.TypeBytes.{names_up, names_by}
-use Rattle.forms.specs.Laws.Parts.{length_rest}
+use Rattle.forms.specs.Laws.Parts.{length_rest, rest_0}
 use Rattle.forms.specs.Laws.Types.{names-up}
 use Rattle.forms.specs.Laws.Names.{names-first, names-none, names-length, names-ascend}
 use Rattle.cedar.specs.Bytes.{Bytes, enc_names}
@@ -190,6 +191,87 @@ step-next {x} {y} {x'} {y'} {n} s t g h s' t' e f =
       is = g.is ∙ rw (e, f) refl;
     }
 
+-- A list where a first name is known: what is left of it past the lesser of that name and another list's.
+pub record Taken (x : List ℕ) (n i : ℕ) : Type 0 where
+  pub room : 2 * i ≤ length x
+  pub more : Ascending (rest (2 * i) x)
+  pub is : names_in (rest (2 * i) x) ≡ without n (names_in x)
+
+module _ {x : List ℕ} (s : Ascending x) (p : ℕ) (e : slice_get (names_in x) 0 ≡ Some p) where
+  first-there : 0 < length x
+  first-there = names-some x (go (names_in x) e)
+    where
+      go : (ns : List ℕ) → slice_get ns 0 ≡ Some p → 0 < length ns
+      go [] h = absurd (some-none (sym h))
+      go (n ∷ ns) h = omega arith
+
+  first-is : names_in x ≡ p ∷ names_in (rest 2 x)
+  first-is =
+      let z : ◌≡◌ {A = Option ℕ} (Some (rd x 0)) (Some p) = rw (names-cons s first-there) at e in
+      let y : rd x 0 ≡ p = cc in
+      names-cons s first-there ∙ ap (λ (n : ℕ). n ∷ names_in (rest 2 x)) y
+
+  pub taken-one : Taken x p 1
+  taken-one =
+      record {
+        room = names-room s first-there;
+        more = names-more s first-there;
+        is = sym (rw first-is (rw (eq-eqb p p refl) refl));
+      }
+
+  taken-none : (n : ℕ) → n < p → Taken x n 0
+  taken-none n h =
+      record {
+        room = omega arith;
+        more = rw (rest_0 x) s;
+        is = ap names_in (rest_0 x) ∙ sym (rw first-is (rw (ne_eqb p n (λ v. omega arith)) refl));
+      }
+
+  pub taken-past : (q i n : ℕ) → i ≡ cond (leb p q) 1 0 → n ≡ min p q → Taken x n i
+  taken-past q i n f g = go (dec_lt q p)
+    where
+      go : Dec (q < p) → Taken x n i
+      go (yes h) =
+          let z : i ≡ 0 = f ∙ rw (lt-leb p q h) refl in
+          rw z (taken-none n (omega arith))
+      go (no h) =
+          let z : i ≡ 1 = f ∙ rw (le-leb p q (omega arith)) refl in
+          let y : n ≡ p = omega arith in
+          rw (z, y) taken-one
+
+-- A list without a name has nothing to take.
+pub nothing-taken : (ns : List ℕ) (n : ℕ) → slice_get ns 0 ≡ None → ns ≡ without n ns
+nothing-taken [] n e = refl
+nothing-taken (m ∷ ms) n e = absurd (some-none e)
+
+-- Two lists without a first name have none together.
+pub next-end : (ns ks : List ℕ) → slice_get ns 0 ≡ None → slice_get ks 0 ≡ None → union ns ks ≡ []
+next-end ns ks e f = step-end ns ks (rw (e, f) refl)
+
+-- The next name of a union where both lists have a name, or one of them.
+module _ {x y : List ℕ} (s : Ascending x) (t : Ascending y) where
+  pub next-both : (p q i j n : ℕ) → slice_get (names_in x) 0 ≡ Some p → slice_get (names_in y) 0 ≡ Some q → p < 65536 →
+      i ≡ cond (leb p q) 1 0 → j ≡ cond (leb q p) 1 0 → n ≡ min p q → Next x y n (rest (2 * i) x) (rest (2 * j) y)
+  next-both p q i j n e f h a b g =
+      let u = taken-past s p e q i n a g in
+      let v = taken-past t q f p j n b (omega arith) in
+      let k : Step (names_in x) (names_in y) n = rw g (step-both (names_in x) (names_in y) s.low t.low p q (ascends s) (ascends t) e f) in
+      step-next s t k (omega arith) u.more v.more u.is v.is
+
+  pub next-left : (p : ℕ) → slice_get (names_in x) 0 ≡ Some p → slice_get (names_in y) 0 ≡ None → p < 65536 → Next x y p (rest 2 x) y
+  next-left p e f h =
+      let u = taken-one s p e in
+      step-next s t (step-left (names_in x) (names_in y) s.low p (ascends s) e f) h u.more t u.is (nothing-taken (names_in y) p f)
+
+  pub next-right : (q : ℕ) → slice_get (names_in x) 0 ≡ None → slice_get (names_in y) 0 ≡ Some q → q < 65536 → Next x y q x (rest 2 y)
+  next-right q e f h =
+      let u = taken-one t q f in
+      step-next s t (step-right (names_in x) (names_in y) t.low q (ascends t) e f) h s u.more (nothing-taken (names_in x) q e) u.is
+
+-- Two lists without a name have none together.
+pub union-none : (n : ℕ) (x : List ℕ) (m : ℕ) (y : List ℕ) → n + m ≤ 0 → union (names_by 2 n x) (names_by 2 m y) ≡ []
+union-none n x m y h = rw (names-none 2 n x (omega arith), names-none 2 m y (omega arith)) refl
+
 -- The bound of two entities.
 pub names-long : (ns : List ℕ) → length (enc (ent ns)) ≡ 3 + 2 * length ns
 unfolding enc
@@ -206,6 +288,11 @@ module _ (b : List ℕ) (h : (length b ≡ 3 + 2 * rd b 1) × (names_up (rd b 1)
 
   pub entity-names : names_in (rest 3 b) ≡ names_by 2 (rd b 1) (rest 3 b)
   entity-names = rw count-is refl
+
+-- The names of an entity form, as many as were read.
+pub names_at : (b : List ℕ) (n : ℕ) → n ≡ rd b 1 → (length b ≡ 3 + 2 * rd b 1) × (names_up (rd b 1) 0 (rest 3 b) ≡ true) →
+    (length (rest 3 b) ≡ 2 * n) × (names_up n 0 (rest 3 b) ≡ true)
+names_at b n q h = (omega (arith, length_rest 3 b, h.0), rw q h.1)
 
 -- Ascending names are equal where their bytes are.
 pub entities-same : (a b : List ℕ) → Bytes a → Bytes b → Ascending a → Ascending b → pointwise eqb a b ≡ eq_names (names_in a) (names_in b)

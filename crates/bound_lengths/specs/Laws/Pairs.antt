@@ -1,7 +1,7 @@
 -- The bound of two attribute lists, attribute by attribute, from the first on. Assumes nothing.
-use Rattle.std.specs.Prelude.{◌≡◌, refl, Option as Maybe, Some, None, List, Bool, true, false, ◌&&◌, ◌||◌, cond, ℕ, zero, suc, ◌+◌, ◌≤◌, length}
+use Rattle.std.specs.Prelude.{◌≡◌, refl, Option as Maybe, Some, None, List, Bool, true, false, ◌&&◌, ◌||◌, cond, ℕ, zero, suc, ◌+◌, ◌≤◌, length, ◌*◌, ◌-◌, ◌<◌, eqb, get_or}
 use Rattle.std.specs.Option.{ForSome}
-use Rattle.std.proofs.Common.{ap, ap₂, subst, ◌∙◌, sub-one, arith}
+use Rattle.std.proofs.Common.{ap, ap₂, subst, ◌∙◌, sub-one, arith, eq-eqb, ne_eqb}
 use Rattle.std.proofs.Math.Path.{sym}
 use Rattle.std.proofs.Math.Option.{Option, none, some}
 use Rattle.cedar.specs.Types.{Mode, is_permissive, eq_flag, Ty, Attrs, nil, attr, find, maybe, names}
@@ -10,9 +10,9 @@ use Rattle.cedar.specs.Result.{Result, ok, err, attribute_qualifier, record_widt
 use Rattle.cedar.specs.Bound.{absent, join_kept, join_equal, join_one}
 use Rattle.cedar.specs.Laws.Shape.{Ascend}
 use Rattle.cedar.specs.Laws.DirectBound.{direct, direct_attrs}
-use Rattle.forms.specs.Parts.{rest, rd}
-use Rattle.forms.specs.TypeBytes.{dec_a, dec, Sound}
-use Rattle.forms.specs.Laws.Attributes.{entry, attrs-none, laid}
+use Rattle.forms.specs.Parts.{rest, rd, part}
+use Rattle.forms.specs.TypeBytes.{dec_a, dec, Sound, whole}
+use Rattle.forms.specs.Laws.Attributes.{entry, attrs-none, laid, Entry, find-under, Past}
 use Rattle.forms.specs.RowBytes.{TookFirst, Skipped, Sought}
 use Rattle.forms.specs.declared.rows.Row.{Row}
 use Rattle.forms.specs.declared.type_forms.AttributeForm.{AttributeForm}
@@ -21,10 +21,11 @@ use Rattle.forms.specs.TypeForms.{type_of, listed, TookFirstAttribute, Attribute
 use Rattle.forms.specs.Laws.RowBytes.{head-length}
 use Rattle.forms.specs.Laws.AttributeRows.{Attribute, taken-attribute, Ahead, ahead, found-attribute, found-none}
 use Rattle.writing.specs.FormLengths.{cap, table, form_length_of}
-use Rattle.bound_lengths.specs.Pairs.{joined_to, joined, pair_length_of, WholeRow, row_flag, attribute_in, joined_row, joined_form}
+use Rattle.bound_lengths.specs.Pairs.{joined_to, joined, pair_length_of, WholeRow, row_flag, attribute_in, joined_row, joined_form, Front}
 use Rattle.forms.specs.Tables.{Tabled}
 use Rattle.forms.specs.Laws.Tables.{Split}
-use Rattle.writing.specs.Laws.FormLengths.{before, not_err, Summing, summing-err, summing-more}
+use Rattle.writing.specs.Laws.FormLengths.{before, not_err, Summing, summing-err, summing-more, of-ok}
+use Rattle.std.proofs.Math.Decide.{ℕ_discrete}
 
 -- An attribute as it was joined, before the others.
 abbrev pub after : ℕ → Result (Option (Bool × Ty)) → Result Attrs → Result Attrs
@@ -119,6 +120,29 @@ pub record Walk (l n : ℕ) (es bs : List ℕ) (m : ℕ) (fs cs : List ℕ) : Ty
 pub walk_end : (M : Mode) (l n : ℕ) (es bs : List ℕ) (ys : Attrs) → n ≤ 0 → direct_attrs M (dec_a (dec l) n es bs) ys ≡ ok nil
 walk_end M l n es bs ys h = rw (attrs-none (dec l) n es bs h) (unfold direct in refl)
 
+-- The first attribute of a walk, by its entry.
+module _ {l n m : ℕ} {es bs fs cs : List ℕ} (w : Walk l n es bs m fs cs) (p : 0 < n) where
+  walk-entry : Entry l n w.low es bs
+  walk-entry = entry w.first p
+
+  pub walk-room : 5 ≤ length es
+  walk-room = walk-entry.room
+
+  pub walk-flag : get_or es 2 0 ≤ 1
+  walk-flag = walk-entry.flag
+
+  module _ (k : ℕ) (q : k ≡ rd es 3) where
+    pub walk-fit : k ≤ length bs
+    walk-fit = rw q walk-entry.fit
+
+    pub walk-body : whole l (part 0 k bs) ≡ true
+    walk-body = rw q walk-entry.body
+
+    -- Past the names below the first one.
+    module _ (name : ℕ) (ne : name ≡ rd es 0) (i off : ℕ) (h : Past l m name fs cs i off) where
+      pub walk-front : Front l (m - i) (rd es 0) (rest (5 * i) fs) (rest off cs)
+      walk-front = record { low = h.low; sound = h.sound; above = λ g. rw (← ne) (h.above (omega arith)) }
+
 -- What is left of two lists, where an attribute of the first was taken, and the second was searched for its name.
 module _ {l n m : ℕ} {es bs fs cs : List ℕ} (w : Walk l n es bs m fs cs) {n' m' : ℕ} {es' bs' fs' cs' : List ℕ} {r : Row} (t : TookFirst 5 n es bs n' es' bs' r)
     {name : ℕ} (q : name ≡ rd r.head.now 0) (s : Skipped 5 m name fs cs m' fs' cs') where
@@ -168,6 +192,12 @@ module _ {l n m : ℕ} {es bs fs cs : List ℕ} (w : Walk l n es bs m fs cs) {n'
               (λ j h. others.later j (omega (arith, q))));
         }
 
+-- What a pair says, where it is kept.
+pub pair-kept : (J : Result (Option (Bool × Ty))) (k : ℕ) → ok (Some k) ≡ pair_length_of J → (y : Bool × Ty) × ((J ≡ ok (some y)) × (k ≡ cap (length (enc y.1))))
+pair-kept (ok none) k e = absurd (let z : ◌≡◌ {A = ℕ} 0 1 = cc in omega arith)
+pair-kept (ok (some y)) k e = (y, (refl, cc))
+pair-kept (err d) k e = absurd (let z : ◌≡◌ {A = ℕ} 0 1 = cc in omega arith)
+
 -- The loop of the length pass, where an attribute was joined.
 module _ {all ahead : Result Attrs} {sum : ℕ} (i : Summing all ahead sum) {n : ℕ} {J : Result (Option (Bool × Ty))} {cs : Result Attrs} (step : Joins ahead n J cs) where
   pub pair-not : (d : ℕ) → err d ≡ pair_length_of J → err d ≡ form_length_of table all
@@ -204,11 +234,65 @@ dropped-pair : (p : Bool) (d : ℕ) → cond p (ok None) (err d) ≡ pair_length
 dropped-pair true d = refl
 dropped-pair false d = refl
 
--- A pair whose types have no bound.
+-- A pair, found or not.
+pub pair-absent : (m : Mode) (r : Bool) (t : Ty) (o : Option (Bool × Ty)) (x : Result (Maybe ℕ)) → o ≡ none → x ≡ cond (is_permissive m) (ok None) (err 12) →
+    x ≡ pair_length_of (joined m r t o)
+pair-absent m r t o x e q = q ∙ rw e (dropped-pair (is_permissive m) 12)
+
+-- A pair whose types have no bound, or have one.
 module _ (m : Mode) (r s : Bool) (t u : Ty) where
   pub pair-none : (d : ℕ) (y : Result (Maybe ℕ)) → err d ≡ form_length_of enc (direct m t u) → y ≡ cond (is_permissive m) (ok None) (err d) →
       y ≡ pair_length_of (joined m r t (some (s, u)))
   pair-none d y q g = g ∙ rw (not_err enc (direct m t u) (err d) d q refl) (dropped-pair (is_permissive m) d)
+
+  pub pair-some : (k : ℕ) (y : Result (Maybe ℕ)) → ok k ≡ form_length_of enc (direct m t u) →
+      y ≡ cond (is_permissive m || eq_flag r s) (ok (Some k)) (err 11) → y ≡ pair_length_of (joined m r t (some (s, u)))
+  pair-some k y q g =
+      let c = of-ok enc (direct m t u) (ok k) k q refl in
+      g ∙ go (is_permissive m || eq_flag r s) c.0 c.1.1 ∙ sym (ap (λ z. pair_length_of (joined_to m r s z)) c.1.0)
+    where
+      go : (p : Bool) (c : Ty) → k ≡ cap (length (enc c)) → cond p (ok (Some k)) (err 11) ≡ pair_length_of (cond p (ok (some (r && s, c))) (err 11))
+      go true c h = ap (λ (n : ℕ). ok (Some n)) h
+      go false c h = refl
+
+-- The attribute of a name that is not below the first is the first.
+front-found : {l m name : ℕ} {fs cs : List ℕ} → Front l m name fs cs → (y : Bool × Ty) → find name (dec_a (dec l) m fs cs) ≡ some y →
+    (0 < m) × (find name (dec_a (dec l) m fs cs) ≡ some (eqb (get_or fs 2 0) 1, dec l (part 0 (rd fs 3) cs)))
+front-found {l} {m} {name} {fs} {cs} s y e = go m refl
+  where
+    none-some : none ≡ some y → ⊥
+    none-some z = let w : ◌≡◌ {A = ℕ} 0 1 = cc in omega arith
+
+    at : 0 < m → Dec (name ≡ rd fs 0) → find name (dec_a (dec l) m fs cs) ≡ some (eqb (get_or fs 2 0) 1, dec l (part 0 (rd fs 3) cs))
+    at p (yes q) = ap (find name) (entry s.sound p).is ∙ rw (eq-eqb name (rd fs 0) q) refl
+    at p (no q) =
+        let t = entry s.sound p in
+        let a = s.above p in
+        absurd (none-some (sym (ap (find name) t.is ∙ rw (ne_eqb name (rd fs 0) q) (find-under t.more name (omega arith))) ∙ e))
+
+    go : (k : ℕ) → m ≡ k → (0 < m) × (find name (dec_a (dec l) m fs cs) ≡ some (eqb (get_or fs 2 0) 1, dec l (part 0 (rd fs 3) cs)))
+    go zero z = absurd (none-some (sym (ap (find name) (attrs-none (dec l) m fs cs (omega arith))) ∙ e))
+    go (suc k) z = (omega arith, at (omega arith) (ℕ_discrete name (rd fs 0)))
+
+module _ {l m name : ℕ} {fs cs : List ℕ} (s : Front l m name fs cs) (y : Bool × Ty) (e : find name (dec_a (dec l) m fs cs) ≡ some y) where
+  front-entry : Entry l m s.low fs cs
+  front-entry = entry s.sound (front-found s y e).0
+
+  pub front-room : 5 ≤ length fs
+  front-room = front-entry.room
+
+  pub front-flag : get_or fs 2 0 ≤ 1
+  front-flag = front-entry.flag
+
+  module _ (k : ℕ) (q : k ≡ rd fs 3) where
+    pub front-fit : k ≤ length cs
+    front-fit = rw q front-entry.fit
+
+    pub front-body : whole l (part 0 k cs) ≡ true
+    front-body = rw q front-entry.body
+
+    pub front-is : find name (dec_a (dec l) m fs cs) ≡ some (eqb (get_or fs 2 0) 1, dec l (part 0 k cs))
+    front-is = rw q (front-found s y e).1
 
 -- Where a walk over the attributes of two forms starts.
 module _ (M : Mode) (l c : ℕ) (a b : List ℕ) (ta : Tabled l c a) (tb : Tabled l c b) {n m : ℕ} {es bs fs cs : List ℕ} (p : Split c a n es bs)
@@ -221,3 +305,6 @@ module _ (M : Mode) (l c : ℕ) (a b : List ℕ) (ta : Tabled l c a) (tb : Table
 
   pub start-walk : Walk l n es bs m fs cs
   start-walk = record { low = 0; first = first-sound; low' = 0; second = second-sound }
+
+  pub start-sizes : (length es ≡ 5 * n) × (length fs ≡ 5 * m)
+  start-sizes = (first-sound.sized, second-sound.sized)

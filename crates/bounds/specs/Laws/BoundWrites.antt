@@ -1,19 +1,25 @@
 -- The write pass over two whole forms whose bound has room, by their kinds. Assumes nothing.
 use Rattle.std.specs.Option.{option_map}
-use Rattle.std.specs.Prelude.{◌≡◌, Option as Maybe, Bool, true, false, not, ◌&&◌, ◌||◌, cond, ℕ, ◌-◌, ◌≤◌, ◌<◌, eqb, length, get_or}
+use Rattle.std.specs.Prelude.{Option as Maybe}
+use Rattle.std.proofs.lemmas.Bool.{not-true, not-false}
+use Rattle.cedar.specs.Types.{anyset}
+use Rattle.cedar.specs.Bound.{join_set}
+use Rattle.bounds.specs.Joins.{KnownLength}
+use Rattle.bounds.specs.Laws.UntypedSets.{typed-cut, untyped-is, element-known}
+use Rattle.bound_lengths.specs.Laws.Bounds.{set-join}
+use Rattle.std.specs.Prelude.{◌≡◌, Bool, true, false, not, ◌&&◌, ◌||◌, cond, ℕ, ◌-◌, ◌≤◌, ◌<◌, eqb, length, get_or}
 use Rattle.std.proofs.Math.Path.{refl, ap, sym}
 use Rattle.std.proofs.Common.{ap₂, ◌∙◌, arith, length-append}
 use mathlib.Core.List.{List, [], ◌∷◌, ◌++◌}
 use Rattle.std.proofs.Math.Decide.{ℕ_discrete}
 use Rattle.std.proofs.Math.ListN.{take}
-use Rattle.std.proofs.lemmas.Bool.{not-true, not-false}
-use Rattle.cedar.specs.Types.{Mode, strict, is_permissive, eq_names, anyset, Ty, atom, set, rec, act, ent, ext, Attrs}
+use Rattle.cedar.specs.Types.{Mode, strict, is_permissive, eq_names, Ty, atom, set, rec, act, ent, ext, Attrs}
 use Rattle.cedar.specs.Bytes.{u16, flag, enc_names}
 use Rattle.cedar.specs.Laws.Shape.{Ordered}
 use Rattle.cedar.specs.TypeForm.{count, enc, entries, bodies}
 use Rattle.cedar.specs.Result.{Result, ok, err, bind}
 use Rattle.cedar.specs.Outcome.{over}
-use Rattle.cedar.specs.Bound.{union, join_record, join_set}
+use Rattle.cedar.specs.Bound.{union, join_record}
 use Rattle.cedar.specs.Laws.DirectBound.{direct, direct_attrs, direct_names}
 use Rattle.cedar.proofs.Laws.Join.{join_attrs-join}
 use Rattle.cedar.proofs.Laws.Lost.{lost-count}
@@ -28,15 +34,14 @@ use Rattle.forms.specs.Codes.{code}
 use Rattle.bound_lengths.specs.Kinds.{unlike, joined_of}
 use Rattle.bound_lengths.specs.Pairs.{joined_attrs}
 use Rattle.forms.specs.Tables.{attrs_at}
-use Rattle.bounds.specs.Joins.{count_of, is_ok, KnownLength}
-use Rattle.bounds.specs.Laws.UntypedSets.{typed-cut, untyped-is, element-known}
+use Rattle.bounds.specs.Joins.{count_of, is_ok}
 use Rattle.bounds.specs.Laws.KeptAttributes.{ok-bind, joined-direct, strict-many}
 use Rattle.writing.specs.Laws.FormLengths.{length-entries, Cut}
 use Rattle.bound_lengths.specs.Laws.Kinds.{unlike-of}
 use Rattle.writing.specs.Laws.Laying.{ready-room, written_known}
 use Rattle.forms.specs.Laws.Tables.{attrs-count}
 use Rattle.bound_lengths.specs.Laws.Names.{names-long}
-use Rattle.bound_lengths.specs.Laws.Bounds.{count-from, attrs-from, form-is, ordered, never-left, never-right, unlike-join, set-join, record-join, action-join}
+use Rattle.bound_lengths.specs.Laws.Bounds.{count-from, attrs-from, form-is, ordered, never-left, never-right, unlike-join, record-join, action-join}
 use Rattle.bound_lengths.specs.Laws.Bounds.{action-apart, extension-join, extension-apart, entity-join, atoms-join, atom-form}
 
 first_code : (t : Ty) → kind (enc t) ≡ code t
@@ -100,7 +105,7 @@ pub record Copied (r : Result Ty) (b o : List ℕ) : Type 0 where
   pub room : length b ≤ length o
   pub written : (xs : List ℕ) (x : ℕ) → Written b o xs x → Written (form_of enc r) o xs x
 
-copied : {r : Result Ty} {o : List ℕ} → Ready enc r o → (c : Ty) (b : List ℕ) → r ≡ ok c → enc c ≡ b → Copied r b o
+pub copied : {r : Result Ty} {o : List ℕ} → Ready enc r o → (c : Ty) (b : List ℕ) → r ≡ ok c → enc c ≡ b → Copied r b o
 copied g c b e f = record { room = omega (arith, ready-room g c e, ap length f); written = λ xs x t. written_known g c e b xs x f t.bytes t.many }
 
 -- The bound is another result.

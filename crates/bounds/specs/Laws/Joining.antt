@@ -1,17 +1,17 @@
 -- The write pass over two attribute lists: the first from row to row, the second past the names below. Assumes nothing.
-use Rattle.std.specs.Prelude.{◌≡◌, Option as Maybe, Some, List, ◌∷◌, ◌++◌, Bool, true, false, ◌&&◌, ℕ, ◌+◌, ◌*◌, ◌≤◌, length}
-use Rattle.std.proofs.Common.{ap, sym, ◌∙◌, refl}
-use Rattle.cedar.specs.Types.{Mode, Ty, Attrs}
+use Rattle.std.specs.Prelude.{◌≡◌, Option as Maybe, Some, List, ◌∷◌, ◌++◌, Bool, true, false, ◌&&◌, ℕ, ◌+◌, ◌*◌, ◌≤◌, length, refl, not, eqb, get_or}
+use Rattle.std.proofs.Common.{ap, sym, ◌∙◌, arith}
+use Rattle.cedar.specs.Types.{Mode, Ty, Attrs, find}
 use Rattle.cedar.specs.TypeForm.{enc}
 use Rattle.cedar.specs.Bytes.{u16, flag}
-use Rattle.cedar.specs.Result.{Result}
+use Rattle.cedar.specs.Result.{Result, ok, err}
 use Rattle.cedar.specs.Outcome.{over}
 use Rattle.cedar.specs.Limits.{most_bytes}
 use Rattle.cedar.specs.Laws.DirectBound.{direct, direct_attrs}
-use Rattle.forms.specs.Parts.{rest, rd}
+use Rattle.forms.specs.Parts.{rest, rd, part}
 use Rattle.forms.specs.RowBytes.{TookFirst, Skipped, Sought}
 use Rattle.forms.specs.Tables.{Tabled, attrs_at}
-use Rattle.forms.specs.TypeBytes.{dec, dec_a}
+use Rattle.forms.specs.TypeBytes.{dec, dec_a, whole}
 use Rattle.forms.specs.declared.rows.Row.{Row}
 use Rattle.forms.specs.Laws.Tables.{Split}
 use Rattle.writing.specs.Written.{Written}
@@ -20,10 +20,65 @@ use Rattle.writing.specs.Laws.FormLengths.{before}
 use Rattle.writing.specs.Laws.Writing.{back}
 use Rattle.writing.specs.Laws.Laying.{Laying, laying-start, laying-same, laying-end, laying-ready, laying-entry, laying-small}
 use Rattle.writing.specs.Laws.Laying.{laying-more}
-use Rattle.bound_lengths.specs.Pairs.{joined_attrs, row_flag, joined_row}
-use Rattle.bound_lengths.specs.Laws.Pairs.{after, Joins, Walk, walk_end, walk_more, walk_step, start-walk}
-use Rattle.bounds.specs.Joins.{count_of, is_ok, is_kept, KeptWith}
+use Rattle.bound_lengths.specs.Pairs.{joined_attrs, row_flag, joined_row, Front, joined}
+use Rattle.bound_lengths.specs.Laws.Pairs.{after, Joins, Walk, walk_end, walk_more, walk_step, start-walk, front-room, front-fit, front-body, front-is}
+use Rattle.bounds.specs.Joins.{count_of, is_ok, is_kept, KeptWith, pair_form}
 use Rattle.bounds.specs.Laws.KeptAttributes.{joined-direct, after-known, kept-before, dropped-after}
+use Rattle.std.proofs.Math.Option.{Option, none, some}
+use Rattle.std.proofs.lemmas.Bool.{not-true, not-false}
+use Rattle.bounds.specs.Laws.Attached.{Both, both, pair-ready, pair-written}
+
+-- The attribute that was found is the first.
+front-other : {l m name : ℕ} {fs cs : List ℕ} (s : Front l m name fs cs) (y : Bool × Ty) → find name (dec_a (dec l) m fs cs) ≡ some y → (k : ℕ) → k ≡ rd fs 3 →
+    (eqb (get_or fs 2 0) 1, dec l (part 0 k cs)) ≡ y
+front-other s y e k q = let z = sym (front-is s y e k q) ∙ e in cc
+
+-- An attribute and the front of the second list.
+module _ {l m : ℕ} (e : List ℕ) {fs cs : List ℕ} (s : Front l m (rd e 0) fs cs) (d : Mode) (t : Ty) where
+  abbrev Met : Result (Option (Bool × Ty))
+  Met = joined d (eqb (get_or e 2 0) 1) t (find (rd e 0) (dec_a (dec l) m fs cs))
+
+  pub met-known : {o : List ℕ} → Ready pair_form Met o → is_ok Met ≡ true
+  met-known g = ap is_ok g.is
+
+  module _ (x : Bool) (told : x ≡ is_kept Met) where
+    pub met-dropped : (o : List ℕ) → not x ≡ true → Written (form_of pair_form Met) o o 0
+    met-dropped o h = go Met (sym told ∙ not-true x h)
+      where
+        go : (j : Result (Option (Bool × Ty))) → is_kept j ≡ false → Written (form_of pair_form j) o o 0
+        go (ok none) h = record { bytes = refl; many = refl }
+        go (ok (some y)) h = absurd (let z : ◌≡◌ {A = ℕ} 0 1 = cc in omega arith)
+        go (err r) h = record { bytes = refl; many = refl }
+
+    -- It is kept.
+    module _ (h : not x ≡ false) where
+      met : (y : Bool × Ty) × (Met ≡ ok (some y))
+      met = go Met (sym told ∙ not-false x h)
+        where
+          go : (j : Result (Option (Bool × Ty))) → is_kept j ≡ true → (y : Bool × Ty) × (j ≡ ok (some y))
+          go (ok none) h = absurd (let z : ◌≡◌ {A = ℕ} 0 1 = cc in omega arith)
+          go (ok (some y)) h = (y, refl)
+          go (err r) h = absurd (let z : ◌≡◌ {A = ℕ} 0 1 = cc in omega arith)
+
+      pair : Both d (eqb (get_or e 2 0) 1) t (find (rd e 0) (dec_a (dec l) m fs cs)) met.0
+      pair = both d (eqb (get_or e 2 0) 1) t (find (rd e 0) (dec_a (dec l) m fs cs)) met.0 met.1
+
+      pub met-room : 5 ≤ length fs
+      met-room = front-room s pair.other pair.found
+
+      module _ (len : ℕ) (q : len ≡ rd fs 3) where
+        pub met-body : (len ≤ length cs) × (whole l (part 0 len cs) ≡ true)
+        met-body = (front-fit s pair.other pair.found len q, front-body s pair.other pair.found len q)
+
+        is_bound : direct d t (dec l (part 0 len cs)) ≡ ok met.0.1
+        is_bound = ap (λ (y : Bool × Ty). direct d t y.1) (front-other s pair.other pair.found len q) ∙ pair.bound
+
+        pub met-ready : {o : List ℕ} → Ready pair_form Met o → Ready enc (direct d t (dec l (part 0 len cs))) o
+        met-ready g = pair-ready met.0 met.1 is_bound g
+
+        pub met-written : {o : List ℕ} (xs : List ℕ) (x : ℕ) → Written (form_of enc (direct d t (dec l (part 0 len cs)))) o xs x →
+            Written (form_of pair_form Met) o xs x
+        met-written xs x w = pair-written met.0 met.1 is_bound xs x w
 
 -- The loop of the write pass: what is left of both lists, and what is written.
 pub record Joining (d : Mode) (all : Result Attrs) (l : ℕ) (o : List ℕ) (left : ℕ) (es bs : List ℕ) (m : ℕ) (fs cs : List ℕ) (at pos : ℕ) (out : List ℕ) : Type 0

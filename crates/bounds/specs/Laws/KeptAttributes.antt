@@ -1,25 +1,29 @@
 -- Which attributes a bound keeps, and how many. Assumes nothing.
-use Rattle.std.specs.Prelude.{◌≡◌, refl, Option as Maybe, Some, None, is_some, List, Bool, true, false, ◌&&◌, ◌||◌, cond, ℕ, suc, ◌+◌, ◌≤◌, ◌<◌}
+use Rattle.std.specs.Prelude.{◌≡◌, refl, Option as Maybe, Some, None, is_some, List, Bool, true, false, ◌&&◌, ◌||◌, cond, ℕ, suc, ◌+◌, ◌≤◌, ◌<◌, ◌-◌, eqb, get_or}
 use Rattle.std.proofs.Common.{ap, sym, ◌∙◌, arith}
 use Rattle.std.proofs.Math.Option.{Option, none, some}
-use Rattle.cedar.specs.Types.{Mode, is_permissive, is_loose, eq_names, eq_flag, Atom, Ty, atom, set, rec, ent, Attrs, nil, attr, maybe, names, find}
+use Rattle.cedar.specs.Types.{Mode, is_permissive, is_loose, eq_names, eq_flag, Atom, Ty, atom, set, rec, ent, Attrs, nil, attr, maybe, names, find, as_set}
 use Rattle.cedar.specs.TypeForm.{count, enc}
 use Rattle.cedar.specs.Result.{Result, ok, err, bind}
 use Rattle.cedar.specs.Bound.{absent, join_equal, join_kept, join_one, join_record}
 use Rattle.cedar.specs.Laws.DirectBound.{direct, direct_attrs}
-use Rattle.forms.specs.Parts.{rd}
+use Rattle.forms.specs.Parts.{rd, rest, kind}
 use Rattle.forms.specs.RowBytes.{TookFirst, Skipped, Sought}
 use Rattle.forms.specs.Tables.{attrs_at}
-use Rattle.forms.specs.TypeBytes.{dec, dec_a}
+use Rattle.forms.specs.TypeBytes.{dec, dec_a, whole}
+use Rattle.forms.specs.TypeForms.{type_of}
 use Rattle.forms.specs.declared.rows.Row.{Row}
+use Rattle.forms.specs.declared.type_forms.TypeForm.{TypeForm}
 use Rattle.forms.specs.Laws.Tables.{attrs-count}
 use Rattle.writing.specs.FormLengths.{form_length_of}
-use Rattle.writing.specs.Laws.FormLengths.{before}
-use Rattle.bound_lengths.specs.Pairs.{joined_attrs, joined_to, row_flag, joined_row}
+use Rattle.writing.specs.Laws.FormLengths.{before, of-ok, not_err}
+use Rattle.bound_lengths.specs.Pairs.{joined_attrs, joined_to, row_flag, joined_row, joined}
+use Rattle.bound_lengths.specs.Sets.{PastSets}
 use Rattle.bound_lengths.specs.Laws.Pairs.{after, Joins, Walk, walk_end, walk_more, walk_step}
-use Rattle.bound_lengths.specs.Laws.Bounds.{atoms-length, sets-join, records-join, entities-join}
-use Rattle.bounds.specs.Joins.{count_of, is_ok, is_kept, KeptWith}
-use Rattle.bounds.specs.Laws.UntypedSets.{loose-known, joined-known}
+use Rattle.bound_lengths.specs.Laws.Bounds.{atoms-length, sets-join, records-join, entities-join, set-join, record-join, entity-join, atoms-join}
+use Rattle.bounds.specs.Joins.{count_of, is_ok, is_kept, Bare, KeptWith}
+use Rattle.bounds.specs.Laws.UntypedSets.{loose-known, joined-known, around-known}
+use Rattle.std.proofs.Math.Decide.{ℕ_discrete}
 
 -- There is a result.
 ok-known : {A : Type 0} (r : Result A) → is_ok r ≡ true → (a : A) × (r ≡ ok a)
@@ -67,6 +71,90 @@ module _ (m : Mode) (p : is_permissive m ≡ true) (u v : Ty) where
 
   pub entities-bound : {ns ks : List ℕ} → u ≡ ent ns → v ≡ ent ks → true ≡ is_ok (direct m u v)
   entities-bound e f = sym (ap is_ok (entities-join m u v e f) ∙ rw p refl)
+
+pub loose-strict : (m : Mode) → is_loose m ≡ true → is_loose m ≡ false → ⊥
+loose-strict m h q = let z : true ≡ false = sym h ∙ q in cc
+
+-- Two forms that are both sets are so loose: they have a bound. And unless loose, what lies below sets tells of them.
+module _ (m : Mode) (a b : TypeForm) where
+  pub bare-sets-bound : is_permissive m ≡ true → Bare m a b → {x y : Ty} → type_of a ≡ set x → type_of b ≡ set y → true ≡ is_ok (direct m (type_of a) (type_of b))
+  bare-sets-bound p h {x} {y} e f = loose-sets-bound m p (type_of a) (type_of b) e f (go (is_loose m) refl)
+    where
+      some-none : {t : Ty} → some t ≡ none → ⊥
+      some-none z = cc
+
+      go : (z : Bool) → is_loose m ≡ z → is_loose m ≡ true
+      go true q = q
+      go false q = absurd (some-none (sym (ap as_set f) ∙ h q x e))
+
+  pub past-bound : {x y : TypeForm} {n : ℕ} → is_loose m ≡ false → PastSets a b x y n → (z : Bool) → z ≡ is_ok (direct m (type_of x) (type_of y)) →
+      z ≡ is_ok (direct m (type_of a) (type_of b))
+  past-bound {x} {y} {n} h p z q = q ∙ sym (ap is_ok (p.joined m) ∙ around-known m h n (direct m (type_of x) (type_of y)))
+
+-- Two whole forms of one kind, permissive.
+module _ (m : Mode) (p : is_permissive m ≡ true) (l : ℕ) (a b : List ℕ) (ha : whole l a ≡ true) (hb : whole l b ≡ true) (k : kind a ≡ kind b) where
+  pub loose-forms-bound : kind a ≡ 7 → is_loose m ≡ true → true ≡ is_ok (direct m (dec l a) (dec l b))
+  loose-forms-bound e h = sym (ap is_ok (set-join m l a b ha hb e (sym k ∙ e)) ∙ loose-known m h (direct m (dec (l - 1) (rest 1 a)) (dec (l - 1) (rest 1 b))))
+
+  pub set-forms-bound : kind a ≡ 7 → is_loose m ≡ false → (z : Bool) → z ≡ is_ok (direct m (dec (l - 1) (rest 1 a)) (dec (l - 1) (rest 1 b))) →
+      z ≡ is_ok (direct m (dec l a) (dec l b))
+  set-forms-bound e h z q =
+      q ∙ sym (ap is_ok (set-join m l a b ha hb e (sym k ∙ e)) ∙ joined-known m h (direct m (dec (l - 1) (rest 1 a)) (dec (l - 1) (rest 1 b))))
+
+  pub others-bound : (kind a ≡ 7 → ⊥) → (kind a ≡ 11 → ⊥) → (kind a ≡ 12 → ⊥) → true ≡ is_ok (direct m (dec l a) (dec l b))
+  others-bound p7 p11 p12 = go (ℕ_discrete (kind a) 8) (ℕ_discrete (kind a) 10)
+    where
+      lists : (xs ys : Attrs) → is_ok (joined_attrs m xs ys) ≡ true
+      lists xs ys = rw p (lists-bound m p xs ys)
+
+      go : Dec (kind a ≡ 8) → Dec (kind a ≡ 10) → true ≡ is_ok (direct m (dec l a) (dec l b))
+      go (yes e) d =
+          let xs = attrs_at (l - 1) 2 a in
+          let ys = attrs_at (l - 1) 2 b in
+          let made = join_record (eqb (get_or a 1 0) 1) (eqb (get_or b 1 0) 1) xs ys in
+          sym (ap is_ok (record-join m l a b ha hb e (sym k ∙ e)) ∙ ok-bind (joined_attrs m xs ys) made ∙ lists xs ys)
+      go (no p8) (yes e) = sym (ap is_ok (entity-join m l a b ha hb e (sym k ∙ e)) ∙ rw p refl)
+      go (no p8) (no p10) = let s = atoms-join m l a b ha hb k p7 p8 p10 p11 p12 in sym (ap is_ok s.1.0)
+
+-- An attribute: strict it is kept, permissive if it is found and has a bound.
+module _ (m : Mode) (r : Bool) (t : Ty) (o : Option (Bool × Ty)) where
+  pub strict-kept : is_permissive m ≡ false → is_ok (joined m r t o) ≡ true → true ≡ is_kept (joined m r t o)
+  strict-kept p h = go o h
+    where
+      dropped : (q : Bool) (e : ℕ) → q ≡ false → is_ok {A = Option (Bool × Ty)} (cond q (ok none) (err e)) ≡ true → true ≡ is_kept (cond q (ok none) (err e))
+      dropped true e q s = absurd (let z : ◌≡◌ {A = ℕ} 0 1 = cc in omega arith)
+      dropped false e q s = absurd (let z : ◌≡◌ {A = ℕ} 0 1 = cc in omega arith)
+
+      flags : (q : Bool) (y : Bool × Ty) → is_ok (cond q (ok (some y)) (err 11)) ≡ true → true ≡ is_kept (cond q (ok (some y)) (err 11))
+      flags true y s = refl
+      flags false y s = absurd (let z : ◌≡◌ {A = ℕ} 0 1 = cc in omega arith)
+
+      one : (s : Bool) (c : Result Ty) → is_ok (joined_to m r s c) ≡ true → true ≡ is_kept (joined_to m r s c)
+      one s (ok c) h = flags (is_permissive m || eq_flag r s) _ h
+      one s (err e) h = dropped (is_permissive m) e p h
+
+      go : (o : Option (Bool × Ty)) → is_ok (joined m r t o) ≡ true → true ≡ is_kept (joined m r t o)
+      go none h = dropped (is_permissive m) 12 p h
+      go (some y) h = one y.0 (direct m t y.1) h
+
+  module _ (p : is_permissive m ≡ true) where
+    pub absent-dropped : o ≡ none → false ≡ is_kept (joined m r t o)
+    absent-dropped e = rw (e, p) refl
+
+    pub found-kept : (s : Bool) (u : Ty) → o ≡ some (s, u) → (z : Bool) → z ≡ is_ok (direct m t u) → z ≡ is_kept (joined m r t o)
+    found-kept s u e z q = q ∙ rw e (go (direct m t u))
+      where
+        go : (c : Result Ty) → is_ok c ≡ is_kept (joined_to m r s c)
+        go (ok c) = rw p refl
+        go (err d) = rw p refl
+
+-- What the length pass said.
+module _ (m : Mode) (t u : Ty) where
+  pub form-length-yes : (n : ℕ) → ok n ≡ form_length_of enc (direct m t u) → true ≡ is_ok (direct m t u)
+  form-length-yes n q = let c = of-ok enc (direct m t u) (ok n) n q refl in sym (ap is_ok c.1.0)
+
+  pub form-length-no : (d : ℕ) → err d ≡ form_length_of enc (direct m t u) → false ≡ is_ok (direct m t u)
+  form-length-no d q = sym (ap is_ok (not_err enc (direct m t u) (err d) d q refl))
 
 -- An attribute that is kept stands before the others, with the bound of its types.
 pub kept-before : (m : Mode) (l n : ℕ) (r x : Row) (cs : Result Attrs) → is_kept (joined_row m l r (Some x)) ≡ true →
@@ -146,7 +234,7 @@ module _ (m : Mode) (p : is_permissive m ≡ false) where
       let c = ok-known (joined_attrs m (attrs_at l at a) (attrs_at l at b)) s in
       e ∙ sym (attrs-count (dec l) (rd a at) _ _) ∙ strict-many (attrs_at l at a) (attrs_at l at b) c.0 c.1 ∙ sym (ap count_of c.1)
 
-one-most : (r : Bool) → cond r 1 0 ≤ 1
+pub one-most : (r : Bool) → cond r 1 0 ≤ 1
 one-most true = omega arith
 one-most false = omega arith
 

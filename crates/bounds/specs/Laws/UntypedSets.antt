@@ -1,8 +1,8 @@
 -- The bound of two sets by that of their elements: whether there is one, and when it is the untyped set. Assumes nothing.
 use Rattle.std.proofs.Math.Path.{◌≡◌, refl, ap}
-use Rattle.std.proofs.Common.{◌∙◌, arith}
+use Rattle.std.proofs.Common.{◌∙◌, arith, sym}
 use Rattle.std.specs.Option.{option_map}
-use Rattle.std.specs.Prelude.{Option as Maybe, Some, None, [], ◌∷◌, Bool, false, cond, ℕ, ◌-◌}
+use Rattle.std.specs.Prelude.{Option as Maybe, Some, None, [], ◌∷◌, Bool, false, cond, ℕ, zero, suc, ◌-◌}
 use Rattle.std.proofs.Math.Bool.{true, not}
 use Rattle.std.proofs.Math.Dec.{eqb}
 use Rattle.std.proofs.Math.ListN.{length}
@@ -14,6 +14,7 @@ use Rattle.cedar.specs.Bound.{join_set}
 use Rattle.cedar.proofs.Laws.Lengths.{enc-pos}
 use Rattle.writing.specs.FormLengths.{form_of}
 use Rattle.writing.specs.Laws.FormLengths.{Cut}
+use Rattle.bound_lengths.specs.Sets.{around}
 use Rattle.bounds.specs.Joins.{is_ok, KnownLength}
 
 -- Whether two sets have a bound: loose always, else where their elements have.
@@ -26,8 +27,15 @@ module _ (m : Mode) where
   joined-known h (ok c) = refl
   joined-known h (err e) = rw h refl
 
+  pub around-known : is_loose m ≡ false → (n : ℕ) (r : Result Ty) → is_ok (around n (join_set m) r) ≡ is_ok r
+  around-known h zero r = refl
+  around-known h (suc n) r = around-known h n (join_set m r) ∙ joined-known h r
+
 -- Two sets that have a bound: of their elements, or the untyped set.
 module _ (m : Mode) (r : Result Ty) (known : is_ok (join_set m r) ≡ true) where
+  pub strict-typed : is_loose m ≡ false → false ≡ not (is_ok r)
+  strict-typed h = ap not (sym known ∙ joined-known m h r)
+
   pub typed-cut : is_ok r ≡ true → Cut enc enc (7 ∷ []) r (join_set m r)
   unfolding enc
   typed-cut h = record { make = set; is = go r h; cut = λ c q. refl }

@@ -1,4 +1,4 @@
-use Rattle.std.proofs.Common.{◌≡◌, ◌&&◌, refl, sym, ◌∙◌, arith, lit<}
+use Rattle.std.proofs.Common.{◌≡◌, ◌&&◌, ap, refl, sym, ◌∙◌, arith, lit<}
 use Rattle.cedar.specs.Types.{strict}
 use Rattle.forms.specs.Modes.{as_mode}
 use Rattle.forms.specs.declared.kinds.Kind.TheVariants as kinds
@@ -13,7 +13,8 @@ use Rattle.bound_lengths.specs.Laws.Bounds.{record-tabled, action-tabled}
 use Rattle.bound_lengths.specs.Laws.Kinds.{eq-kind, not-kind, key, key-too, same-kind, other-kind, not-key}
 use Rattle.bound_lengths.specs.Laws.Pairs.{walk-whole, walk-other}
 use Rattle.bounds.specs.Laws.BoundWrites.{kept-few, given, second-copied, first-copied, unlike-forms, entities-union, entities-copied}
-use Rattle.bounds.specs.Laws.BoundWrites.{sets-known, sets-length, sets-untyped, sets-cut, elements-length}
+use Rattle.bounds.specs.Joins.{is_ok}
+use Rattle.bounds.specs.Laws.TypedSets.{typed-room, set-untyped, typed-whole, typed-known, typed-ready, typed-written}
 use Rattle.bounds.specs.Laws.BoundWrites.{others-copied, records-known, records-cut, actions-unlike, actions-strict, actions-cut, actions-front}
 use Rattle.bounds.specs.Laws.BoundWrites.{actions-many}
 use Rattle.bounds.specs.Laws.Joining.{joining-start, joining-end, joining-known, joining-none, joining-ready, joining-room}
@@ -361,86 +362,48 @@ write_record-returns t c =
     let rows = c.write_attributes in
     behind-written cut g.ready put.new.out 4 put.ensures refl rows.new.out rows.result rows.ensures
 
-pub write_set-overflow_sub-left : goal.write_set-overflow_sub-left
-write_set-overflow_sub-left t c = omega (arith, (is_set c.args.levels c.args.a.now c.requires.a_whole.0 c.requires.a_whole.1).deep)
-
-pub write_set-overflow_sub-right : goal.write_set-overflow_sub-right
-write_set-overflow_sub-right t c = write_set-overflow_sub-left t c
-
 pub write_set-invariant_of-left : goal.write_set-invariant_of-left
-write_set-invariant_of-left t c = record { whole = (is_set c.args.levels c.args.a.now c.requires.a_whole.0 c.requires.a_whole.1).good }
+write_set-invariant_of-left t c = record { whole = c.requires.a_whole.0 }
 
 pub write_set-invariant_of-right : goal.write_set-invariant_of-right
-write_set-invariant_of-right t c = record { whole = (is_set c.args.levels c.args.b.now c.requires.b_whole.0 c.requires.b_whole.1).good }
+write_set-invariant_of-right t c = record { whole = c.requires.b_whole.0 }
 
-pub write_set-is_untyped-requires : goal.write_set-is_untyped-requires
-write_set-is_untyped-requires t c =
-    let kind-is = c.requires.a_whole.1 in
-    let same = kind-is ∙ sym c.requires.b_whole.1 in
-    let args = c.args in
-    let g = given (as_mode args.mode) args.levels args.a.now args.b.now c.requires.a_whole.0 c.requires.b_whole.0
-    (λ i. (c.type_inv.a i).fits) (λ i. (c.type_inv.b i).fits)
-    c.requires.ready in
-    record { bounded = sets-known g same kind-is; known_length = sets-length g same kind-is args.known c.requires.known_length }
+pub write_set-past_typed-length-requires : goal.write_set-past_typed-length-requires
+write_set-past_typed-length-requires t c = record { bounded = ap is_ok c.requires.ready.is; known_length = c.requires.known_length }
 
 pub write_set-put_first-requires : goal.write_set-put_first-requires
 write_set-put_first-requires t c =
-    let same = c.requires.a_whole.1 ∙ sym c.requires.b_whole.1 in
-    let args = c.args in
-    let g = given (as_mode args.mode) args.levels args.a.now args.b.now c.requires.a_whole.0 c.requires.b_whole.0
-    (λ i. (c.type_inv.a i).fits) (λ i. (c.type_inv.b i).fits)
-    c.requires.ready in
-    (sets-untyped g same c.requires.a_whole.1 c.is_untyped.result c.is_untyped.ensures c.if-is_untyped.true).room
+    let first = is_set c.args.levels c.args.a.now c.requires.a_whole.0 c.requires.a_whole.1 in
+    let second = is_set c.args.levels c.args.b.now c.requires.b_whole.0 c.requires.b_whole.1 in
+    (set-untyped c.past_typed-length.ensures c.requires.ready c.if-sets-eq0.true first.is second.is).room
 
-pub write_set-returns-then-is_untyped : goal.write_set-returns-then-is_untyped
-write_set-returns-then-is_untyped t c =
-    let same = c.requires.a_whole.1 ∙ sym c.requires.b_whole.1 in
-    let args = c.args in
-    let g = given (as_mode args.mode) args.levels args.a.now args.b.now c.requires.a_whole.0 c.requires.b_whole.0
-    (λ i. (c.type_inv.a i).fits) (λ i. (c.type_inv.b i).fits)
-    c.requires.ready in
-    let untyped = sets-untyped g same c.requires.a_whole.1 c.is_untyped.result c.is_untyped.ensures c.if-is_untyped.true in
-    untyped.written _ 1 record { bytes = c.put_first.ensures; many = refl }
+pub write_set-returns-then-sets-eq0 : goal.write_set-returns-then-sets-eq0
+write_set-returns-then-sets-eq0 t c =
+    let first = is_set c.args.levels c.args.a.now c.requires.a_whole.0 c.requires.a_whole.1 in
+    let second = is_set c.args.levels c.args.b.now c.requires.b_whole.0 c.requires.b_whole.1 in
+    (set-untyped c.past_typed-length.ensures c.requires.ready c.if-sets-eq0.true first.is second.is).written _ 1
+    record { bytes = c.put_first.ensures; many = refl }
 
-pub write_set-put_first-requires-2 : goal.write_set-put_first-requires-2
-write_set-put_first-requires-2 t c =
-    let same = c.requires.a_whole.1 ∙ sym c.requires.b_whole.1 in
-    let args = c.args in
-    let g = given (as_mode args.mode) args.levels args.a.now args.b.now c.requires.a_whole.0 c.requires.b_whole.0
-    (λ i. (c.type_inv.a i).fits) (λ i. (c.type_inv.b i).fits)
-    c.requires.ready in
-    let cut = sets-cut g same c.requires.a_whole.1 c.is_untyped.result c.is_untyped.ensures c.if-is_untyped.false in
-    behind-front cut g.ready
-
-pub write_set-overflow_sub-levels : goal.write_set-overflow_sub-levels
-write_set-overflow_sub-levels t c = omega (arith, (is_set c.args.levels c.args.a.now c.requires.a_whole.0 c.requires.a_whole.1).deep)
+pub write_set-put_sets-requires : goal.write_set-put_sets-requires
+write_set-put_sets-requires t c = typed-room c.past_typed-length.ensures c.requires.ready
 
 pub write_set-write_bound-requires : goal.write_set-write_bound-requires
 write_set-write_bound-requires t c =
-    let same = c.requires.a_whole.1 ∙ sym c.requires.b_whole.1 in
-    let args = c.args in
-    let g = given (as_mode args.mode) args.levels args.a.now args.b.now c.requires.a_whole.0 c.requires.b_whole.0
-    (λ i. (c.type_inv.a i).fits) (λ i. (c.type_inv.b i).fits)
-    c.requires.ready in
-    let cut = sets-cut g same c.requires.a_whole.1 c.is_untyped.result c.is_untyped.ensures c.if-is_untyped.false in
-    let put = c.put_first-2 in
-    let first = is_set args.levels args.a.now c.requires.a_whole.0 c.requires.a_whole.1 in
-    let second = is_set args.levels args.b.now c.requires.b_whole.0 c.requires.b_whole.1 in
-    let known = elements-length g same c.requires.a_whole.1 c.is_untyped.result c.is_untyped.ensures c.if-is_untyped.false args.known c.requires.known_length in
-    let ready = behind-ready cut g.ready put.new.out 1 put.ensures refl in
-    (omega (arith, c.decreases, first.deep), (first.good, (second.good, (ready, rw c.element_length-element.ensures known))))
+    let past = c.past_typed-length.ensures in (
+      omega (arith, c.decreases, past.down.below, c.if-sets-eq0.false),
+      (
+        c.past_typed-length.result.0.whole,
+        (
+          typed-whole past c.requires.ready refl,
+          (typed-ready past c.requires.ready refl c.put_sets.new.out c.put_sets.ensures, typed-known past c.requires.ready refl),
+        ),
+      ),
+    )
 
 pub write_set-returns : goal.write_set-returns
 write_set-returns t c =
-    let same = c.requires.a_whole.1 ∙ sym c.requires.b_whole.1 in
-    let args = c.args in
-    let g = given (as_mode args.mode) args.levels args.a.now args.b.now c.requires.a_whole.0 c.requires.b_whole.0
-    (λ i. (c.type_inv.a i).fits) (λ i. (c.type_inv.b i).fits)
-    c.requires.ready in
-    let cut = sets-cut g same c.requires.a_whole.1 c.is_untyped.result c.is_untyped.ensures c.if-is_untyped.false in
-    let put = c.put_first-2 in
-    let element = c.write_bound in
-    behind-written cut g.ready put.new.out 1 put.ensures refl element.new.out element.result element.ensures
+    typed-written c.past_typed-length.ensures c.requires.ready refl c.put_sets.new.out c.put_sets.ensures c.write_bound.new.out c.write_bound.result
+    c.write_bound.ensures
 
 pub write_bound-of-j-requires : goal.write_bound-of-j-requires
 write_bound-of-j-requires t c = whole-kind c.args.levels c.args.a.now c.requires.a_whole
