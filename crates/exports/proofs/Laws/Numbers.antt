@@ -65,6 +65,9 @@ pub named-brief : (a : Result Answer) (n : ℕ) → Brief a → a ≡ ok (Named 
 named-brief a n h e = subst Brief e h
 
 -- The number of an answer, case by case.
+pub refused-number : (a : Result Answer) (n : ℕ) → a ≡ err n → 0 + kind_step * n ≡ answer_number a
+refused-number a n e = omega arith ∙ sym (ap answer_number e)
+
 pub required-number : (a : Result Answer) (q : Bool) (n l : ℕ) → a ≡ ok (Attribute q n l) → q ≡ true → 6 + kind_step * sizes n l ≡ answer_number a
 required-number a q n l e h = sym (ap answer_number (e ∙ ap (λ (z : Bool). ok (Attribute z n l)) h))
 
@@ -118,6 +121,9 @@ pub at-narrow : (p : Result (Maybe OwnPart)) (x : OwnPart) → Narrow p → p �
 at-narrow p x h at = subst Narrow at h
 
 -- The number of a part, case by case.
+pub part-refused-number : (p : Result (Maybe OwnPart)) (n : ℕ) → p ≡ err n → 0 + kind_step * n ≡ part_number p
+part-refused-number p n e = omega arith ∙ sym (ap part_number e)
+
 pub part-required-number : (p : Result (Maybe OwnPart)) (x : OwnPart) → p ≡ ok (Some x) → x.required ≡ true →
     8 + kind_step * (x.start + packed_step * x.end) ≡ part_number p
 part-required-number p x at h = rw (at, h) refl

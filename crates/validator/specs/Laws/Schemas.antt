@@ -18,6 +18,7 @@ use Rattle.schemas.specs.Laws.Checks.{checked-broken, checked-whole}
 use Rattle.schemas.specs.declared.checked.Checked.{Checked}
 use Rattle.schemas.specs.declared.schema.Schema.{Schema}
 use Rattle.schemas.specs.declared.sections.Sections.{Sections}
+use Rattle.schemas.specs.Entries.{Sectioned}
 
 -- The test of the limits.
 module _ (lim : Limits) (r : Bool) (q : r ≡ allowed lim) where
@@ -35,6 +36,12 @@ module _ (c : Checked) where
   pub checked-there : (x : Sections) → c.sections ≡ Some x → whole_schema (as_limits c.limits) c.bytes.now ≡ some (dec_s (as_limits c.limits) c.bytes.now)
   checked-there x h =
       sure-yes (whole-schema-twin (as_limits c.limits) c.bytes.now) (checked-whole c.limits c.bytes.now x (sym c.own_check ∙ h)).1
+
+-- A schema with its sections is whole under their limits.
+pub sectioned-there : (b : List ℕ) (x : Sections) → Sectioned b x → whole_schema (as_limits x.limits) b ≡ some (dec_s (as_limits x.limits) b)
+sectioned-there b x k =
+    sure-yes (whole-schema-twin (as_limits x.limits) b) (and_yes (leb (length b) 32768) (whole_s (as_limits x.limits) b) (le-leb (length b) 32768
+    k.few) ∙ k.yes)
 
 -- A whole schema is whole under its limits, which are allowed.
 pub schema-there : (s : Schema) → whole_schema (limits_in s) s.bytes.now ≡ some (said_by s)
