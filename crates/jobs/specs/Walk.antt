@@ -1,13 +1,14 @@
 -- A walk over the questions of a job by cursors, and the lines along it. Assumes nothing: these are definitions.
 use Rattle.std.specs.Prelude.{ℕ, zero, suc, ◌+◌, ◌*◌, ◌-◌, List, [], ◌++◌, Bool, true, false, ◌&&◌, cond, ◌≡◌, leb, ltb, length, get_or, Option, Some, None, MatchOption}
 use Rattle.cedar.specs.Outcome.{Outcome, over}
-use Rattle.cedar.specs.JobForm.{Question as Asked}
-use Rattle.cedar.specs.Lines.{outcome_of, line}
+use Rattle.cedar.specs.JobForm.{Operation, Question as Asked}
+use Rattle.cedar.specs.Lines.{outcome_of, line, ask_call}
 use Rattle.forms.specs.Parts.{rd}
 use Rattle.jobs.specs.declared.questions.Cursor.{Cursor}
 use Rattle.jobs.specs.declared.questions.Question.{Question}
 use Rattle.jobs.specs.Operations.{op}
 use Rattle.jobs.specs.JobBytes.{last_operation, entry_at, lengths_at, bodies_at, bodies_from, schema_of}
+use Rattle.cedar.specs.Limits.{standard}
 
 -- How many questions a job says it has, and where its first one stands.
 unfoldable pub count_of : List ℕ → ℕ
@@ -36,6 +37,10 @@ next_at b c = record { index = c.index + 1; body = c.body + lengths_at b (entry_
 -- How many questions the job says stand from a cursor on.
 abbrev pub ahead : List ℕ → Cursor → ℕ
 ahead b c = count_of b - c.index
+
+-- A question of a job put to its call.
+unfoldable pub asked : Operation → ℕ → ℕ → List ℕ → List ℕ → List ℕ → Outcome
+asked o m a s x y = ask_call o standard m a s x y
 
 -- What the question comes to.
 unfoldable pub outcome_at : List ℕ → Cursor → Outcome

@@ -11,9 +11,10 @@ mod text;
 mod walk;
 mod whole;
 
+pub use checks::check_job;
 pub use lines::put_bad_line;
 pub use operations::{Operation, UnknownOperation};
-pub use questions::{Cursor, count};
+pub use questions::{Cursor, count, start};
 pub use steps::Buffers;
 pub use walk::Walk;
 pub use whole::whole_job;

@@ -16,7 +16,7 @@ pub struct Walk<'a> {
     pub job: &'a [u8],
     pub schema: Checked<'a>,
     pub cursor: Cursor,
-    ghost own_check: { JobCheck job.now schema },
+    pub ghost own_check: { JobCheck job.now schema },
 }
 
 impl<'a> Walk<'a> {

@@ -6,8 +6,8 @@ use Rattle.std.proofs.Math.ListN.{length-append}
 use Rattle.std.proofs.Math.Seq.{take-append_seam}
 use Rattle.cedar.specs.Bytes.{enc_names}
 use Rattle.cedar.specs.TypeForm.{enc}
-use Rattle.cedar.specs.Lines.{decimal, hex, line}
-use Rattle.cedar.specs.Result.{Result, ok, err}
+use Rattle.cedar.specs.Lines.{decimal, hex, line, bad_line}
+use Rattle.cedar.specs.Result.{Result, ok, err, bad_job}
 use Rattle.cedar.specs.Outcome.{Outcome, refused, said, nothing, measured, typed, attribute, named, over, bytes_of, result_after}
 use Rattle.forms.specs.Parts.{rest}
 use Rattle.validator.specs.declared.answers.Answer.{Answer}
@@ -16,7 +16,7 @@ use Rattle.validator.specs.Answers.{answer_of}
 use Rattle.writing.specs.Written.{Written}
 use Rattle.jobs.specs.LineBytes.{number_in, many_in, required_word, text_in, field, line_in, LineRoom}
 use Rattle.jobs.specs.Laws.Text.{decimal-short, length-hex}
-use Rattle.writing.specs.Laws.Writing.{written_one, written-more, written-left}
+use Rattle.writing.specs.Laws.Writing.{written_one, written-more, written-left, written_same}
 
 -- A number and a space.
 module _ (n : ℕ) (o : List ℕ) (h : length (field n) ≤ length o) where
@@ -32,6 +32,15 @@ module _ (n : ℕ) (o : List ℕ) (h : length (field n) ≤ length o) where
 required-long : (r : Bool) → length (required_word r) ≡ 2
 required-long true = refl
 required-long false = refl
+
+-- A looked-up attribute.
+module _ (r : Bool) (b o : List ℕ) (h : length (required_word r ++ hex b) ≤ length o) where
+  pub attribute-room : (2 + length (hex b) ≤ length o) × (length (required_word r) ≡ 2)
+  attribute-room = (omega (arith, h, required-long r, length-append (required_word r) (hex b)), required-long r)
+
+  pub attribute-told : {xs ys : List ℕ} {at n : ℕ} → Written (required_word r) o xs at → Written (hex b) (rest at xs) ys n →
+      Written (required_word r ++ hex b) o (take at xs ++ (ys ++ drop (length xs - at) (drop at xs))) (at + n)
+  attribute-told t u = written-more t u (omega (arith, attribute-room))
 
 field-short : (k n : ℕ) → n < 10 ^ suc k → length (field n) ≤ suc (suc k)
 unfolding field
@@ -135,3 +144,21 @@ many_is (measured n l) = refl
 many_is (typed t) = refl
 many_is (attribute r t) = refl
 many_is (named ns) = refl
+
+-- The line of a bad job: a dash and a space, the number, a dash and a newline.
+module _ {o v : List ℕ} {m : ℕ} (t : Written (45 ∷ 32 ∷ []) o v m) (h : 7 ≤ length o) (k : ℕ) (e : k ≡ bad_job) where
+  pub bad-number : field k ≡ 49 ∷ 54 ∷ 32 ∷ []
+  unfolding field
+  bad-number = rw e refl
+
+  module _ {w : List ℕ} {n : ℕ} (u : Written (field k) (rest m v) w n) where
+    pub bad-head : Written (45 ∷ 32 ∷ 49 ∷ 54 ∷ 32 ∷ []) o (take m v ++ (w ++ drop (length v - m) (drop m v))) (m + n)
+    bad-head = written-more t (written_same bad-number u) (omega arith)
+
+    pub bad-told : {x : List ℕ} {r : ℕ} → Written (45 ∷ 10 ∷ []) (rest (m + n) (take m v ++ (w ++ drop (length v - m) (drop m v)))) x r →
+        Written bad_line o
+        (take (m + n) (take m v ++ (w ++ drop (length v - m) (drop m v)))
+        ++ (x ++ drop (length (take m v ++ (w ++ drop (length v - m) (drop m v))) - (m + n))
+        (drop (m + n) (take m v ++ (w ++ drop (length v - m) (drop m v))))))
+        (m + n + r)
+    bad-told f = written-more bad-head f (omega arith)

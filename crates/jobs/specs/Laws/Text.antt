@@ -8,6 +8,14 @@ use Rattle.cedar.specs.Outcome.{over}
 use Rattle.forms.specs.Parts.{rest}
 use Rattle.writing.specs.Written.{Written}
 use Rattle.writing.specs.Laws.Writing.{written_one, written-more}
+use Rattle.forms.specs.Laws.Parts.{rest-is}
+
+-- A digit of base 16.
+pub digit_low : (d : ℕ) → d < 10 → 48 + d ≡ digit d
+digit_low d h = rw (lt-ltb d 10 h) refl
+
+pub digit-high : (d : ℕ) → 10 ≤ d → 87 + d ≡ digit d
+digit-high d h = rw (le-ltb d 10 h) refl
 
 -- More than n digits are never asked for.
 decimal-fuel : (f g n : ℕ) → n < f → n < g → decimal_from f n ≡ decimal_from g n
@@ -34,10 +42,16 @@ decimal-short (suc k) n h = go (dec_le 10 n) (decimal-short k (n / 10) (omega (a
     go (yes p) f = omega (arith, ap length (decimal-high n p), length-append (decimal (n / 10)) (digit (n % 10) ∷ []))
     go (no p) f = omega (arith, ap length (decimal-low n (omega arith)))
 
--- A writer of a number of two digits or more: the digits before the last, then the last.
+-- A writer of a number: of one digit, or of the digits before the last and the last.
 module _ (n : ℕ) (o : List ℕ) (h : length (decimal n) ≤ length o) where
+  pub low-room : n < 10 → 1 ≤ length o
+  low-room p = omega (arith, ap length (decimal-low n p))
+
   pub high-room : 10 ≤ n → length (decimal (n / 10)) + 1 ≤ length o
   high-room p = omega (arith, ap length (decimal-high n p), length-append (decimal (n / 10)) (digit (n % 10) ∷ []))
+
+  pub low_told : n < 10 → {xs : List ℕ} (d : ℕ) → d ≡ digit n → xs ≡ over (d ∷ []) o → Written (decimal n) o xs 1
+  low_told p d e t = rw (decimal-low n p, ← e) (written_one d t)
 
   pub high-told : 10 ≤ n → {xs ys : List ℕ} {at : ℕ} (d : ℕ) → Written (decimal (n / 10)) o xs at → d ≡ digit (n % 10) → ys ≡ over (d ∷ []) (rest at xs) →
       Written (decimal n) o (take at xs ++ (ys ++ drop (length xs - at) (drop at xs))) (at + 1)
@@ -51,3 +65,17 @@ length-hex (x ∷ b) = omega (arith, length-hex b)
 -- The digits of the bytes from i on begin with those of byte i.
 pub hex-from : (b : List ℕ) (i x : ℕ) → i < length b → x ≡ get_or b i 0 → hex (drop i b) ≡ hex (x ∷ []) ++ hex (drop (i + 1) b)
 hex-from b i x h e = rw (add-one i, drop-cons b i 0, e) refl
+
+-- The digits of one byte, of the first, and of none.
+pub byte-told : (x : ℕ) {o xs ys : List ℕ} (c d : ℕ) → 2 ≤ length o → c ≡ digit (x / 16) → xs ≡ over (c ∷ []) o → d ≡ digit (x % 16) →
+    ys ≡ over (d ∷ []) (rest 1 xs) →
+    Written (hex (x ∷ [])) o (take 1 xs ++ (ys ++ drop (length xs - 1) (drop 1 xs))) 2
+byte-told x c d h e t f u = rw (← e, ← f) (written-more (written_one c t) (written_one d u) h)
+
+pub hex-first : (b : List ℕ) → 0 < length b → hex b ≡ hex (get_or b 0 0 ∷ []) ++ hex (rest 1 b)
+hex-first [] p = absurd (omega arith)
+hex-first (x ∷ b) p = rw (rest-is 1 (x ∷ b)) refl
+
+pub hex-none : (b : List ℕ) → length b ≤ 0 → hex b ≡ []
+hex-none [] h = refl
+hex-none (x ∷ b) h = absurd (omega arith)

@@ -28,6 +28,10 @@ module _ (b : List ℕ) where
   unfolding count_of
   count-is h = rw (le-leb 4 (length b) h) refl
 
+  pub start-short : length b < 4 → record { index = 0; body = 0 } ≡ start_of b
+  unfolding start_of
+  start-short h = rw (lt-leb 4 (length b) h) refl
+
   pub start_is : 4 ≤ length b → (n : ℕ) → n ≡ bodies_from b → record { index = 0; body = n } ≡ start_of b
   unfolding start_of
   start_is h n e = rw (le-leb 4 (length b) h, e) refl
@@ -106,6 +110,11 @@ module _ (b : List ℕ) (c : Cursor) where
         body = omega arith;
         entry = stands-entry p q;
       }
+
+-- The lengths of an entry.
+pub lengths-are : (b : List ℕ) (e : ℕ) {m n : ℕ} → m ≡ rd b (e + 4) → n ≡ rd b (e + 6) → m + n ≡ lengths_at b e
+unfolding lengths_at
+lengths-are b e p q = omega arith
 
 module _ (b : List ℕ) (c : Cursor) where
   pub first-inside : rd b (entry_of c + 4) ≤ lengths_at b (entry_of c)

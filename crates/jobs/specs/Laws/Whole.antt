@@ -99,6 +99,12 @@ module _ (b : List ℕ) where
   whole-not : false ≡ job_fits b → false ≡ present (whole_job b)
   whole-not h = h ∙ sym (sure-present whole_to)
 
+  pub whole_long : block_bytes < length b → false ≡ present (whole_job b)
+  whole_long h = whole-not (and-not-l (leb (length b) block_bytes) _ (lt-leb (length b) block_bytes h))
+
+  pub whole-short : length b < 4 → false ≡ present (whole_job b)
+  whole-short h = whole-not (and-not-r (leb (length b) block_bytes) _ (sym (and-not-l (leb 4 (length b)) _ (lt-leb 4 (length b) h))))
+
   module _ (n : ℕ) (e : n ≡ bodies_from b) where
     pub whole-over : length b < n → false ≡ present (whole_job b)
     whole-over h =
