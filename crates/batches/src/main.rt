@@ -2,5 +2,5 @@
 #![tactic(auto)]
 
 fn main(rt: HostRuntime) {
-    let _ = printing::print_batch(&rt);
+    printing::print_batch(&rt);
 }

@@ -3,7 +3,7 @@ use forms::limits::Limits;
 use forms::refusals::Refusal;
 use std::fmt::Write;
 use streams::{Output, Stopped};
-use trial::{Buffers, Shown};
+use trial::{Buffers, Byte, Shown};
 use validator::answers::Answer;
 
 // Prints how long a kept block is, and its limits.
@@ -34,6 +34,6 @@ pub(crate) fn print_part(
     told: u8,
     part: &[u8],
 ) -> Result<(), Stopped> {
-    writeln!(Output(rt), "{call} {told:02x}{}", Buffers(&[part]))?;
+    writeln!(Output(rt), "{call} {}{}", Byte(told), Buffers(&[part]))?;
     Ok(())
 }

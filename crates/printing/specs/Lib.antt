@@ -1,1 +1,2 @@
 pub mod Heads
+pub mod Buffers

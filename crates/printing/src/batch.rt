@@ -57,8 +57,8 @@ fn print_read(rt: &HostRuntime, buf: &mut [u8]) -> Result<(), Stopped> {
     write_output(rt, b".\n")
 }
 
-// Prints the lines of every job of the batch, in turn. The turns are more than any run takes.
-pub fn print_batch(rt: &HostRuntime) -> Result<(), Stopped> {
+// Prints the lines of every job of the batch, in turn, and says whether it came to the end. The turns are more than any run takes.
+pub fn print_jobs(rt: &HostRuntime) -> Result<(), Stopped> {
     let mut buffer = [0u8; JOB];
     for _ in 0..u64::MAX {
         let Some(n) = read_head(rt)? else {
@@ -67,4 +67,9 @@ pub fn print_batch(rt: &HostRuntime) -> Result<(), Stopped> {
         print_read(rt, &mut buffer[..n])?;
     }
     Ok(())
+}
+
+// Prints the lines of every job of the batch, as far as they come.
+pub fn print_batch(rt: &HostRuntime) {
+    let _ = print_jobs(rt);
 }

@@ -4,5 +4,5 @@
 mod batch;
 mod job;
 
-pub use batch::print_batch;
+pub use batch::{print_batch, print_jobs};
 pub use job::print_job;

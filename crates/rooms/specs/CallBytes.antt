@@ -1,5 +1,5 @@
--- A call in bytes. Assumes nothing: these are definitions.
-use Rattle.std.specs.Prelude.{ℕ, ◌+◌, ◌*◌, List, get_or}
+-- A call in bytes. Assumes nothing: a definition, and a law of it.
+use Rattle.std.specs.Prelude.{ℕ, ◌+◌, ◌*◌, List, get_or, ◌≡◌, refl}
 use Rattle.forms.specs.Parts.{rd}
 use Rattle.rooms.specs.declared.calls.Call.{Call}
 
@@ -21,3 +21,20 @@ call_of b =
       second = rd b 12;
       limits = record { levels = wide_of 14 b; bytes = wide_of 18 b };
     }
+
+-- Its fields, read one by one.
+pub call-is : (b : List ℕ) {a r w s f g l n : ℕ} → a ≡ rd b 2 → r ≡ rd b 4 → w ≡ rd b 6 → s ≡ rd b 8 → f ≡ rd b 10 → g ≡ rd b 12 → l ≡ wide_of 14 b →
+    n ≡ wide_of 18 b → ◌≡◌ {A = Call} (
+    record {
+      operation = get_or b 0 0;
+      mode = get_or b 1 0;
+      attribute = a;
+      room = r;
+      workspace = w;
+      schema = s;
+      first = f;
+      second = g;
+      limits = record { levels = l; bytes = n };
+    }
+    ) (call_of b)
+call-is b p q u v x y i j = rw (p, q, u, v, x, y, i, j) refl

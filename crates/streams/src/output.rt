@@ -33,12 +33,13 @@ pub fn write_output(rt: &HostRuntime, buf: &[u8]) -> Result<(), Stopped>
     Err(Stopped)
 }
 
-// Standard output as what text is written to.
+// Standard output as what text is written to. Each piece that fails says so on standard error, and what follows is written all the same.
 #[derive(Clone, Copy)]
 pub struct Output<'a>(pub &'a HostRuntime);
 
 impl fmt::Write for Output<'_> {
     fn write_str(&mut self, s: &str) -> fmt::Result {
-        write_output(self.0, s.as_bytes()).map_err(|_| fmt::Error)
+        let _ = write_output(self.0, s.as_bytes());
+        Ok(())
     }
 }

@@ -5,4 +5,4 @@ mod given;
 mod shown;
 
 pub use given::{Form, result, workspace};
-pub use shown::{Buffers, Shown};
+pub use shown::{Buffers, Byte, Shown};

@@ -1,6 +1,8 @@
 // How answers and buffers are shown.
+ghost use Rattle.std.specs.Prelude.{◌<◌};
+
 use forms::refusals::Refusal;
-use std::fmt;
+use std::{fmt, str};
 use validator::answers::Answer;
 
 // An answer: refusal or 0; yes, no, none, or the answer's length, or -. A type's length stands with its levels, as in 10/2; behind r: or
@@ -44,8 +46,26 @@ struct Hex<'a>(&'a [u8]);
 impl fmt::Display for Hex<'_> {
     fn fmt<W: fmt::Write>(&self, f: &mut fmt::Formatter<W>) -> fmt::Result {
         for byte in self.0 {
-            write!(f, "{byte:02x}")?;
+            write!(f, "{}", Byte(*byte))?;
         }
         Ok(())
     }
+}
+
+// A byte in hexadecimal, its two digits in one piece.
+#[derive(Clone, Copy)]
+pub struct Byte(pub u8);
+
+impl fmt::Display for Byte {
+    fn fmt<W: fmt::Write>(&self, f: &mut fmt::Formatter<W>) -> fmt::Result {
+        let digits = [digit(self.0 / 16), digit(self.0 % 16)];
+        f.write_str(str::from_utf8(&digits).unwrap_or(""))
+    }
+}
+
+// A digit in hexadecimal.
+fn digit(n: u8) -> u8
+    requires { n < 16 }
+{
+    b"0123456789abcdef"[n as usize]
 }
