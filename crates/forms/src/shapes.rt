@@ -61,13 +61,14 @@ impl<'a> TypeForm<'a> {
         ensures { ElementOf self.entry result }
     {
         let b = self.bytes;
-        match Kind::of(b) {
-            Kind::Set => Some(TypeForm {
-                bytes: &b[Offset::ELEMENT..],
-                levels: self.levels - 1,
-            }),
-            _ => None,
+        if b[0] != Kind::Set as u8 {
+            return None;
         }
+        let levels = self.levels - 1;
+        Some(TypeForm {
+            bytes: &b[Offset::ELEMENT..],
+            levels,
+        })
     }
 
     // What it is made of.

@@ -1,10 +1,10 @@
 // Whether a type and a core type, a plain one, may have a value in common.
 ghost use Rattle.std.specs.Prelude.{◌≡◌, ◌≤◌, length};
 ghost use Rattle.cedar.specs.Consistency.{covered_names, consistent_entity, consistent, consistent_attrs};
-ghost use Rattle.cedar.specs.Types.{rec};
+ghost use Rattle.cedar.specs.Types.{rec, Ty};
 ghost use Rattle.forms.specs.Kinds.{kind_number};
 ghost use Rattle.forms.specs.Names.{names_in, Ascending};
-ghost use Rattle.forms.specs.TypeForms.{type_of, listed};
+ghost use Rattle.forms.specs.TypeForms.{type_of, listed, IsPlain};
 ghost use Rattle.relations.specs.Meets.{kind_meets};
 
 use crate::is_plain::kind_is_plain;
@@ -24,6 +24,18 @@ fn kind_consistent(j: Kind, k: Kind) -> bool
         Kind::AnySet => j == Kind::Set,
         _ => false,
     }
+}
+
+// Whether a type is consistent with the core type without parts that has a kind.
+#[inline]
+fn partless_consistent(t: TypeForm, kind: Kind) -> bool
+    ensures { (core : Ty) → IsPlain core kind → result ≡ consistent (type_of t.entry) core }
+{
+    let own = t.kind();
+    if own == kind {
+        return kind_is_plain(kind);
+    }
+    kind_consistent(own, kind)
 }
 
 // Whether a type is consistent with an entity of a core type, by its name: one that has it, any entity, or an action of the name.
@@ -99,21 +111,27 @@ fn record_consistent(t: TypeForm, core_open: bool, core: AttributeForms) -> bool
     }
 }
 
-// Whether t0 is consistent with t1, a core type.
+// Whether t0 is consistent with t1, a core type. For a type without parts, as most attributes have, the loop over them calls nothing.
 #[cycle(attributes_consistent_is_consistent_with)]
 #[inline]
 pub fn is_consistent_with(t0: TypeForm, t1: TypeForm) -> bool
     ensures { result ≡ consistent (type_of t0.entry) (type_of t1.entry) }
 {
+    match t1.shape() {
+        Shape::Plain(kind) => partless_consistent(t0, kind),
+        _ => parts_consistent(t0, t1),
+    }
+}
+
+// The same, by the parts of the types.
+#[cycle(attributes_consistent_is_consistent_with)]
+#[inline(never)]
+fn parts_consistent(t0: TypeForm, t1: TypeForm) -> bool
+    ensures { result ≡ consistent (type_of t0.entry) (type_of t1.entry) }
+{
     let (t, core) = past_sets(t0, t1);
     match core.shape() {
-        Shape::Plain(k) => {
-            let j = t.kind();
-            if j == k {
-                return kind_is_plain(k);
-            }
-            kind_consistent(j, k)
-        }
+        Shape::Plain(kind) => partless_consistent(t, kind),
         Shape::Set(_) => false,
         Shape::Record(is_open, attributes) => record_consistent(t, is_open, attributes),
         Shape::Entity(names) => entity_consistent(t, names),

@@ -133,6 +133,7 @@ pub fn is_subtype(mode: Mode, t0: TypeForm, t1: TypeForm) -> bool
 
 // The same, by the parts of the types.
 #[cycle(attributes_subtype_is_subtype)]
+#[inline(never)]
 fn parts_subtype(mode: Mode, t0: TypeForm, t1: TypeForm) -> bool
     ensures { result ≡ sub (as_mode mode) (type_of t0.entry) (type_of t1.entry) }
 {

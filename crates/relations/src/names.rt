@@ -14,21 +14,23 @@ pub fn names_share(first: &[u8], second: &[u8]) -> bool
     requires second_up { Ascending second.now }
     ensures { result ≡ shares (names_in first.now) (names_in second.now) }
 {
+    if second.is_empty() {
+        return false;
+    }
     let mut shared = false;
     let mut a = first;
     let mut b = second;
     'search: while !a.is_empty() {
         let x = u16_at(a, 0);
-        while !b.is_empty() {
-            let y = u16_at(b, 0);
-            if x == y {
-                shared = true;
+        while u16_at(b, 0) < x {
+            b = &b[Width::NAME..];
+            if b.is_empty() {
                 break 'search;
             }
-            if x < y {
-                break;
-            }
-            b = &b[Width::NAME..];
+        }
+        if u16_at(b, 0) == x {
+            shared = true;
+            break 'search;
         }
         a = &a[Width::NAME..];
     }

@@ -1,9 +1,7 @@
 use Rattle.std.proofs.Common.{refl, sym, ap, ◌∙◌}
 use Rattle.cedar.specs.Consistency.{consistent}
 use Rattle.forms.specs.TypeForms.{type_of}
-use Rattle.forms.specs.Laws.Kinds.{kinds-agree, kinds-differ}
 use Rattle.relations.specs.Laws.Consistent.{set-not, with-entity, with-action, with-extension, record-not, attributes-not, with-record}
-use Rattle.relations.specs.Laws.Consistent.{with-alike, with-unlike}
 use Rattle.relations.specs.Laws.Meeting.{meeting-end, meeting-not, meeting-again, alone-not, alone-optional, alone-open}
 use Rattle.relations.specs.Laws.Names.{entity-named}
 use Rattle.relations.specs.Laws.Shapes.{no-record}
@@ -42,18 +40,14 @@ attributes_consistent-loop-attribute-preserved t c =
 pub attributes_consistent-returns : goal.attributes_consistent-returns
 attributes_consistent-returns t c = meeting-end c.loop-attribute.invariant.1 c.in_default.ensures
 
-pub is_consistent_with-returns-then-eq : goal.is_consistent_with-returns-then-eq
-is_consistent_with-returns-then-eq t c =
-    c.kind_is_plain.ensures
-    ∙ with-alike _ _ _ c.kind-j.ensures c.in-Plain.ensures (kinds-agree c.kind-j.result c.in-Plain.k c.eq.result c.eq.ensures c.if-eq.true) ∙ c.past_sets.ensures.meets
+pub is_consistent_with-returns-in-Plain : goal.is_consistent_with-returns-in-Plain
+is_consistent_with-returns-in-Plain t c = c.partless_consistent.ensures (type_of c.args.t1) c.in-Plain.ensures
 
-pub is_consistent_with-entity_consistent-requires : goal.is_consistent_with-entity_consistent-requires
-is_consistent_with-entity_consistent-requires t c = entity-named c.past_sets.result.1 c.in-Entity.names.now c.in-Entity.ensures.0
+pub parts_consistent-returns-in-Plain : goal.parts_consistent-returns-in-Plain
+parts_consistent-returns-in-Plain t c = c.partless_consistent.ensures (type_of c.past_sets.result.1) c.in-Plain.ensures ∙ c.past_sets.ensures.meets
 
-pub is_consistent_with-returns-else-eq : goal.is_consistent_with-returns-else-eq
-is_consistent_with-returns-else-eq t c =
-    c.kind_consistent.ensures
-    ∙ with-unlike _ _ _ c.kind-j.ensures c.in-Plain.ensures (kinds-differ c.kind-j.result c.in-Plain.k c.eq.result c.eq.ensures c.if-eq.false) ∙ c.past_sets.ensures.meets
+pub parts_consistent-entity_consistent-requires : goal.parts_consistent-entity_consistent-requires
+parts_consistent-entity_consistent-requires t c = entity-named c.past_sets.result.1 c.in-Entity.names.now c.in-Entity.ensures.0
 
 pub record_consistent-returns-then-attributes_consistent : goal.record_consistent-returns-then-attributes_consistent
 record_consistent-returns-then-attributes_consistent t c =
@@ -67,18 +61,18 @@ record_consistent-returns-else-attributes_consistent t c =
 pub record_consistent-returns-in_default : goal.record_consistent-returns-in_default
 record_consistent-returns-in_default t c = record-not _ _ (no-record c.args.t c.shape.result c.shape.ensures c.in_default.not-Record) refl
 
-pub is_consistent_with-returns-in-Set : goal.is_consistent_with-returns-in-Set
-is_consistent_with-returns-in-Set t c = set-not _ _ (c.past_sets.ensures.apart c.in-Set.ensures.0) c.in-Set.ensures.0 ∙ c.past_sets.ensures.meets
+pub parts_consistent-returns-in-Set : goal.parts_consistent-returns-in-Set
+parts_consistent-returns-in-Set t c = set-not _ _ (c.past_sets.ensures.apart c.in-Set.ensures.0) c.in-Set.ensures.0 ∙ c.past_sets.ensures.meets
 
-pub is_consistent_with-returns-in-Record : goal.is_consistent_with-returns-in-Record
-is_consistent_with-returns-in-Record t c =
+pub parts_consistent-returns-in-Record : goal.parts_consistent-returns-in-Record
+parts_consistent-returns-in-Record t c =
     c.record_consistent.ensures ∙ ap (consistent (type_of c.past_sets.result.0)) (sym c.in-Record.ensures.0) ∙ c.past_sets.ensures.meets
 
-pub is_consistent_with-returns-in-Entity : goal.is_consistent_with-returns-in-Entity
-is_consistent_with-returns-in-Entity t c = c.entity_consistent.ensures ∙ with-entity _ _ c.in-Entity.ensures.0 ∙ c.past_sets.ensures.meets
+pub parts_consistent-returns-in-Entity : goal.parts_consistent-returns-in-Entity
+parts_consistent-returns-in-Entity t c = c.entity_consistent.ensures ∙ with-entity _ _ c.in-Entity.ensures.0 ∙ c.past_sets.ensures.meets
 
-pub is_consistent_with-returns-in-Action : goal.is_consistent_with-returns-in-Action
-is_consistent_with-returns-in-Action t c = with-action _ _ c.in-Action.ensures.0 ∙ c.past_sets.ensures.meets
+pub parts_consistent-returns-in-Action : goal.parts_consistent-returns-in-Action
+parts_consistent-returns-in-Action t c = with-action _ _ c.in-Action.ensures.0 ∙ c.past_sets.ensures.meets
 
-pub is_consistent_with-returns-in-Extension : goal.is_consistent_with-returns-in-Extension
-is_consistent_with-returns-in-Extension t c = c.same.ensures ∙ with-extension _ _ c.in-Extension.ensures.0 ∙ c.past_sets.ensures.meets
+pub parts_consistent-returns-in-Extension : goal.parts_consistent-returns-in-Extension
+parts_consistent-returns-in-Extension t c = c.same.ensures ∙ with-extension _ _ c.in-Extension.ensures.0 ∙ c.past_sets.ensures.meets

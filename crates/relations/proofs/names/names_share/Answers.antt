@@ -1,44 +1,58 @@
-use Rattle.std.proofs.Common.{refl, sym, ◌∙◌, arith, eqb-true}
+use Rattle.std.proofs.Common.{sym, ◌∙◌, arith, eqb-true, refl}
 use Rattle.std.proofs.lemmas.Bool.{eqb-false}
-use Rattle.relations.specs.Laws.Names.{walk_start, walk-second, shares-skip, share-end, share-hit, share-none, share-past, first-name}
+use Rattle.relations.specs.Laws.Names.{walk_start, walk-second, shares-skip, share-end, share-over, share-hit, share-past, first-name}
 use Rattle.relations.proofs.names.names_share.Goals as goal
-use Rattle.relations.proofs.names.names_share.Goals.{else-loop-y-test, then-loop-y-test+else-x-y+then-x-y-2}
+
+pub returns-then-is_empty : goal.returns-then-is_empty
+returns-then-is_empty c = share-over (walk_start c.requires.first_up c.requires.second_up) (eqb-true _ 0 (sym c.is_empty.ensures ∙ c.if-is_empty.true))
 
 pub search-init : goal.search-init
-search-init c = (walk_start c.requires.first_up c.requires.second_up, refl)
+search-init c = (walk_start c.requires.first_up c.requires.second_up, (refl, eqb-false _ 0 (sym c.is_empty.ensures ∙ c.if-is_empty.false)))
 
 pub u16_at-x-requires : goal.u16_at-x-requires
 u16_at-x-requires c = omega (arith, (first-name c.search.invariant.0.first (eqb-false _ 0 (sym c.search-test.ensures))).some)
 
-pub loop-y-init : goal.loop-y-init
-loop-y-init c = c.search.invariant
+pub loop-b-init : goal.loop-b-init
+loop-b-init c = c.search.invariant
 
-pub u16_at-y-requires : goal.u16_at-y-requires
-u16_at-y-requires c = omega (arith, (first-name c.loop-y.invariant.0.second (eqb-false _ 0 (sym c.loop-y-test.ensures))).some)
+pub u16_at-requires : goal.u16_at-requires
+u16_at-requires c = omega (arith, (first-name c.loop-b.invariant.0.second c.loop-b.invariant.1.1).some)
 
-pub loop-y-preserved : goal.loop-y-preserved
-loop-y-preserved c = (
-  walk-second c.loop-y.invariant.0 (eqb-false _ 0 (sym c.search-test.ensures)) (eqb-false _ 0 (sym c.loop-y-test.ensures)) shares-skip
-      (omega (arith, c.if-x-y.false, c.if-x-y-2.false, c.u16_at-x.ensures.0, c.u16_at-y.ensures.0)),
-  c.loop-y.invariant.1,
+pub slice_bounds-b-start : goal.slice_bounds-b-start
+slice_bounds-b-start c = omega (arith, (first-name c.loop-b.invariant.0.second c.loop-b.invariant.1.1).some)
+
+pub slice_bounds-b-count : goal.slice_bounds-b-count
+slice_bounds-b-count c = omega (arith, (first-name c.loop-b.invariant.0.second c.loop-b.invariant.1.1).some)
+
+pub loop-b-preserved : goal.loop-b-preserved
+loop-b-preserved c = (
+  walk-second c.loop-b.invariant.0 (eqb-false _ 0 (sym c.search-test.ensures)) c.loop-b.invariant.1.1 shares-skip
+      (omega (arith, c.loop-b-test.true, c.u16_at-x.ensures.0, c.u16_at.ensures.0)),
+  (c.loop-b.invariant.1.0, eqb-false _ 0 (sym c.is_empty-in-loop-b.ensures ∙ c.if-is_empty-2.false)),
 )
 
+pub returns-then-is_empty-2 : goal.returns-then-is_empty-2
+returns-then-is_empty-2 c =
+    let i = c.loop-b.invariant in
+    i.1.0 ∙
+    share-over (walk-second i.0 (eqb-false _ 0 (sym c.search-test.ensures)) i.1.1 shares-skip
+    (omega (arith, c.loop-b-test.true, c.u16_at-x.ensures.0, c.u16_at.ensures.0)))
+    (eqb-true _ 0 (sym c.is_empty-in-loop-b.ensures ∙ c.if-is_empty-2.true))
+
+pub u16_at-requires-in-search : goal.u16_at-requires-in-search
+u16_at-requires-in-search c = omega (arith, (first-name c.loop-b.invariant.0.second c.loop-b.invariant.1.1).some)
+
 pub search-preserved : goal.search-preserved
-search-preserved c =
-    let i = c.loop-y.invariant in
-    let p = eqb-false _ 0 (sym c.search-test.ensures) in (
-      elim c.loop-y-test.branch [
-        | else-loop-y-test w ↦ share-none i.0 p (eqb-true _ 0 (sym w.loop-y-test.ensures))
-        | then-loop-y-test+else-x-y+then-x-y-2 w ↦
-            share-past i.0 p (eqb-false _ 0 (sym w.loop-y-test.ensures)) (omega (arith, w.if-x-y-2.true, c.u16_at-x.ensures.0, w.u16_at-y.ensures.0))
-      ],
-      i.1,
-    )
+search-preserved c = (
+  share-past c.loop-b.invariant.0 (eqb-false _ 0 (sym c.search-test.ensures)) c.loop-b.invariant.1.1
+      (omega (arith, c.loop-b-test.false, c.if-u16_at-x.false, c.u16_at-x.ensures.0, c.u16_at.ensures.0, c.u16_at-in-search.ensures.0)),
+  c.loop-b.invariant.1,
+)
 
 pub returns-after-search : goal.returns-after-search
-returns-after-search c = c.search.invariant.1 ∙ share-end c.search.invariant.0 (eqb-true _ 0 (sym c.search-test.ensures))
+returns-after-search c = c.search.invariant.1.0 ∙ share-end c.search.invariant.0 (eqb-true _ 0 (sym c.search-test.ensures))
 
-pub returns-then-x-y : goal.returns-then-x-y
-returns-then-x-y c =
-    share-hit c.loop-y.invariant.0 (eqb-false _ 0 (sym c.search-test.ensures)) (eqb-false _ 0 (sym c.loop-y-test.ensures))
-    (sym c.u16_at-x.ensures.0 ∙ c.if-x-y.true ∙ c.u16_at-y.ensures.0)
+pub returns-then-u16_at-x : goal.returns-then-u16_at-x
+returns-then-u16_at-x c =
+    share-hit c.loop-b.invariant.0 (eqb-false _ 0 (sym c.search-test.ensures)) c.loop-b.invariant.1.1
+    (sym c.u16_at-x.ensures.0 ∙ sym c.if-u16_at-x.true ∙ c.u16_at-in-search.ensures.0)
