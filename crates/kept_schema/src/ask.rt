@@ -24,22 +24,22 @@ pub(crate) struct Kept<'a>(pub(crate) Checked<'a>);
 impl Kept<'_> {
     fn ask_subtype(self, rt: &HostRuntime, mode: u8) -> Result<(), Stopped> {
         let below = is_subtype_checked(&self.0, mode, &Form::ENTITY_2, &Form::BOTH);
-        print_line(rt, "is_subtype", below, &[])
+        print_line(rt, "is_subtype ", below, &[])
     }
 
     fn ask_may_have(self, rt: &HostRuntime, t: &[u8]) -> Result<(), Stopped> {
         let may = may_have_attr_checked(&self.0, 1, t);
-        print_line(rt, "may_have_attr", may, &[])
+        print_line(rt, "may_have_attr ", may, &[])
     }
 
     fn ask_conforms(self, rt: &HostRuntime, t: &[u8], v: &[u8]) -> Result<(), Stopped> {
         let conforms = typecheck_restricted_expr_checked(&self.0, t, v);
-        print_line(rt, "typecheck_restricted_expr", conforms, &[])
+        print_line(rt, "typecheck_restricted_expr ", conforms, &[])
     }
 
     fn ask_full(self, rt: &HostRuntime, t: &[u8], v: &[u8]) -> Result<(), Stopped> {
         let conforms = typecheck_restricted_expr_exact_checked(&self.0, t, v);
-        print_line(rt, "typecheck_restricted_expr_exact", conforms, &[])
+        print_line(rt, "typecheck_restricted_expr_exact ", conforms, &[])
     }
 
     // Both conformances of a uid, and of a call with an argument too many.
@@ -53,7 +53,7 @@ impl Kept<'_> {
     fn ask_bound(self, rt: &HostRuntime, mode: u8, t0: &[u8], t1: &[u8]) -> Result<(), Stopped> {
         let mut out = result();
         let answer = least_upper_bound_checked(&self.0, mode, t0, t1, &mut out);
-        print_line(rt, "least_upper_bound", answer, &[&out])
+        print_line(rt, "least_upper_bound ", answer, &[&out])
     }
 
     fn ask_fold(self, rt: &HostRuntime, mode: u8) -> Result<(), Stopped> {
@@ -66,33 +66,33 @@ impl Kept<'_> {
             &mut out,
             &mut work,
         );
-        print_line(rt, "reduce_to_least_upper_bound", answer, &[&out, &work])
+        print_line(rt, "reduce_to_least_upper_bound ", answer, &[&out, &work])
     }
 
     fn ask_lookup(self, rt: &HostRuntime) -> Result<(), Stopped> {
         let mut out = result();
         let mut work = workspace();
         let answer = lookup_attribute_type_checked(&self.0, 1, &Form::BOTH, &mut out, &mut work);
-        print_line(rt, "lookup_attribute_type", answer, &[&out, &work])
+        print_line(rt, "lookup_attribute_type ", answer, &[&out, &work])
     }
 
     fn ask_own(self, rt: &HostRuntime) -> Result<(), Stopped> {
         let mut told = 0u8;
         let part = own_attribute_type_checked(&self.0, 1, &Form::RECORD, &mut told);
-        print_part(rt, "own_attribute_type", told, part)
+        print_part(rt, "own_attribute_type ", told, part)
     }
 
     fn ask_names(self, rt: &HostRuntime) -> Result<(), Stopped> {
         let mut out = result();
         let mut work = workspace();
         let answer = all_attributes_checked(&self.0, &Form::BOTH, &mut out, &mut work);
-        print_line(rt, "all_attributes", answer, &[&out, &work])
+        print_line(rt, "all_attributes ", answer, &[&out, &work])
     }
 
     fn ask_literal(self, rt: &HostRuntime) -> Result<(), Stopped> {
         let mut out = result();
         let answer = euid_literal_checked(&self.0, &Form::UID_3, &mut out);
-        print_line(rt, "euid_literal", answer, &[&out])
+        print_line(rt, "euid_literal ", answer, &[&out])
     }
 
     // Each call once; the bound is the same both ways round, so its second question has a second type that is not whole.

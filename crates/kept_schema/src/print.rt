@@ -16,24 +16,24 @@ pub(crate) fn print_kept(rt: &HostRuntime, length: usize, limits: Limits) -> Res
     Ok(())
 }
 
-// Prints the call, its answer, and between brackets the bytes of each buffer that it was lent.
+// Prints the call with the space behind it, its answer, and between brackets the bytes of each buffer that it was lent.
 pub(crate) fn print_line(
     rt: &HostRuntime,
     call: &str,
     answer: Result<Answer, Refusal>,
     lent: &[&[u8]],
 ) -> Result<(), Stopped> {
-    writeln!(Output(rt), "{call} {}{}", Shown(answer), Buffers(lent))?;
+    writeln!(Output(rt), "{call}{}{}", Shown(answer), Buffers(lent))?;
     Ok(())
 }
 
-// Prints the line of the call that hands back a part: the byte that tells which, and the part.
+// Prints the line of the call that hands back a part: the call with its space, the byte that tells which, and the part.
 pub(crate) fn print_part(
     rt: &HostRuntime,
     call: &str,
     told: u8,
     part: &[u8],
 ) -> Result<(), Stopped> {
-    writeln!(Output(rt), "{call} {}{}", Byte(told), Buffers(&[part]))?;
+    writeln!(Output(rt), "{call}{}{}", Byte(told), Buffers(&[part]))?;
     Ok(())
 }
