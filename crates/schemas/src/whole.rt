@@ -50,6 +50,7 @@ fn sections_within(s: &[u8], limits: Limits) -> Option<Sections>
 }
 
 // The sections of a schema that is whole within limits that are allowed.
+#[inline(never)]
 pub fn check_schema(limits: Limits, s: &[u8]) -> Option<Sections>
     ensures { result ≡ checked limits s.now }
 {

@@ -32,6 +32,7 @@ fn whole_uid(v: &[u8], limits: Limits) -> bool
 }
 
 // The answer for a whole schema.
+#[inline(always)]
 fn literal_under(schema: &Schema<'_>, v: &[u8], out: &mut [u8]) -> Result<Answer, Refusal>
     requires { Bytes schema.now.bytes.now }
     ensures { Answered (literal_call (limits_in schema.now) schema.now.bytes.now v.now (length out.old)) out.old out.new (seen result) }
@@ -53,6 +54,7 @@ fn literal_under(schema: &Schema<'_>, v: &[u8], out: &mut [u8]) -> Result<Answer
 }
 
 // The answer under a schema that was checked before, and the limits of its check.
+#[inline(always)]
 pub fn euid_literal_checked(
     schema: &Checked<'_>,
     v: &[u8],

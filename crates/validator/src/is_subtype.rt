@@ -13,6 +13,7 @@ use forms::type_forms::TypeForm;
 use schemas::checked::Checked;
 
 // The answer under a schema that was checked before, and the limits of its check.
+#[inline(always)]
 pub fn is_subtype_checked(
     schema: &Checked<'_>,
     mode: u8,

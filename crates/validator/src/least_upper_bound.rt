@@ -17,6 +17,7 @@ use levels::depths::type_levels;
 use schemas::checked::Checked;
 
 // The answer under a schema that was checked before, and the limits of its check.
+#[inline(always)]
 pub fn least_upper_bound_checked(
     schema: &Checked<'_>,
     mode: u8,

@@ -14,6 +14,7 @@ use schemas::checked::Checked;
 use schemas::schema::Schema;
 
 // The answer for a whole schema.
+#[inline(always)]
 fn may_have_under(schema: &Schema<'_>, attr: u16, t: &[u8]) -> Result<Answer, Refusal>
     ensures { seen result ≡ answer_of (may_have_call (limits_in schema.now) schema.now.bytes.now attr t.now) }
 {
@@ -24,6 +25,7 @@ fn may_have_under(schema: &Schema<'_>, attr: u16, t: &[u8]) -> Result<Answer, Re
 }
 
 // The answer under a schema that was checked before, and the limits of its check.
+#[inline(always)]
 pub fn may_have_attr_checked(schema: &Checked<'_>, attr: u16, t: &[u8]) -> Result<Answer, Refusal>
     ensures { seen result ≡ answer_of (may_have_call (as_limits schema.now.limits) schema.now.bytes.now attr t.now) }
 {

@@ -52,6 +52,7 @@ fn own_part_under(schema: &Schema<'_>, attr: u16, t: &[u8]) -> Result<Option<Own
 }
 
 // The place under a schema that was checked before, and the limits of its check.
+#[inline(always)]
 pub fn own_attribute_part_checked(
     schema: &Checked<'_>,
     attr: u16,
