@@ -2,7 +2,7 @@
 use Rattle.std.specs.Prelude.{ℕ, ◌+◌, ◌≤◌, List, ◌∷◌, ◌++◌, Bool, true, false, ◌≡◌, refl, length, drop, Option as Maybe, Some, option_map}
 use Rattle.std.specs.Borrow.{Bor}
 use Rattle.std.proofs.Common.{arith, ap, sym, subst, ◌∙◌, length-append}
-use Rattle.std.proofs.Math.Option.{none}
+use Rattle.std.proofs.Math.Option.{none, some}
 use Rattle.cedar.specs.Types.{rec, is_action}
 use Rattle.cedar.specs.Bytes.{Bytes, u16}
 use Rattle.cedar.specs.Levels.{depth}
@@ -27,18 +27,34 @@ use Rattle.attributes.specs.declared.euid_literal.Literal.TheVariants.{Action, E
 use Rattle.attributes.specs.Literal.{literal_type, literal_form, literal_length, literal_levels, Laid, Standing, BytesIn, LiteralAt}
 use Rattle.forms.specs.TypeBytes.{dec}
 
+-- What is said of the type of the uid k, i wherever an action's body stands: LiteralAt but for its place.
+pub record LiteralOf (s : Schema) (k i : ℕ) (x : Literal) : Type 0 where
+  pub is : literal (said_by s) k i ≡ some (literal_type (limits_in s) k x)
+  pub stands : Standing (limits_in s) x
+  pub laid : Laid x
+  pub bytes : Bytes s.bytes.now → BytesIn x
+
+pub literal-of : {s : Schema} {k i : ℕ} {x : Literal} → LiteralAt s k i x → LiteralOf s k i x
+literal-of h = record { is = h.is; stands = h.stands; laid = h.laid; bytes = h.bytes }
+
 -- By the finders' answers.
 module _ (s : Schema) (k i : ℕ) (y : Bool) (q : y ≡ is_action k) where
-  pub literal-action : (o : Maybe Row) → option_map row_bytes o ≡ entry_at 6 (Uid k i) s.sections.actions s.bytes.now → (r : Row) → o ≡ Some r → y ≡ true →
-      ActionAt (limits_in s) s.bytes.now k i r.body.now → LiteralAt s k i (Action r.body)
-  literal-action o p r e h a =
+  pub literal-action : (c : Bor (List ℕ)) → y ≡ true → ActionAt (limits_in s) s.bytes.now k i c.now → LiteralOf s k i (Action c)
+  literal-action c h a =
       let most = (allowed-bytes (limits_in s) s.sectioned.fair).1 in
+      record { is = rw (← q, h, a.is) refl; stands = a.body; laid = (omega (arith, a.body.view.some), omega (arith, a.body.few, most)); bytes = a.bytes }
+
+  -- The same of the body of the schema's first entry.
+  pub literal-action-there : (o : Maybe Row) → option_map row_bytes o ≡ entry_at 6 (Uid k i) s.sections.actions s.bytes.now → (r : Row) → o ≡ Some r →
+      y ≡ true → ActionAt (limits_in s) s.bytes.now k i r.body.now → LiteralAt s k i (Action r.body)
+  literal-action-there o p r e h a =
+      let x = literal-action r.body h a in
       record {
         there = ap (option_map (λ (x : List ℕ × List ℕ). x.1)) (sym p ∙ ap (option_map row_bytes) e);
-        is = rw (← q, h, a.is) refl;
-        stands = a.body;
-        laid = (omega (arith, a.body.view.some), omega (arith, a.body.few, most));
-        bytes = a.bytes;
+        is = x.is;
+        stands = x.stands;
+        laid = x.laid;
+        bytes = x.bytes;
       }
 
   pub literal-no-action : y ≡ true → action_of (said_by s) k i ≡ none → literal (said_by s) k i ≡ none

@@ -23,7 +23,7 @@ use Rattle.forms.specs.Names.{names_in}
 use Rattle.schemas.specs.Schema.{said_by, limits_in}
 use Rattle.forms.specs.Laws.NamesIn.{names-of-entity, names-over, names-front}
 use Rattle.schemas.specs.declared.schema.Schema.{Schema}
-use Rattle.attributes.specs.EntityAttribute.{HasRows}
+use Rattle.attributes.specs.Laws.EntityAttribute.{RowsOf}
 use Rattle.writing.specs.Written.{Written}
 use Rattle.writing.specs.Laws.Writing.{back, length_over, over-at, Writing, writing-at, writing_start, writing-end, writing_more}
 use Rattle.lookups.specs.declared.lookup_attribute_type.TooLong.{TooLong}
@@ -154,7 +154,7 @@ module _ (s : Schema) (fits : Ty → Bool) (ns o : List ℕ) where
     pub no-entry : entity_of (said_by s) k ≡ none → NamedBy (entity_names fits (said_by s) (names_in ns)) o o (Ok 0)
     no-entry h = ([], (ap (entity_names fits (said_by s)) types_are ∙ rw h refl, record { bytes = refl; many = refl }))
 
-    module _ (x : Rows 5) (v : HasRows s k x) where
+    module _ (x : Rows 5) (v : RowsOf s k x) where
       -- There is room for their names.
       pub entry-entered : (limits_in s).bytes ≤ length o → length o ≤ most_bytes → Entered x o
       entry-entered r l = record { laid = v.laid; room = omega (arith, r, v.few); size = l }

@@ -1,6 +1,6 @@
 use Rattle.std.proofs.Common.{arith}
 use Rattle.schemas.specs.Laws.Finders.{entity-at, entity-not}
-use Rattle.attributes.specs.Laws.EntityAttribute.{body-there, entity-lacks, entity-has}
+use Rattle.attributes.specs.Laws.EntityAttribute.{body-there, entity-lacks, entity-has-there}
 use Rattle.attributes.proofs.entity_attribute.entity_attribute.Goals as goal
 
 pub returns-in_default : goal.returns-in_default
@@ -20,7 +20,7 @@ pub returns-in-Some-own_attribute : goal.returns-in-Some-own_attribute
 returns-in-Some-own_attribute c =
     let entry = entity-at c.args.schema.now.sectioned c.args.entity c.find_entity.result c.find_entity.ensures c.in-Some.row c.in-Some.is in
     let body = body-there c.args.schema.now c.args.entity c.find_entity.result c.find_entity.ensures c.in-Some.row c.in-Some.is in
-    entity-has c.args.schema.now entry c.args.name c.own_attribute.result c.own_attribute.ensures.placed body c.in-Some-own_attribute.attribute c.in-Some-own_attribute.is
+    entity-has-there c.args.schema.now entry c.args.name c.own_attribute.result c.own_attribute.ensures.placed body c.in-Some-own_attribute.attribute c.in-Some-own_attribute.is
 
 pub returns-in-None : goal.returns-in-None
 returns-in-None c =

@@ -1,5 +1,5 @@
 use Rattle.schemas.specs.Laws.Finders.{entity-at, entity-not, action-at, action-not}
-use Rattle.attributes.specs.Laws.Literal.{literal-action, literal-no-action, literal-entity, literal-no-entity}
+use Rattle.attributes.specs.Laws.Literal.{literal-action-there, literal-no-action, literal-entity, literal-no-entity}
 use Rattle.attributes.proofs.euid_literal.find_literal.Goals as goal
 
 pub returns-in_err-action : goal.returns-in_err-action
@@ -13,7 +13,7 @@ pub returns-then-is_action : goal.returns-then-is_action
 returns-then-is_action c =
     let s = c.args.schema.now in
     let has = action-at s.sectioned c.args.entity c.args.id c.find_action.result c.find_action.ensures c.in_ok-action.action c.in_ok-action.was in
-    literal-action s c.args.entity c.args.id c.is_action.result c.is_action.ensures c.find_action.result c.find_action.ensures
+    literal-action-there s c.args.entity c.args.id c.is_action.result c.is_action.ensures c.find_action.result c.find_action.ensures
     c.in_ok-action.action c.in_ok-action.was c.if-is_action.true has
 
 pub returns-in_err-find_entity : goal.returns-in_err-find_entity

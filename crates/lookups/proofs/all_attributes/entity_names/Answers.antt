@@ -2,6 +2,7 @@ use Rattle.std.proofs.Common.{List, ℕ, length, subst}
 use Rattle.cedar.specs.Calls.{step_fits}
 use Rattle.cedar.specs.Result.{Result}
 use Rattle.schemas.specs.Schema.{limits_in}
+use Rattle.attributes.specs.Laws.EntityAttribute.{rows-of}
 use Rattle.lookups.specs.Names.{NamedBy}
 use Rattle.lookups.specs.Laws.Lookup.{types-cut}
 use Rattle.lookups.specs.Laws.Names.{no-types, no-entry, rows-keep}
@@ -21,5 +22,5 @@ returns c =
     let cut = c.in-Some.ensures.cases in
     let keep = rows-keep c.args.schema.now (step_fits (limits_in c.args.schema.now) (length c.args.work.now)) c.args.types.now c.args.kept.now
     c.in-Some.first.now _ (types-cut _ _ _ cut.1 cut.2) cut.3 c.u16_at.result c.u16_at.ensures.0
-    c.in-Some-entity_attributes.attributes c.in-Some-entity_attributes.ensures in
+    c.in-Some-entity_attributes.attributes (rows-of c.in-Some-entity_attributes.ensures) in
     subst (λ (o : Result (List ℕ)). NamedBy o c.args.kept.now c.kept_names.new.kept c.kept_names.result) keep c.kept_names.ensures
